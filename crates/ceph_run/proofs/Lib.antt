@@ -1,0 +1,5 @@
+pub mod CommandLine
+pub mod Entries
+pub mod Journals
+pub mod Serving
+pub mod Writing

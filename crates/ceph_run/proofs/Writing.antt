@@ -1,0 +1,41 @@
+-- The status of what was written.
+use Rattle.std.proofs.Common.{◌≡◌, refl, ℕ, ◌<◌, ◌⊎◌, inl, inr, List, Option, Result, Ok, Err, OnOk, OnErr, IsErrOf, arith}
+use Rattle.std.specs.Io.KnownBytes.{Appends}
+use Rattle.cs_ids.specs.Devices.{Rose}
+use Rattle.cs_io.specs.Whole.{AppendsFront}
+use Rattle.cs_io.proofs.Known.{took_none}
+use Rattle.ceph_run.specs.declared.write_fault.WriteFault.{WriteFault}
+use Rattle.ceph_run.specs.declared.write_fault.WriteFault.TheVariants as writing
+use Rattle.ceph_run.specs.Served.{Writes}
+use Rattle.ceph_run.specs.Statuses.{write_status}
+
+pub writes : (whole : ℕ) (r : Result (Unit {0}) WriteFault) (bytes : List ℕ) (a b : Option (List ℕ)) (m n : ℕ) → whole < 4
+    → OnOk r (Appends a b bytes) → OnErr r (AppendsFront a b bytes) → (IsErrOf r writing.Sink → Rose m n)
+    → Writes whole (write_status whole r) bytes a b m n
+writes whole (Ok x) bytes a b m n small ok err cause = record {
+  whole = λ e. ok;
+  cut = λ s. absurd (omega arith);
+  sink = λ e. absurd (omega arith);
+  known = inl refl;
+}
+writes whole (Err writing.Sink) bytes a b m n small ok err cause = record {
+  whole = λ e. absurd (omega arith);
+  cut = λ s. err;
+  sink = λ e. cause refl;
+  known = inr (inl refl);
+}
+writes whole (Err writing.Memory) bytes a b m n small ok err cause = record {
+  whole = λ e. absurd (omega arith);
+  cut = λ s. err;
+  sink = λ e. absurd (omega arith);
+  known = inr (inr refl);
+}
+
+-- nothing was written for want of memory
+pub unwritten : (whole : ℕ) (bytes : List ℕ) (a : Option (List ℕ)) (m : ℕ) → whole < 4 → Writes whole 8 bytes a a m m
+unwritten whole bytes a m small = record {
+  whole = λ e. absurd (omega arith);
+  cut = λ s. (bytes, took_none a bytes);
+  sink = λ e. absurd (omega arith);
+  known = inr (inr refl);
+}

@@ -1,0 +1,50 @@
+-- What an input is, and what a run of it writes.
+use Rattle.std.specs.Prelude.{◌≡◌, ◌≢◌, ◌≤◌, ℕ, List, length, Option, Result, Ok, Err, IfSome, nat_lt, if◌then◌else◌}
+use Rattle.std.specs.Io.KnownBytes.{IsAtEnd}
+use Rattle.cs_laws.specs.declared.events.Event.{Event}
+use Rattle.cs_laws.specs.declared.faults.ScriptFault.{ScriptFault}
+use Rattle.cs_laws.specs.Grammar.{script_of}
+use Rattle.cs_laws.specs.Journal.{journal, text}
+use Rattle.cs_theorems.specs.Lawful.{IsLawful}
+use Rattle.ceph_run.specs.declared.input.Input.{Input}
+use Rattle.ceph_run.specs.declared.input.Input.TheVariants.{Refused, Runs}
+use Rattle.ceph_run.specs.declared.input.Refusal.TheVariants as refusals
+use Rattle.ceph_run.specs.Refusals.{refusal_line, refusal_status}
+
+-- an input that isn't too long: it is in the grammar, and then it has so many events
+abbrev pub judged_script : Result (List Event) ScriptFault → Input
+judged_script (Err f) = Refused (refusals.Faulty f)
+judged_script (Ok es) = if nat_lt 10000 (length es) then Refused refusals.TooMany else Runs es
+
+-- what an input is
+abbrev pub judged : List ℕ → Input
+judged b = if nat_lt 1048576 (length b) then Refused refusals.TooLong else judged_script (script_of b)
+
+-- the status of its run, unless a fault ends that
+abbrev pub status_of : Input → ℕ
+status_of (Runs es) = 0
+status_of (Refused r) = refusal_status r
+
+-- what its run writes, unless a fault ends that
+abbrev pub told : ℕ → Input → List ℕ
+told pages (Runs es) = text (journal pages es)
+told pages (Refused r) = refusal_line r
+
+-- the laws hold of the journal that it writes
+abbrev pub IsLawfulRun : ℕ → Input → Type 0
+IsLawfulRun pages (Runs es) = IsLawful (journal pages es)
+IsLawfulRun pages (Refused r) = Unit {0}
+
+-- a script that is run has at most 10,000 events
+abbrev pub IsWithinLimit : Input → Type 0
+IsWithinLimit (Runs es) = length es ≤ 10000
+IsWithinLimit (Refused r) = Unit {0}
+
+-- an input that isn't too long was judged
+abbrev pub JudgesScript : List ℕ → Input → Type 0
+JudgesScript b input = input ≡ judged_script (script_of b)
+
+-- the input was judged, and was read to its end unless it is too long
+pub record JudgesWhole (old new : Option (List ℕ)) (input : Input) : Type 0 where
+  pub read : input ≢ Refused refusals.TooLong → IsAtEnd new
+  pub is : IfSome old (λ b. input ≡ judged b)

@@ -1,0 +1,5 @@
+pub mod Inputs
+pub mod Lines
+pub mod Refusals
+pub mod Served
+pub mod Statuses

@@ -1,0 +1,18 @@
+-- Why an input isn't run.
+use Rattle.std.specs.Prelude.{ℕ, List, ◌++◌, codes, decimal}
+use Rattle.cs_laws.specs.Texts.{kind_text}
+use Rattle.ceph_run.specs.declared.input.Refusal.{Refusal}
+use Rattle.ceph_run.specs.declared.input.Refusal.TheVariants as refusals
+
+abbrev pub refusal_status : Refusal → ℕ
+refusal_status (refusals.Faulty f) = 2
+refusal_status refusals.TooLong = 3
+refusal_status refusals.TooMany = 3
+
+abbrev pub refusal_text : Refusal → List ℕ
+refusal_text (refusals.Faulty f) = codes "ceph-fault script " ++ (decimal f.line ++ (codes " " ++ kind_text f.kind))
+refusal_text refusals.TooLong = codes "ceph-fault limit bytes"
+refusal_text refusals.TooMany = codes "ceph-fault limit events"
+
+abbrev pub refusal_line : Refusal → List ℕ
+refusal_line r = refusal_text r ++ codes "\n"

@@ -1,0 +1,86 @@
+// Does the events of a script and writes the journal as they are done.
+ghost use Rattle.std.specs.Prelude.{◌≡◌, ◌<◌, ◌≤◌, [], true, length, OnOk, OnErr, IsErrOf, IfOk, string_bytes};
+ghost use Rattle.std.specs.Io.KnownBytes.{Appends};
+ghost use Rattle.cs_ids.specs.Devices.{Rose};
+ghost use Rattle.cs_io.specs.Whole.{AppendsFront};
+ghost use Rattle.cs_laws.specs.Journal.{journal, text, end_line};
+ghost use Rattle.ceph_run.specs.Lines.{newest_line};
+
+use crate::write_fault::WriteFault;
+use cs_ids::Bytes;
+use cs_io::{Sink, write_all};
+use cs_laws::Event;
+use cs_script::print_entry;
+use cs_world::World;
+use std::alloc::{AllocError, Global};
+
+/// Does the events in order. Writes the header first, the line of each entry after its event, and the
+/// end line last. `Memory` also stands for that of a step.
+pub fn write_journal<K: Sink, O, L>(
+    alloc: Global,
+    world: &mut World<O, L>,
+    events: &[Event],
+    sink: &mut K,
+) -> Result<(), WriteFault>
+    requires live { world.old.live ≡ true }
+    requires fresh { world.old.history ≡ [] }
+    requires few { length events.now ≤ 10000 }
+    ensures ok { OnOk result (Appends (K.taken sink.old) (K.taken sink.new) (text (journal world.old.pages events.now))) }
+    ensures err { OnErr result (AppendsFront (K.taken sink.old) (K.taken sink.new) (text (journal world.old.pages events.now))) }
+    ensures later { K.faults sink.old ≤ K.faults sink.new }
+    ensures cause { IsErrOf result WriteFault.Sink → Rose (K.faults sink.old) (K.faults sink.new) }
+    ensures store { world.new.store ≡ world.old.store }
+    ensures log { world.new.log ≡ world.old.log }
+{
+    write_all(sink, b"ceph-journal 1\n")?;
+    let mut line = Bytes::new(alloc);
+    for event in events {
+        let Ok(_) = world.step(event) else {
+            return Err(WriteFault::Memory);
+        };
+        write_newest(world, &mut line, sink)?;
+    }
+    let count = world.entries().len();
+    write_end(alloc, count, sink)
+}
+
+// Writes the line of the newest entry.
+fn write_newest<K: Sink, O, L>(
+    world: &World<O, L>,
+    line: &mut Bytes,
+    sink: &mut K,
+) -> Result<(), WriteFault>
+    requires { length world.now.history ≤ 10000 }
+    ensures ok { OnOk result (Appends (K.taken sink.old) (K.taken sink.new) (newest_line world.now.history)) }
+    ensures err { OnErr result (AppendsFront (K.taken sink.old) (K.taken sink.new) (newest_line world.now.history)) }
+    ensures later { K.faults sink.old ≤ K.faults sink.new }
+    ensures cause { IsErrOf result WriteFault.Sink → Rose (K.faults sink.old) (K.faults sink.new) }
+{
+    let entries = world.entries();
+    let Some(newest) = entries.last() else {
+        return Ok(());
+    };
+    line.clear();
+    print_entry(entries.len() as u32, newest, line)?;
+    write_all(sink, line.as_slice())?;
+    Ok(())
+}
+
+fn end_text(alloc: Global, count: usize) -> Result<String, AllocError>
+    ensures { IfOk result (λ s. string_bytes s ≡ end_line count) }
+{
+    format!(in alloc; "end {count}\n")
+}
+
+fn write_end<K: Sink>(alloc: Global, count: usize, sink: &mut K) -> Result<(), WriteFault>
+    ensures ok { OnOk result (Appends (K.taken sink.old) (K.taken sink.new) (end_line count)) }
+    ensures err { OnErr result (AppendsFront (K.taken sink.old) (K.taken sink.new) (end_line count)) }
+    ensures later { K.faults sink.old ≤ K.faults sink.new }
+    ensures cause { IsErrOf result WriteFault.Sink → Rose (K.faults sink.old) (K.faults sink.new) }
+{
+    let Ok(text) = end_text(alloc, count) else {
+        return Err(WriteFault::Memory);
+    };
+    write_all(sink, text.as_bytes())?;
+    Ok(())
+}

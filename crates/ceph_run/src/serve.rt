@@ -1,0 +1,145 @@
+// Runs the script of a source.
+ghost use Rattle.std.specs.Prelude.{◌≡◌, ◌≤◌, length, OnOk, OnErr, IsErrOf, IfOk, string_bytes};
+ghost use Rattle.std.specs.Io.KnownBytes.{Appends};
+ghost use Rattle.cs_ids.specs.Devices.{Rose};
+ghost use Rattle.cs_io.specs.Whole.{AppendsFront};
+ghost use Rattle.cs_laws.specs.Journal.{journal, text};
+ghost use Rattle.ceph_run.specs.Inputs.{told, status_of, IsWithinLimit};
+ghost use Rattle.ceph_run.specs.Refusals.{refusal_line, refusal_status};
+ghost use Rattle.ceph_run.specs.Served.{Served, Writes};
+ghost use Rattle.ceph_run.specs.Statuses.{read_status};
+
+use crate::finished::Finished;
+use crate::input::{Input, Refusal, read_input};
+use crate::journal::write_journal;
+use crate::write_fault::{WriteFault, write_status};
+use cs_io::{ReadFault, Sink, Source, write_all};
+use cs_laws::Event;
+use cs_world::{MakeFault, World};
+use std::alloc::{AllocError, Global};
+
+/// Reads the whole input, parses it, does the events in order and writes the journal as they are
+/// done. An input that is no script or exceeds a limit is refused by a line of its own. 1 to 1,024
+/// pages may be cached. The store and the log are handed back as they came.
+pub fn serve_run<S: Source, K: Sink, O, L>(
+    alloc: Global,
+    pages: u32,
+    source: &mut S,
+    sink: &mut K,
+    store: O,
+    log: L,
+) -> Finished<O, L>
+    requires { (1 ≤ pages) × (pages ≤ 1024) }
+    ensures served { Served pages result.status
+        (record { left = S.left source.old; source_faults = S.faults source.old; taken = K.taken sink.old; sink_faults = K.faults sink.old })
+        (record { left = S.left source.new; source_faults = S.faults source.new; taken = K.taken sink.new; sink_faults = K.faults sink.new }) }
+    ensures store { result.store ≡ store }
+    ensures log { result.log ≡ log }
+{
+    match read_input(alloc, source) {
+        Err(fault) => Finished {
+            status: read_status(fault),
+            store,
+            log,
+        },
+        Ok(input) => serve_input(alloc, pages, &input, sink, store, log),
+    }
+}
+
+fn read_status(fault: ReadFault) -> u8
+    ensures { result ≡ read_status fault }
+{
+    match fault {
+        ReadFault::Failed => 4,
+        ReadFault::Memory => 8,
+    }
+}
+
+// Runs the script that an input is, or refuses the input.
+fn serve_input<K: Sink, O, L>(
+    alloc: Global,
+    pages: u32,
+    input: &Input,
+    sink: &mut K,
+    store: O,
+    log: L,
+) -> Finished<O, L>
+    requires pages { (1 ≤ pages) × (pages ≤ 1024) }
+    requires few { IsWithinLimit input.now }
+    ensures writes { Writes (status_of input.now) result.status (told pages input.now)
+        (K.taken sink.old) (K.taken sink.new) (K.faults sink.old) (K.faults sink.new) }
+    ensures store { result.store ≡ store }
+    ensures log { result.log ≡ log }
+{
+    match input {
+        Input::Runs(script) => run_events(alloc, pages, script.events(), sink, store, log),
+        Input::Refused(refusal) => Finished {
+            status: refuse(alloc, refusal, sink),
+            store,
+            log,
+        },
+    }
+}
+
+// Writes the line of a refusal.
+#[tactic(auto, using(crate::proofs::Writing::writes))]
+fn refuse<K: Sink>(alloc: Global, refusal: &Refusal, sink: &mut K) -> u8
+    ensures { Writes (refusal_status refusal.now) result (refusal_line refusal.now)
+        (K.taken sink.old) (K.taken sink.new) (K.faults sink.old) (K.faults sink.new) }
+{
+    let written = write_refusal(alloc, refusal, sink);
+    write_status(refusal.status(), &written)
+}
+
+fn write_refusal<K: Sink>(alloc: Global, refusal: &Refusal, sink: &mut K) -> Result<(), WriteFault>
+    ensures ok { OnOk result (Appends (K.taken sink.old) (K.taken sink.new) (refusal_line refusal.now)) }
+    ensures err { OnErr result (AppendsFront (K.taken sink.old) (K.taken sink.new) (refusal_line refusal.now)) }
+    ensures cause { IsErrOf result WriteFault.Sink → Rose (K.faults sink.old) (K.faults sink.new) }
+{
+    let Ok(text) = refusal_text(alloc, refusal) else {
+        return Err(WriteFault::Memory);
+    };
+    write_all(sink, text.as_bytes())?;
+    Ok(())
+}
+
+fn refusal_text(alloc: Global, refusal: &Refusal) -> Result<String, AllocError>
+    ensures { IfOk result (λ s. string_bytes s ≡ refusal_line refusal.now) }
+{
+    format!(in alloc; "{refusal}\n")
+}
+
+// Does the events in a world of their own.
+#[tactic(auto, using(crate::proofs::Writing::writes))]
+fn run_events<K: Sink, O, L>(
+    alloc: Global,
+    pages: u32,
+    events: &[Event],
+    sink: &mut K,
+    store: O,
+    log: L,
+) -> Finished<O, L>
+    requires pages { (1 ≤ pages) × (pages ≤ 1024) }
+    requires few { length events.now ≤ 10000 }
+    ensures writes { Writes 0 result.status (text (journal pages events.now))
+        (K.taken sink.old) (K.taken sink.new) (K.faults sink.old) (K.faults sink.new) }
+    ensures store { result.store ≡ store }
+    ensures log { result.log ≡ log }
+{
+    match World::make(alloc, pages, store, log) {
+        Err(MakeFault { store, log }) => Finished {
+            status: 8,
+            store,
+            log,
+        },
+        Ok(mut world) => {
+            let written = write_journal(alloc, &mut world, events, sink);
+            let (store, log) = world.finish();
+            Finished {
+                status: write_status(0, &written),
+                store,
+                log,
+            }
+        }
+    }
+}

@@ -1,0 +1,96 @@
+use crate::finished::Finished;
+use crate::serve::serve_run;
+use cs_ids::Memory;
+use cs_io::{FaultySink, FaultySource, MemSink, MemSource, Sink, Source};
+use std::alloc::Global;
+use std::test::Fail;
+
+const HOLD_THEN_ACK: &[u8] =
+    b"ceph-script 1\nfile 100 1\ngrant 100 Frw 4096\ntoclient\nbegin 1 100 Fw 8\nrevoke 100 Fw\ntoclient\ncheck 100\nend 1 1\ncheck 100\n";
+
+const HELD: &[u8] =
+    b"ceph-journal 1\n1 file 100 1 -> made\n2 grant 100 Frw 4096 -> sent 1 held Frw\n3 toclient -> cap 100 1 Frw 4096\n4 begin 1 100 Fw 8 -> ref 1\n5 revoke 100 Fw -> sent 2 held Frw\n6 toclient -> cap 100 2 Fr 4096\n7 check 100 -> hold Fw\n8 end 1 1 -> ended\n9 check 100 -> ack 2 Fr\nend 9\n";
+
+fn status<S: Source, K: Sink>(alloc: Global, source: &mut S, sink: &mut K) -> u8 {
+    let Finished {
+        status,
+        store: (),
+        log: (),
+    } = serve_run(alloc, 256, source, sink, (), ());
+    status
+}
+
+fn run(alloc: Global, input: &[u8]) -> Result<(u8, MemSink), Memory> {
+    let mut source = MemSource::new(alloc, input)?;
+    let mut sink = MemSink::new(alloc);
+    let status = status(alloc, &mut source, &mut sink);
+    Ok((status, sink))
+}
+
+#[test]
+fn ample_memory_gives_answers(rt: HostRuntime) -> Result<(), Fail> {
+    let (status, sink) = run(rt.alloc(), HOLD_THEN_ACK)?;
+    assert_eq!(rt; status, 0);
+    assert_eq!(rt; sink.bytes(), HELD);
+    Ok(())
+}
+
+#[test]
+fn inputs_end_with_their_status_and_text(rt: HostRuntime) -> Result<(), Fail> {
+    let table: [(&[u8], u8, &[u8]); 4] = [
+        (b"ceph-script 1\n", 0, b"ceph-journal 1\nend 0\n"),
+        (b"", 2, b"ceph-fault script 1 header\n"),
+        (
+            b"ceph-script 1\nclock 5\n",
+            2,
+            b"ceph-fault script 2 notbuilt\n",
+        ),
+        (
+            b"ceph-script 1\ngrant 1 Frw 1048577\n",
+            2,
+            b"ceph-fault script 2 range\n",
+        ),
+    ];
+    for (input, wanted, text) in table.iter() {
+        let (status, sink) = run(rt.alloc(), input)?;
+        assert_eq!(rt; status, *wanted);
+        assert_eq!(rt; sink.bytes(), *text);
+    }
+    Ok(())
+}
+
+// What a run ends with whose source and sink fail at the listed calls.
+fn run_faulty(
+    alloc: Global,
+    source_fails: &[u32],
+    sink_fails: &[u32],
+) -> Result<(u8, FaultySink), Memory> {
+    let mut source = FaultySource::new(alloc, HOLD_THEN_ACK, source_fails)?;
+    let mut sink = FaultySink::new(alloc, sink_fails)?;
+    let status = status(alloc, &mut source, &mut sink);
+    Ok((status, sink))
+}
+
+#[test]
+fn a_fault_of_the_source_takes_nothing(rt: HostRuntime) -> Result<(), Fail> {
+    for call in 1..4u32 {
+        let (status, sink) = run_faulty(rt.alloc(), &[call], &[])?;
+        let is_read = call > 2;
+        assert_eq!(rt; status, if is_read { 0 } else { 4 });
+        assert_eq!(rt; sink.bytes().is_empty(), !is_read);
+    }
+    Ok(())
+}
+
+#[test]
+fn a_fault_of_the_sink_leaves_whole_lines(rt: HostRuntime) -> Result<(), Fail> {
+    for call in 1..13u32 {
+        let (status, sink) = run_faulty(rt.alloc(), &[], &[call])?;
+        let taken = sink.bytes();
+        assert_eq!(rt; status, if call > 11 { 0 } else { 5 });
+        assert!(rt; HELD.starts_with(taken));
+        let lines = taken.iter().filter(|c| **c == b'\n').count();
+        assert_eq!(rt; lines as u32, call.min(12) - 1);
+    }
+    Ok(())
+}

@@ -1,0 +1,4 @@
+pub mod Algebra
+pub mod Members
+pub mod Reading
+pub mod Writing

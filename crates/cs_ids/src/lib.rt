@@ -1,0 +1,19 @@
+//! Numbers in their ranges, names, lists of bytes, and the words in which every device tells its
+//! faults. All other crates stand on this one.
+#![tactic(auto)]
+
+mod bytes;
+mod devices;
+mod memory;
+mod names;
+mod numbers;
+mod objects;
+#[cfg(test)]
+mod tests;
+
+pub use bytes::Bytes;
+pub use devices::Failed;
+pub use memory::Memory;
+pub use names::{Name, is_name};
+pub use numbers::{Caller, Ino, RefNo, Seq, Snap, Tid};
+pub use objects::{FileMeta, Obj};

@@ -1,0 +1,37 @@
+-- Plain facts of a history: which files there are, and which numbers were drawn. A history is a list of
+-- entries, the newest first. Each function of it is a fold of one step, which goes by the event first and
+-- then by its answer.
+use Rattle.std.specs.Prelude.{ℕ, ◌+◌, ◌==◌, Bool, true, false, List, [], ◌∷◌, if◌then◌else◌}
+use Rattle.cs_laws.specs.declared.events.Event.{Event}
+use Rattle.cs_laws.specs.declared.events.Event.TheVariants as events
+use Rattle.cs_laws.specs.declared.answers.Answer.{Answer}
+use Rattle.cs_laws.specs.declared.answers.Answer.TheVariants as answers
+use Rattle.cs_laws.specs.declared.answers.Entry.{Entry}
+
+abbrev pub setup_file_then : Event → Answer → ℕ → Bool → Bool
+setup_file_then (events.File g p) answers.Made f was = if g == f then true else was
+setup_file_then _ _ f was = was
+
+-- a `file` line made the file
+abbrev pub setup_file : List Entry → ℕ → Bool
+setup_file [] f = false
+setup_file (x ∷ h) f = setup_file_then x.event x.answer f (setup_file h f)
+
+abbrev pub client_knows : List Entry → ℕ → Bool
+client_knows h f = setup_file h f
+
+abbrev pub server_knows : List Entry → ℕ → Bool
+server_knows h f = setup_file h f
+
+-- the root is the one directory
+abbrev pub is_directory : List Entry → ℕ → Bool
+is_directory h d = d == 1
+
+abbrev pub begun_then : Event → Answer → ℕ → ℕ → ℕ
+begun_then (events.Begin caller f bits end) (answers.Ref number) c n = if caller == c then n + 1 else n
+begun_then _ _ c n = n
+
+-- how many references a caller has begun
+abbrev pub begun : List Entry → ℕ → ℕ
+begun [] c = 0
+begun (x ∷ h) c = begun_then x.event x.answer c (begun h c)

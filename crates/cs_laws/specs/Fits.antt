@@ -1,0 +1,21 @@
+-- Which events a line of a script spells.
+use Rattle.std.specs.Prelude.{ℕ, ◌&&◌, nat_le, Bool, true}
+use Rattle.cs_bits.specs.declared.Caps.{Caps}
+use Rattle.cs_bits.specs.Bits as sets
+use Rattle.cs_laws.specs.declared.events.Event.{Event}
+use Rattle.cs_laws.specs.declared.events.Event.TheVariants as events
+
+-- the greatest size of a file, in bytes
+abbrev pub greatest_end : ℕ
+greatest_end = 1048576
+
+-- a set of capabilities that exist, without Fb and Fc, which come with pages
+abbrev pub is_built : Caps → Bool
+is_built bits = sets.fits bits && sets.is_empty (sets.meet bits (sets.union sets.file_buffer sets.file_cache))
+
+abbrev pub fits : Event → Bool
+fits (events.File f p) = nat_le 2 f && nat_le f 9999
+fits (events.Begin caller f bits end) = is_built bits && nat_le end greatest_end
+fits (events.Grant f bits end) = is_built bits && nat_le end greatest_end
+fits (events.Revoke f bits) = is_built bits
+fits _ = true

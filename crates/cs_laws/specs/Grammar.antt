@@ -1,0 +1,193 @@
+-- The scripts: which bytes are one, its events, and else its first fault.
+use Rattle.std.specs.Prelude.{ℕ, ◌+◌, ◌==◌, ◌&&◌, ◌||◌, Bool, true, false, not, List, [], ◌∷◌, length, Option, Some, None, Result, Ok, Err, codes, if◌then◌else◌, nat_lt, nat_le, slice_get}
+use Rattle.std.specs.Str.{bytes_eq}
+use Rattle.std.specs.List.{slice_split}
+use Rattle.cs_bits.specs.declared.Caps.{Caps}
+use Rattle.cs_bits.specs.Bits.{caps_of}
+use Rattle.cs_text.specs.Decimal.{is_decimal, value}
+use Rattle.cs_text.specs.Lines.{lines_in}
+use Rattle.cs_laws.specs.declared.events.Event.{Event}
+use Rattle.cs_laws.specs.declared.events.Event.TheVariants as events
+use Rattle.cs_laws.specs.declared.events.RefName.{RefName}
+use Rattle.cs_laws.specs.declared.events.RefName.TheVariants as names
+use Rattle.cs_laws.specs.declared.faults.Kind.{Kind}
+use Rattle.cs_laws.specs.declared.faults.Kind.TheVariants as kinds
+use Rattle.cs_laws.specs.declared.faults.ScriptFault.{ScriptFault}
+use Rattle.cs_laws.specs.Fits.{is_built, greatest_end}
+
+abbrev pub Words : Type 0
+Words = List (List ℕ)
+
+infixl 10 ◌>>=◌
+-- go on with the value, or stop at the fault
+abbrev pub ◌>>=◌ : {A B E : Type 0} → Result A E → (A → Result B E) → Result B E
+(Ok x) >>= f = f x
+(Err e) >>= f = Err e
+
+-- Fields. A line's words are counted from 0, and word 0 names the event.
+
+-- the word at a place, or the fault that it is missing
+abbrev pub word_in : {A : Type 0} → (List ℕ → Result A Kind) → Option (List ℕ) → Result A Kind
+word_in read None = Err kinds.Word
+word_in read (Some w) = read w
+
+abbrev pub number_in : ℕ → ℕ → List ℕ → Result ℕ Kind
+number_in low high w =
+    if is_decimal w then
+    (if nat_le low (value w) && nat_le (value w) high then Ok (value w) else Err kinds.Range)
+    else Err kinds.Number
+
+abbrev pub number_at : ℕ → ℕ → ℕ → Words → Result ℕ Kind
+number_at i low high ws = word_in (number_in low high) (slice_get ws i)
+
+-- a set's one text; a set that isn't built yet is refused as such
+abbrev pub set_of : Option Caps → Result Caps Kind
+set_of None = Err kinds.Word
+set_of (Some c) = if is_built c then Ok c else Err kinds.NotBuilt
+
+abbrev pub set_at : ℕ → Words → Result Caps Kind
+set_at i ws = word_in (λ w. set_of (caps_of w)) (slice_get ws i)
+
+-- a reference's number, behind a `g` where it is one of caller 0
+abbrev pub name_of : List ℕ → Result RefName Kind
+name_of [] = Err kinds.Number
+name_of (c ∷ cs) =
+    if c == 103 then (number_in 0 99999 cs >>= λ n. Ok (names.Kept n))
+    else (number_in 0 99999 (c ∷ cs) >>= λ n. Ok (names.Own n))
+
+abbrev pub name_at : ℕ → Words → Result RefName Kind
+name_at i ws = word_in name_of (slice_get ws i)
+
+-- these are all the words
+abbrev pub only : ℕ → Event → Words → Result Event Kind
+only n e ws = if nat_le (length ws) n then Ok e else Err kinds.Extra
+
+-- The events, each by the fields behind its first word
+
+unfoldable pub file_of : Words → Result Event Kind
+file_of ws = do
+  f ← number_at 1 2 9999 ws
+  p ← number_at 2 1 99999 ws
+  only 3 (events.File f p) ws
+
+unfoldable pub begin_of : Words → Result Event Kind
+begin_of ws = do
+  c ← number_at 1 0 32 ws
+  f ← number_at 2 1 99999 ws
+  b ← set_at 3 ws
+  e ← number_at 4 0 greatest_end ws
+  only 5 (events.Begin c f b e) ws
+
+unfoldable pub end_of : Words → Result Event Kind
+end_of ws = do
+  c ← number_at 1 0 32 ws
+  r ← name_at 2 ws
+  only 3 (events.End c r) ws
+
+unfoldable pub check_of : Words → Result Event Kind
+check_of ws = do
+  f ← number_at 1 1 99999 ws
+  only 2 (events.Check f) ws
+
+unfoldable pub grant_of : Words → Result Event Kind
+grant_of ws = do
+  f ← number_at 1 1 99999 ws
+  b ← set_at 2 ws
+  m ← number_at 3 0 greatest_end ws
+  only 4 (events.Grant f b m) ws
+
+unfoldable pub revoke_of : Words → Result Event Kind
+revoke_of ws = do
+  f ← number_at 1 1 99999 ws
+  b ← set_at 2 ws
+  only 3 (events.Revoke f b) ws
+
+-- The first words of events that aren't built yet
+
+abbrev pub is_later_caller_word : List ℕ → Bool
+is_later_caller_word w =
+    bytes_eq w (codes "write") || (bytes_eq w (codes "read") || (bytes_eq w (codes "chmod")
+    || (bytes_eq w (codes "lookup") || (bytes_eq w (codes "req") || (bytes_eq w (codes "clock")
+    || (bytes_eq w (codes "show") || bytes_eq w (codes "names")))))))
+
+abbrev pub is_later_client_word : List ℕ → Bool
+is_later_client_word w =
+    bytes_eq w (codes "flush") || (bytes_eq w (codes "flushsnaps") || (bytes_eq w (codes "writeback")
+    || (bytes_eq w (codes "invalidate") || (bytes_eq w (codes "osd") || (bytes_eq w (codes "osdack")
+    || (bytes_eq w (codes "osdlose") || bytes_eq w (codes "osdresend")))))))
+
+abbrev pub is_later_server_word : List ℕ → Bool
+is_later_server_word w =
+    bytes_eq w (codes "dir") || (bytes_eq w (codes "tomds") || (bytes_eq w (codes "drop")
+    || (bytes_eq w (codes "reconnect") || (bytes_eq w (codes "snap") || (bytes_eq w (codes "rmsnap")
+    || (bytes_eq w (codes "unlease") || (bytes_eq w (codes "commit") || bytes_eq w (codes "failover"))))))))
+
+abbrev pub is_later_word : List ℕ → Bool
+is_later_word w = is_later_caller_word w || (is_later_client_word w || is_later_server_word w)
+
+unfoldable pub event_by : List ℕ → Words → Result Event Kind
+event_by w ws =
+    if bytes_eq w (codes "file") then file_of ws
+    else if bytes_eq w (codes "begin") then begin_of ws
+    else if bytes_eq w (codes "end") then end_of ws
+    else if bytes_eq w (codes "check") then check_of ws
+    else if bytes_eq w (codes "toclient") then only 1 events.ToClient ws
+    else if bytes_eq w (codes "grant") then grant_of ws
+    else if bytes_eq w (codes "revoke") then revoke_of ws
+    else if is_later_word w then Err kinds.NotBuilt
+    else Err kinds.Word
+
+unfoldable pub event_of : Words → Result Event Kind
+event_of ws = word_in (λ w. event_by w ws) (slice_get ws 0)
+
+-- Lines
+
+-- a line of this kind stands before all others
+abbrev pub is_setup : Event → Bool
+is_setup (events.File f p) = true
+is_setup _ = false
+
+-- setup: all events before this one are setup lines
+abbrev pub in_time : Bool → Event → Result Event Kind
+in_time setup e = if is_setup e && not setup then Err kinds.Late else Ok e
+
+-- the words between single spaces
+abbrev pub words_in : List ℕ → Words
+words_in l = slice_split (λ b. b == 32) l
+
+unfoldable pub line_event : Bool → List ℕ → Result Event Kind
+line_event setup l = event_of (words_in l) >>= in_time setup
+
+abbrev pub is_long : List ℕ → Bool
+is_long l = nat_lt 4096 (length l)
+
+-- an empty line, or one that begins with `#`
+abbrev pub is_skipped : List ℕ → Bool
+is_skipped [] = true
+is_skipped (c ∷ cs) = c == 35
+
+abbrev pub at_line : {A : Type 0} → ℕ → Result A Kind → Result A ScriptFault
+at_line n (Ok x) = Ok x
+at_line n (Err k) = Err (record { line = n; kind = k })
+
+-- the events of the lines from the n-th on
+abbrev pub events_from : ℕ → Bool → Words → Result (List Event) ScriptFault
+events_from n setup [] = Ok []
+events_from n setup (l ∷ ls) =
+    if is_long l then at_line n (Err kinds.Long)
+    else if is_skipped l then events_from (n + 1) setup ls
+    else (at_line n (line_event setup l) >>= λ e. events_from (n + 1) (setup && is_setup e) ls >>= λ es. Ok (e ∷ es))
+
+abbrev pub script_header : List ℕ
+script_header = codes "ceph-script 1"
+
+abbrev pub script_of_lines : Words → Result (List Event) ScriptFault
+script_of_lines [] = at_line 1 (Err kinds.Header)
+script_of_lines (l ∷ ls) =
+    if is_long l then at_line 1 (Err kinds.Long)
+    else if bytes_eq l script_header then events_from 2 true ls
+    else at_line 1 (Err kinds.Header)
+
+-- the events of a script, or its first bad line and what is wrong with it
+unfoldable pub script_of : List ℕ → Result (List Event) ScriptFault
+script_of b = script_of_lines (lines_in b)

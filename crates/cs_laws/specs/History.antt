@@ -1,0 +1,49 @@
+-- The functions of a history that may need one another. Each goes down in the length of the history: what
+-- an entry does is a function of the entry and of the history before it.
+use Rattle.std.specs.Prelude.{ℕ, List, [], ◌∷◌}
+use Rattle.cs_bits.specs.declared.Caps.{Caps}
+use Rattle.cs_parts.specs.declared.capabilities.ClientCaps.{ClientCaps}
+use Rattle.cs_parts.specs.declared.capabilities.ServerCaps.{ServerCaps}
+use Rattle.cs_parts.specs.declared.references.Live.{Live}
+use Rattle.cs_parts.specs.Capabilities.{no_client_caps, no_server_caps}
+use Rattle.cs_parts.specs.References.{used_in}
+use Rattle.cs_laws.specs.declared.answers.Entry.{Entry}
+use Rattle.cs_laws.specs.declared.messages.Message.{Message}
+use Rattle.cs_laws.specs.Capabilities.{client_then, server_then}
+use Rattle.cs_laws.specs.Flight.{to_client_then, to_server_then}
+use Rattle.cs_laws.specs.References.{live_then}
+
+abbrev mutual
+  -- the server's end of a file's capabilities
+  pub server : List Entry → ℕ → ServerCaps
+  server [] f = no_server_caps
+  server (x ∷ h) f = server_then x.event x.answer f (server h f)
+
+  -- the client's end of a file's capabilities
+  pub client : List Entry → ℕ → ClientCaps
+  client [] f = no_client_caps
+  client (x ∷ h) f = client_then x.event x.answer f (client h f)
+
+  -- the messages on their way to the client
+  pub to_client : List Entry → List Message
+  to_client [] = []
+  to_client (x ∷ h) = to_client_then x.event x.answer (λ f. server h f) (to_client h)
+
+  -- the messages on their way to the server
+  pub to_server : List Entry → List Message
+  to_server [] = []
+  to_server (x ∷ h) = to_server_then x.event x.answer (to_server h)
+
+  -- the seq of a file's snapshot context, which is 0 as long as no realm's record can be delivered
+  pub context_seq : List Entry → ℕ → ℕ
+  context_seq [] f = 0
+  context_seq (x ∷ h) f = context_seq h f
+
+  -- the references begun and not ended
+  pub live : List Entry → List Live
+  live [] = []
+  live (x ∷ h) = live_then x.event x.answer (λ f. context_seq h f) (live h)
+
+-- the bits of a file that are in use
+abbrev pub used : List Entry → ℕ → Caps
+used h f = used_in f (live h)

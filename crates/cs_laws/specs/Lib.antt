@@ -1,0 +1,12 @@
+pub mod Answers
+pub mod Capabilities
+pub mod Events
+pub mod Fits
+pub mod Flight
+pub mod Grammar
+pub mod History
+pub mod Journal
+pub mod Laws
+pub mod References
+pub mod Refusals
+pub mod Texts

@@ -1,0 +1,24 @@
+-- Answers that change the journal alone.
+use Rattle.std.specs.Prelude.{◌||◌, Bool, true, false}
+use Rattle.cs_laws.specs.declared.events.Event.{Event}
+use Rattle.cs_laws.specs.declared.answers.Answer.{Answer}
+use Rattle.cs_laws.specs.declared.answers.Answer.TheVariants as answers
+
+-- the same event may be answered otherwise later
+abbrev pub not_yet : Answer → Bool
+not_yet (answers.Again w) = true
+not_yet (answers.Hold bits) = true
+not_yet answers.Idle = true
+not_yet _ = false
+
+-- the event is turned down
+abbrev pub is_turned_down : Answer → Bool
+is_turned_down answers.Unknown = true
+is_turned_down answers.Exists = true
+is_turned_down answers.NoDir = true
+is_turned_down answers.Full = true
+is_turned_down answers.Nothing = true
+is_turned_down _ = false
+
+abbrev pub is_refusal : Event → Answer → Bool
+is_refusal e a = not_yet a || is_turned_down a

@@ -1,0 +1,56 @@
+-- The texts of events, answers and kinds of faults.
+use Rattle.std.specs.Prelude.{ℕ, List, ◌++◌, codes, decimal}
+use Rattle.cs_bits.specs.Bits.{caps_text}
+use Rattle.cs_laws.specs.declared.events.Event.{Event}
+use Rattle.cs_laws.specs.declared.events.Event.TheVariants as events
+use Rattle.cs_laws.specs.declared.answers.Answer.{Answer}
+use Rattle.cs_laws.specs.declared.answers.Answer.TheVariants as answers
+use Rattle.cs_laws.specs.declared.answers.Why.{Why}
+use Rattle.cs_laws.specs.declared.answers.Why.TheVariants as why
+use Rattle.cs_laws.specs.declared.events.RefName.{RefName}
+use Rattle.cs_laws.specs.declared.events.RefName.TheVariants as names
+use Rattle.cs_laws.specs.declared.faults.Kind.{Kind}
+use Rattle.cs_laws.specs.declared.faults.Kind.TheVariants as kinds
+
+abbrev pub name_text : RefName → List ℕ
+name_text (names.Own n) = decimal n
+name_text (names.Kept n) = codes "g" ++ decimal n
+
+abbrev pub why_text : Why → List ℕ
+why_text why.Caps = codes "caps"
+why_text why.Max = codes "max"
+
+abbrev pub event_text : Event → List ℕ
+event_text (events.File f p) = codes "file " ++ decimal f ++ codes " " ++ decimal p
+event_text (events.Begin c f bits end) = codes "begin " ++ decimal c ++ codes " " ++ decimal f ++ codes " " ++ caps_text bits ++ codes " " ++ decimal end
+event_text (events.End c name) = codes "end " ++ decimal c ++ codes " " ++ name_text name
+event_text (events.Check f) = codes "check " ++ decimal f
+event_text events.ToClient = codes "toclient"
+event_text (events.Grant f bits end) = codes "grant " ++ decimal f ++ codes " " ++ caps_text bits ++ codes " " ++ decimal end
+event_text (events.Revoke f bits) = codes "revoke " ++ decimal f ++ codes " " ++ caps_text bits
+
+abbrev pub answer_text : Answer → List ℕ
+answer_text answers.Unknown = codes "unknown"
+answer_text answers.Exists = codes "exists"
+answer_text answers.NoDir = codes "nodir"
+answer_text (answers.Again w) = codes "again " ++ why_text w
+answer_text answers.Idle = codes "idle"
+answer_text answers.Made = codes "made"
+answer_text answers.Full = codes "full"
+answer_text (answers.Ref n) = codes "ref " ++ decimal n
+answer_text answers.Ended = codes "ended"
+answer_text answers.Nothing = codes "nothing"
+answer_text (answers.Hold bits) = codes "hold " ++ caps_text bits
+answer_text (answers.Ack seq bits) = codes "ack " ++ decimal seq ++ codes " " ++ caps_text bits
+answer_text (answers.Cap f seq bits end) = codes "cap " ++ decimal f ++ codes " " ++ decimal seq ++ codes " " ++ caps_text bits ++ codes " " ++ decimal end
+answer_text (answers.SentCap seq held) = codes "sent " ++ decimal seq ++ codes " held " ++ caps_text held
+
+abbrev pub kind_text : Kind → List ℕ
+kind_text kinds.Header = codes "header"
+kind_text kinds.Word = codes "word"
+kind_text kinds.Number = codes "number"
+kind_text kinds.Range = codes "range"
+kind_text kinds.Extra = codes "extra"
+kind_text kinds.Late = codes "late"
+kind_text kinds.Long = codes "long"
+kind_text kinds.NotBuilt = codes "notbuilt"

@@ -1,0 +1,123 @@
+// The answers to events, and the journal's entries.
+ghost use Rattle.std.specs.Prelude.{◌≡◌, IfOk};
+ghost use Rattle.cs_laws.specs.Refusals.{not_yet};
+
+use crate::Event;
+use cs_bits::Caps;
+use cs_ids::{Ino, Memory, RefNo, Seq};
+use std::alloc::Global;
+
+/// Why an event has to wait.
+#[derive(Clone, Copy)]
+pub enum Why {
+    /// The reference's bits aren't all issued.
+    Caps,
+    /// The reference's end is beyond the file's greatest end.
+    Max,
+}
+
+/// What an event is answered with.
+#[derive(Drop)]
+pub enum Answer {
+    /// There is no such file, or no such live reference.
+    Unknown,
+    /// The inode is in use.
+    Exists,
+    /// The parent is no directory.
+    NoDir,
+    /// The same event may be answered otherwise later.
+    Again(Why),
+    /// No message is on its way.
+    Idle,
+    Made,
+    /// 256 references live.
+    Full,
+    /// A reference began, under this number of its caller.
+    Ref {
+        number: RefNo,
+    },
+    Ended,
+    /// Nothing is left to acknowledge.
+    Nothing,
+    /// These bits were taken back and are still in use.
+    Hold {
+        bits: Caps,
+    },
+    /// The client told the server that it has only these bits from now on.
+    Ack {
+        seq: Seq,
+        bits: Caps,
+    },
+    /// A capability message was delivered.
+    Cap {
+        file: Ino,
+        seq: Seq,
+        bits: Caps,
+        max: u32,
+    },
+    /// A capability message was sent; the client may still be using the bits that are held.
+    SentCap {
+        seq: Seq,
+        held: Caps,
+    },
+}
+
+impl Answer {
+    /// A copy, equal to the answer.
+    pub fn copy(&self, _alloc: Global) -> Result<Answer, Memory>
+        ensures { IfOk result (λ a. a ≡ self.now) }
+    {
+        let _told: Option<Why> = None;
+        Ok(match self {
+            Answer::Unknown => Answer::Unknown,
+            Answer::Exists => Answer::Exists,
+            Answer::NoDir => Answer::NoDir,
+            Answer::Again(why) => Answer::Again(*why),
+            Answer::Idle => Answer::Idle,
+            Answer::Made => Answer::Made,
+            Answer::Full => Answer::Full,
+            Answer::Ref { number } => Answer::Ref { number: *number },
+            Answer::Ended => Answer::Ended,
+            Answer::Nothing => Answer::Nothing,
+            Answer::Hold { bits } => Answer::Hold { bits: *bits },
+            Answer::Ack { seq, bits } => Answer::Ack {
+                seq: *seq,
+                bits: *bits,
+            },
+            Answer::Cap {
+                file,
+                seq,
+                bits,
+                max,
+            } => {
+                Answer::Cap {
+                    file: *file,
+                    seq: *seq,
+                    bits: *bits,
+                    max: *max,
+                }
+            }
+            Answer::SentCap { seq, held } => Answer::SentCap {
+                seq: *seq,
+                held: *held,
+            },
+        })
+    }
+}
+
+/// Whether the same event may be answered otherwise later, with nothing done to it till then.
+pub fn not_yet(answer: &Answer) -> bool
+    ensures { result ≡ not_yet answer.now }
+{
+    matches!(
+        answer,
+        Answer::Again(_) | Answer::Hold { .. } | Answer::Idle
+    )
+}
+
+/// An event with its answer.
+#[derive(Drop)]
+pub struct Entry {
+    pub event: Event,
+    pub answer: Answer,
+}

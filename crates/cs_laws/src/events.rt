@@ -1,0 +1,124 @@
+// The events of a script.
+ghost use Rattle.std.specs.Prelude.{◌≡◌, IfOk};
+ghost use Rattle.cs_laws.specs.Fits.{fits, is_built};
+
+use cs_bits::Caps;
+use cs_ids::{Caller, Ino, Memory, RefNo};
+use std::alloc::Global;
+
+/// How a script names a reference.
+#[derive(Clone, Copy)]
+pub enum RefName {
+    /// One of the caller's own.
+    Own(RefNo),
+    /// One of caller 0, the keeper of the gate. Its number is written behind the letter `g`.
+    Kept(RefNo),
+}
+
+/// What happens: one atomic step of the client, the server or a caller.
+#[derive(Drop)]
+pub enum Event {
+    /// A file stands in a directory before the run begins.
+    File {
+        file: Ino,
+        parent: Ino,
+    },
+    /// A caller begins a reference with these bits. With the right to write, it may write up to
+    /// `end` bytes, 0 to 1,048,576.
+    Begin {
+        caller: Caller,
+        file: Ino,
+        bits: Caps,
+        end: u32,
+    },
+    /// A caller ends a reference.
+    End {
+        caller: Caller,
+        name: RefName,
+    },
+    /// The client looks whether it can acknowledge the last revocation of a file's bits.
+    Check {
+        file: Ino,
+    },
+    /// The oldest message on its way to the client is delivered.
+    ToClient,
+    /// The server gives the client bits of a file, which may grow up to `max` bytes, 0 to 1,048,576.
+    Grant {
+        file: Ino,
+        bits: Caps,
+        max: u32,
+    },
+    /// The server takes bits of a file back.
+    Revoke {
+        file: Ino,
+        bits: Caps,
+    },
+}
+
+impl Event {
+    /// A copy, equal to the event.
+    pub fn copy(&self, _alloc: Global) -> Result<Event, Memory>
+        ensures { IfOk result (λ e. e ≡ self.now) }
+    {
+        let _told: Option<RefName> = None;
+        Ok(match self {
+            Event::File { file, parent } => Event::File {
+                file: *file,
+                parent: *parent,
+            },
+            Event::Begin {
+                caller,
+                file,
+                bits,
+                end,
+            } => {
+                Event::Begin {
+                    caller: *caller,
+                    file: *file,
+                    bits: *bits,
+                    end: *end,
+                }
+            }
+            Event::End { caller, name } => Event::End {
+                caller: *caller,
+                name: *name,
+            },
+            Event::Check { file } => Event::Check { file: *file },
+            Event::ToClient => Event::ToClient,
+            Event::Grant { file, bits, max } => {
+                Event::Grant {
+                    file: *file,
+                    bits: *bits,
+                    max: *max,
+                }
+            }
+            Event::Revoke { file, bits } => Event::Revoke {
+                file: *file,
+                bits: *bits,
+            },
+        })
+    }
+
+    /// Whether a line of a script spells the event: its numbers are in their ranges and its bits in
+    /// the sets that a script may name. It takes no memory.
+    pub fn fits(&self) -> bool
+        ensures { result ≡ fits self.now }
+    {
+        match self {
+            Event::File { file, .. } => 2 <= file.get() && file.get() <= 9_999,
+            Event::Begin { bits, end, .. } => is_built(*bits) && *end <= 1_048_576,
+            Event::Grant { bits, max, .. } => is_built(*bits) && *max <= 1_048_576,
+            Event::Revoke { bits, .. } => is_built(*bits),
+            Event::End { .. } | Event::Check { .. } | Event::ToClient => true,
+        }
+    }
+}
+
+/// Whether a script may name the set: each of its bits exists, and `Fb` and `Fc`, which come with
+/// pages, aren't among them.
+pub fn is_built(bits: Caps) -> bool
+    ensures { result ≡ is_built bits }
+{
+    let of_pages = Caps::FILE_BUFFER.union(Caps::FILE_CACHE);
+    bits.fits() && bits.meet(of_pages).is_none()
+}

@@ -1,0 +1,18 @@
+//! The model: events, answers, messages, and the one journal that a list of events has.
+//!
+//! The definitions stand in `specs/`. A journal is a list of entries, and all else that is said of a
+//! run is a function of it.
+#![tactic(auto)]
+
+mod answers;
+mod events;
+mod faults;
+mod messages;
+mod printing;
+#[cfg(test)]
+mod tests;
+
+pub use answers::{Answer, Entry, Why, not_yet};
+pub use events::{Event, RefName, is_built};
+pub use faults::{Kind, ScriptFault, StepFault};
+pub use messages::Message;

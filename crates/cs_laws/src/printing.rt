@@ -1,0 +1,94 @@
+// The texts of events and answers.
+ghost use Rattle.std.specs.Prelude.{Some};
+ghost use Rattle.cs_laws.specs.Texts.{event_text, answer_text, why_text, name_text, kind_text};
+
+use crate::{Answer, Event, Kind, RefName, Why};
+use std::fmt;
+
+impl fmt::Display for RefName {
+    ghost output = { λ x. Some (name_text x) };
+
+    fn fmt<W: fmt::Write>(&self, f: &mut fmt::Formatter<W>) -> fmt::Result {
+        match self {
+            RefName::Own(number) => write!(f, "{}", number.get()),
+            RefName::Kept(number) => write!(f, "g{}", number.get()),
+        }
+    }
+}
+
+impl fmt::Display for Why {
+    ghost output = { λ x. Some (why_text x) };
+
+    fn fmt<W: fmt::Write>(&self, f: &mut fmt::Formatter<W>) -> fmt::Result {
+        match self {
+            Why::Caps => write!(f, "caps"),
+            Why::Max => write!(f, "max"),
+        }
+    }
+}
+
+impl fmt::Display for Kind {
+    ghost output = { λ x. Some (kind_text x) };
+
+    fn fmt<W: fmt::Write>(&self, f: &mut fmt::Formatter<W>) -> fmt::Result {
+        match self {
+            Kind::Header => write!(f, "header"),
+            Kind::Word => write!(f, "word"),
+            Kind::Number => write!(f, "number"),
+            Kind::Range => write!(f, "range"),
+            Kind::Extra => write!(f, "extra"),
+            Kind::Late => write!(f, "late"),
+            Kind::Long => write!(f, "long"),
+            Kind::NotBuilt => write!(f, "notbuilt"),
+        }
+    }
+}
+
+impl fmt::Display for Event {
+    ghost output = { λ x. Some (event_text x) };
+
+    fn fmt<W: fmt::Write>(&self, f: &mut fmt::Formatter<W>) -> fmt::Result {
+        match self {
+            Event::File { file, parent } => write!(f, "file {} {}", file.get(), parent.get()),
+            Event::Begin {
+                caller,
+                file,
+                bits,
+                end,
+            } => { write!(f, "begin {} {} {bits} {end}", caller.get(), file.get()) }
+            Event::End { caller, name } => write!(f, "end {} {name}", caller.get()),
+            Event::Check { file } => write!(f, "check {}", file.get()),
+            Event::ToClient => write!(f, "toclient"),
+            Event::Grant { file, bits, max } => write!(f, "grant {} {bits} {max}", file.get()),
+            Event::Revoke { file, bits } => write!(f, "revoke {} {bits}", file.get()),
+        }
+    }
+}
+
+impl fmt::Display for Answer {
+    ghost output = { λ x. Some (answer_text x) };
+
+    fn fmt<W: fmt::Write>(&self, f: &mut fmt::Formatter<W>) -> fmt::Result {
+        match self {
+            Answer::Unknown => write!(f, "unknown"),
+            Answer::Exists => write!(f, "exists"),
+            Answer::NoDir => write!(f, "nodir"),
+            Answer::Again(why) => write!(f, "again {why}"),
+            Answer::Idle => write!(f, "idle"),
+            Answer::Made => write!(f, "made"),
+            Answer::Full => write!(f, "full"),
+            Answer::Ref { number } => write!(f, "ref {}", number.get()),
+            Answer::Ended => write!(f, "ended"),
+            Answer::Nothing => write!(f, "nothing"),
+            Answer::Hold { bits } => write!(f, "hold {bits}"),
+            Answer::Ack { seq, bits } => write!(f, "ack {} {bits}", seq.get()),
+            Answer::Cap {
+                file,
+                seq,
+                bits,
+                max,
+            } => { write!(f, "cap {} {} {bits} {max}", file.get(), seq.get()) }
+            Answer::SentCap { seq, held } => write!(f, "sent {} held {held}", seq.get()),
+        }
+    }
+}

@@ -1,0 +1,4 @@
+pub mod EmptyScript
+pub mod Faults
+pub mod FullTable
+pub mod HoldThenAck

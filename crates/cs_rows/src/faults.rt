@@ -1,0 +1,30 @@
+// Inputs that are no scripts, each with its first bad line.
+ghost use Rattle.std.specs.Prelude.{◌≡◌, [], Err};
+ghost use Rattle.cs_laws.specs.declared.faults.Kind.TheVariants as kinds;
+ghost use Rattle.cs_laws.specs.Grammar.{script_of};
+ghost use Rattle.cs_rows.specs.Faults as inputs;
+
+/// No bytes are no script.
+pub fn empty_input()
+    ensures { script_of [] ≡ Err (record { line = 1; kind = kinds.Header }) }
+{}
+
+/// A line of 4,097 bytes is too long.
+pub fn long_line()
+    ensures { script_of inputs.long_line ≡ Err (record { line = 2; kind = kinds.Long }) }
+{}
+
+/// An event that isn't built yet, in the line behind a comment.
+pub fn later_event()
+    ensures { script_of inputs.later_event ≡ Err (record { line = 3; kind = kinds.NotBuilt }) }
+{}
+
+/// A number has no leading zero.
+pub fn leading_zero()
+    ensures { script_of inputs.leading_zero ≡ Err (record { line = 2; kind = kinds.Number }) }
+{}
+
+/// Files stand before all other events.
+pub fn late_file()
+    ensures { script_of inputs.late_file ≡ Err (record { line = 4; kind = kinds.Late }) }
+{}

@@ -1,0 +1,7 @@
+//! Worked runs as laws: these bytes are these events, and the journal of these events is these bytes.
+//! They hold by computing the definitions, and so they are the review of them. Nothing stands on this
+//! crate.
+#![tactic(auto)]
+
+pub mod faults;
+pub mod runs;

@@ -1,0 +1,100 @@
+// The fields of a line, each at its place among the words.
+ghost use Rattle.std.specs.Prelude.{◌≡◌, ◌≤◌};
+ghost use Rattle.cs_laws.specs.Fits.{greatest_end};
+ghost use Rattle.cs_laws.specs.Grammar.{number_in, number_at, set_at, name_at, name_of, only};
+ghost use Rattle.cs_script.specs.Reading.{Gives, texts};
+
+use cs_bits::Caps;
+use cs_ids::{Caller, Ino, RefNo};
+use cs_laws::{Event, Kind, RefName, is_built};
+use cs_text::{Dec, read_dec};
+
+fn number_of(word: &[u8], low: u64, high: u64) -> Result<u64, Kind>
+    ensures { result ≡ number_in low high word.now }
+{
+    match read_dec(word) {
+        Dec::Shape => Err(Kind::Number),
+        Dec::Value(value) if low <= value && value <= high => Ok(value),
+        _ => Err(Kind::Range),
+    }
+}
+
+fn number_at(words: &[&[u8]], i: usize, low: u64, high: u64) -> Result<u64, Kind>
+    ensures { result ≡ number_at i low high (texts words.now) }
+{
+    match words.get(i) {
+        Some(word) => number_of(word, low, high),
+        None => Err(Kind::Word),
+    }
+}
+
+pub fn ino_at(words: &[&[u8]], i: usize, low: u64, high: u64) -> Result<Ino, Kind>
+    requires { (1 ≤ low) × (high ≤ 99999) }
+    ensures { Gives (λ x. x) result (number_at i low high (texts words.now)) }
+{
+    let value = number_at(words, i, low, high)?;
+    Ino::new(value).ok_or(Kind::Range)
+}
+
+pub fn caller_at(words: &[&[u8]], i: usize) -> Result<Caller, Kind>
+    ensures { Gives (λ x. x) result (number_at i 0 32 (texts words.now)) }
+{
+    let value = number_at(words, i, 0, 32)?;
+    Caller::new(value).ok_or(Kind::Range)
+}
+
+pub fn end_at(words: &[&[u8]], i: usize) -> Result<u32, Kind>
+    ensures { Gives (λ x. x) result (number_at i 0 greatest_end (texts words.now)) }
+{
+    let value = number_at(words, i, 0, 1_048_576)?;
+    Ok(value as u32)
+}
+
+pub fn set_at(words: &[&[u8]], i: usize) -> Result<Caps, Kind>
+    ensures { Gives (λ x. x) result (set_at i (texts words.now)) }
+{
+    let word = words.get(i).ok_or(Kind::Word)?;
+    match Caps::read(word) {
+        None => Err(Kind::Word),
+        Some(bits) if is_built(bits) => Ok(bits),
+        Some(_) => Err(Kind::NotBuilt),
+    }
+}
+
+fn ref_number(word: &[u8]) -> Result<RefNo, Kind>
+    ensures { Gives (λ n. n) result (number_in 0 99999 word.now) }
+{
+    let value = number_of(word, 0, 99_999)?;
+    RefNo::new(value).ok_or(Kind::Range)
+}
+
+fn name_from(word: &[u8]) -> Result<RefName, Kind>
+    ensures { Gives (λ n. n) result (name_of word.now) }
+{
+    match word {
+        [] => Err(Kind::Number),
+        [b'g', rest @ ..] => Ok(RefName::Kept(ref_number(rest)?)),
+        _ => Ok(RefName::Own(ref_number(word)?)),
+    }
+}
+
+pub fn name_at(words: &[&[u8]], i: usize) -> Result<RefName, Kind>
+    ensures { Gives (λ x. x) result (name_at i (texts words.now)) }
+{
+    match words.get(i) {
+        Some(word) => name_from(word),
+        None => Err(Kind::Word),
+    }
+}
+
+/// The event, unless there are more than `count` words.
+pub fn only(count: usize, event: Event, words: &[&[u8]]) -> Result<Event, Kind>
+    ensures { Gives (λ e. e) result (only count event (texts words.now)) }
+{
+    let _told: Option<RefName> = None;
+    if words.len() <= count {
+        Ok(event)
+    } else {
+        Err(Kind::Extra)
+    }
+}

@@ -1,0 +1,154 @@
+// The forms of events, each by the fields behind its first word.
+ghost use Rattle.std.specs.Prelude.{◌≡◌};
+ghost use Rattle.cs_laws.specs.Grammar.{event_by, file_of, begin_of, end_of, check_of, grant_of, revoke_of, event_of, is_later_word, is_later_caller_word, is_later_client_word, is_later_server_word};
+ghost use Rattle.cs_script.specs.Reading.{Gives, texts};
+
+use crate::fields::{caller_at, end_at, ino_at, name_at, only, set_at};
+use cs_laws::{Event, Kind};
+
+#[tactic(auto, unfolding(cs_laws::specs::Grammar::file_of))]
+fn file_from(words: &[&[u8]]) -> Result<Event, Kind>
+    ensures { Gives (λ e. e) result (file_of (texts words.now)) }
+{
+    let file = ino_at(words, 1, 2, 9_999)?;
+    let parent = ino_at(words, 2, 1, 99_999)?;
+    only(3, Event::File { file, parent }, words)
+}
+
+#[tactic(auto, unfolding(cs_laws::specs::Grammar::begin_of))]
+fn begin_from(words: &[&[u8]]) -> Result<Event, Kind>
+    ensures { Gives (λ e. e) result (begin_of (texts words.now)) }
+{
+    let caller = caller_at(words, 1)?;
+    let file = ino_at(words, 2, 1, 99_999)?;
+    let bits = set_at(words, 3)?;
+    let end = end_at(words, 4)?;
+    only(
+        5,
+        Event::Begin {
+            caller,
+            file,
+            bits,
+            end,
+        },
+        words,
+    )
+}
+
+#[tactic(auto, unfolding(cs_laws::specs::Grammar::end_of))]
+fn end_from(words: &[&[u8]]) -> Result<Event, Kind>
+    ensures { Gives (λ e. e) result (end_of (texts words.now)) }
+{
+    let caller = caller_at(words, 1)?;
+    let name = name_at(words, 2)?;
+    only(3, Event::End { caller, name }, words)
+}
+
+#[tactic(auto, unfolding(cs_laws::specs::Grammar::check_of))]
+fn check_from(words: &[&[u8]]) -> Result<Event, Kind>
+    ensures { Gives (λ e. e) result (check_of (texts words.now)) }
+{
+    let file = ino_at(words, 1, 1, 99_999)?;
+    only(2, Event::Check { file }, words)
+}
+
+#[tactic(auto, unfolding(cs_laws::specs::Grammar::grant_of))]
+fn grant_from(words: &[&[u8]]) -> Result<Event, Kind>
+    ensures { Gives (λ e. e) result (grant_of (texts words.now)) }
+{
+    let file = ino_at(words, 1, 1, 99_999)?;
+    let bits = set_at(words, 2)?;
+    let max = end_at(words, 3)?;
+    only(4, Event::Grant { file, bits, max }, words)
+}
+
+#[tactic(auto, unfolding(cs_laws::specs::Grammar::revoke_of))]
+fn revoke_from(words: &[&[u8]]) -> Result<Event, Kind>
+    ensures { Gives (λ e. e) result (revoke_of (texts words.now)) }
+{
+    let file = ino_at(words, 1, 1, 99_999)?;
+    let bits = set_at(words, 2)?;
+    only(3, Event::Revoke { file, bits }, words)
+}
+
+fn is_later_caller_word(word: &[u8]) -> bool
+    ensures { result ≡ is_later_caller_word word.now }
+{
+    word == b"write".as_slice()
+        || word == b"read".as_slice()
+        || word == b"chmod".as_slice()
+        || word == b"lookup".as_slice()
+        || word == b"req".as_slice()
+        || word == b"clock".as_slice()
+        || word == b"show".as_slice()
+        || word == b"names".as_slice()
+}
+
+fn is_later_client_word(word: &[u8]) -> bool
+    ensures { result ≡ is_later_client_word word.now }
+{
+    word == b"flush".as_slice()
+        || word == b"flushsnaps".as_slice()
+        || word == b"writeback".as_slice()
+        || word == b"invalidate".as_slice()
+        || word == b"osd".as_slice()
+        || word == b"osdack".as_slice()
+        || word == b"osdlose".as_slice()
+        || word == b"osdresend".as_slice()
+}
+
+fn is_later_server_word(word: &[u8]) -> bool
+    ensures { result ≡ is_later_server_word word.now }
+{
+    word == b"dir".as_slice()
+        || word == b"tomds".as_slice()
+        || word == b"drop".as_slice()
+        || word == b"reconnect".as_slice()
+        || word == b"snap".as_slice()
+        || word == b"rmsnap".as_slice()
+        || word == b"unlease".as_slice()
+        || word == b"commit".as_slice()
+        || word == b"failover".as_slice()
+}
+
+fn is_later_word(word: &[u8]) -> bool
+    ensures { result ≡ is_later_word word.now }
+{
+    is_later_caller_word(word) || is_later_client_word(word) || is_later_server_word(word)
+}
+
+#[tactic(auto, unfolding(cs_laws::specs::Grammar::event_by))]
+fn event_by(word: &[u8], words: &[&[u8]]) -> Result<Event, Kind>
+    ensures { Gives (λ e. e) result (event_by word.now (texts words.now)) }
+{
+    if word == b"file".as_slice() {
+        file_from(words)
+    } else if word == b"begin".as_slice() {
+        begin_from(words)
+    } else if word == b"end".as_slice() {
+        end_from(words)
+    } else if word == b"check".as_slice() {
+        check_from(words)
+    } else if word == b"toclient".as_slice() {
+        only(1, Event::ToClient, words)
+    } else if word == b"grant".as_slice() {
+        grant_from(words)
+    } else if word == b"revoke".as_slice() {
+        revoke_from(words)
+    } else if is_later_word(word) {
+        Err(Kind::NotBuilt)
+    } else {
+        Err(Kind::Word)
+    }
+}
+
+/// The event that the words of a line spell, or what is wrong with them.
+#[tactic(auto, unfolding(cs_laws::specs::Grammar::event_of))]
+pub fn event_from(words: &[&[u8]]) -> Result<Event, Kind>
+    ensures { Gives (λ e. e) result (event_of (texts words.now)) }
+{
+    match words.get(0) {
+        Some(word) => event_by(word, words),
+        None => Err(Kind::Word),
+    }
+}

@@ -1,0 +1,16 @@
+//! Scripts: which bytes are one and which events they spell, and how an event and an entry of the
+//! journal print.
+#![tactic(auto)]
+
+mod fields;
+mod forms;
+mod lines;
+mod printing;
+mod script;
+#[cfg(test)]
+mod tests;
+
+pub use cs_laws::{Kind, ScriptFault};
+pub use lines::{ParseFault, parse};
+pub use printing::{print_entry, print_event};
+pub use script::Script;

@@ -1,0 +1,137 @@
+// Reads a script, line by line.
+ghost use Rattle.std.specs.Prelude.{◌≡◌, ◌∷◌, IfOk, true};
+ghost use Rattle.cs_laws.specs.Grammar.{in_time, is_setup, line_event, is_skipped, events_from, script_of, words_in, at_line};
+ghost use Rattle.cs_script.specs.Reading.{Gives, Reads, Pushes, texts};
+
+use crate::Script;
+use crate::forms::event_from;
+use cs_laws::{Event, Kind, RefName, ScriptFault};
+use cs_text::{Line, Lines};
+use std::alloc::{AllocError, Global};
+use thiserror::Error;
+
+/// Why a script wasn't read.
+#[derive(Clone, Copy, PartialEq, Eq, Debug, Error)]
+pub enum ParseFault {
+    /// The first bad line.
+    #[error("line {} is no line of a script", .0.line)]
+    Fault(ScriptFault),
+    /// Want of memory. It also comes for an input of more lines than a `u32` can count.
+    #[error("out of memory")]
+    Memory,
+}
+
+fn in_time(setup: bool, event: Event) -> Result<Event, Kind>
+    ensures { Gives (λ e. e) result (in_time setup event) }
+{
+    let _told: Option<RefName> = None;
+    if is_setup(&event) && !setup {
+        Err(Kind::Late)
+    } else {
+        Ok(event)
+    }
+}
+
+fn is_setup(event: &Event) -> bool
+    ensures { result ≡ is_setup event.now }
+{
+    matches!(event, Event::File { .. })
+}
+
+fn words_of(alloc: Global, line: &[u8]) -> Result<Vec<&[u8]>, AllocError>
+    ensures { IfOk result (λ v. texts v.items ≡ words_in line.now) }
+{
+    line.split(|b| *b == b' ').collect(alloc)
+}
+
+// The event of a line, where setup says whether lines that begin a script may still come.
+#[tactic(auto, unfolding(cs_laws::specs::Grammar::line_event))]
+fn event_of_line(alloc: Global, number: u32, setup: bool, line: &[u8]) -> Result<Event, ParseFault>
+    ensures { Reads (λ e. e) result (at_line number (line_event setup line.now)) }
+{
+    let _told: Option<RefName> = None;
+    let Ok(words) = words_of(alloc, line) else {
+        return Err(ParseFault::Memory);
+    };
+    match event_from(words.as_slice()) {
+        Err(kind) => Err(fault(number, kind)),
+        Ok(event) => match in_time(setup, event) {
+            Err(kind) => Err(fault(number, kind)),
+            Ok(event) => Ok(event),
+        },
+    }
+}
+
+fn fault(line: u32, kind: Kind) -> ParseFault
+    ensures { result ≡ ParseFault.Fault (record { line = line; kind = kind }) }
+{
+    ParseFault::Fault(ScriptFault { line, kind })
+}
+
+fn is_skipped(line: &[u8]) -> bool
+    ensures { result ≡ is_skipped line.now }
+{
+    line.is_empty() || line[0] == b'#'
+}
+
+// Adds the event of a line, and answers whether lines that begin a script may still follow.
+fn push_line(
+    alloc: Global,
+    events: &mut Vec<Event>,
+    number: u32,
+    setup: bool,
+    line: &[u8],
+) -> Result<bool, ParseFault>
+    ensures { Pushes events.old.items events.new.items setup result (at_line number (line_event setup line.now)) }
+{
+    let event = event_of_line(alloc, number, setup, line)?;
+    let is_setup = is_setup(&event);
+    let _told: Option<RefName> = None;
+    match events.push(event) {
+        Ok(()) => Ok(setup && is_setup),
+        Err(_) => Err(ParseFault::Memory),
+    }
+}
+
+// The events of the lines behind the header.
+fn events_behind(alloc: Global, mut lines: Lines<'_>) -> Result<Vec<Event>, ParseFault>
+    ensures { Reads (λ v. v.items) result (events_from 2 true lines.entry) }
+{
+    let mut events = Vec::new(alloc);
+    let mut setup = true;
+    let mut number = 2u32;
+    loop {
+        match lines.next_line() {
+            Line::End => return Ok(events),
+            Line::TooLong => return Err(fault(number, Kind::Long)),
+            Line::Text(line) => {
+                if !is_skipped(line) {
+                    setup = push_line(alloc, &mut events, number, setup, line)?;
+                }
+            }
+        }
+        number = match number.checked_add(1) {
+            Some(next) => next,
+            None => return Err(ParseFault::Memory),
+        };
+    }
+}
+
+/// The events of a script, or its first bad line and what is wrong with it.
+#[tactic(auto, unfolding(cs_laws::specs::Grammar::script_of))]
+pub fn parse(alloc: Global, b: &[u8]) -> Result<Script, ParseFault>
+    ensures { Reads (λ script. script) result (script_of b.now) }
+{
+    let mut lines = Lines::new(b);
+    match lines.next_line() {
+        Line::End => return Err(fault(1, Kind::Header)),
+        Line::TooLong => return Err(fault(1, Kind::Long)),
+        Line::Text(line) => {
+            if line != b"ceph-script 1".as_slice() {
+                return Err(fault(1, Kind::Header));
+            }
+        }
+    }
+    let events = events_behind(alloc, lines)?;
+    Ok(Script::from_events(events))
+}

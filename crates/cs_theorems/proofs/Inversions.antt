@@ -1,0 +1,53 @@
+-- What the answer to each event can be, with the tests that led there where a law wants them.
+use Rattle.std.proofs.Common.{◌≡◌, refl, ℕ, ◌+◌, Bool, true, false, List, [], ◌∷◌, ◌&&◌, length, nat_lt, nat_le}
+use Rattle.std.proofs.lemmas.Bool.{cond_both}
+use Rattle.cs_bits.specs.declared.Caps.{Caps}
+use Rattle.cs_bits.specs.Bits.{covers, is_empty}
+use Rattle.cs_parts.specs.Capabilities.{held_back, is_complete}
+use Rattle.cs_laws.specs.declared.events.RefName.{RefName}
+use Rattle.cs_laws.specs.declared.answers.Answer.{Answer}
+use Rattle.cs_laws.specs.declared.answers.Answer.TheVariants as a
+use Rattle.cs_laws.specs.declared.answers.Why.TheVariants as why
+use Rattle.cs_laws.specs.declared.answers.Entry.{Entry}
+use Rattle.cs_laws.specs.Events.{client_knows, begun}
+use Rattle.cs_laws.specs.History.{client, live, used}
+use Rattle.cs_laws.specs.References.{can_end}
+use Rattle.cs_laws.specs.Answers.{answer_begin, answer_end, answer_check, answer_check_of, writes}
+
+pub data BeginIs (h : List Entry) (c f : ℕ) (b : Caps) : Answer → Type 0 where
+  begin_unknown : BeginIs h c f b a.Unknown
+  begin_caps : BeginIs h c f b (a.Again why.Caps)
+  begin_max : BeginIs h c f b (a.Again why.Max)
+  begin_full : BeginIs h c f b a.Full
+  begun_ref : covers (client h f).issued b ≡ true → BeginIs h c f b (a.Ref (begun h c + 1))
+
+pub begin_is : (h : List Entry) (c f : ℕ) (b : Caps) (n : ℕ) → BeginIs h c f b (answer_begin h c f b n)
+begin_is h c f b n =
+    cond_both (client_knows h f) _ _ (BeginIs h c f b)
+    (λ _. cond_both (covers (client h f).issued b) _ _ (BeginIs h c f b)
+    (λ issued. cond_both (writes b && nat_lt (client h f).max n) _ _ (BeginIs h c f b)
+    (λ _. begin_max)
+    (λ _. cond_both (nat_le 256 (length (live h))) _ _ (BeginIs h c f b) (λ _. begin_full) (λ _. begun_ref issued)))
+    (λ _. begin_caps))
+    (λ _. begin_unknown)
+
+pub data EndIs (h : List Entry) (c : ℕ) (name : RefName) : Answer → Type 0 where
+  end_unknown : EndIs h c name a.Unknown
+  ended : can_end c name (live h) ≡ true → EndIs h c name a.Ended
+
+pub end_is : (h : List Entry) (c : ℕ) (name : RefName) → EndIs h c name (answer_end h c name)
+end_is h c name = cond_both (can_end c name (live h)) _ _ (EndIs h c name) (λ t. ended t) (λ _. end_unknown)
+
+pub data CheckIs (h : List Entry) (f : ℕ) : Answer → Type 0 where
+  check_unknown : CheckIs h f a.Unknown
+  check_nothing : CheckIs h f a.Nothing
+  check_hold : (bits : Caps) → CheckIs h f (a.Hold bits)
+  check_ack : is_empty (held_back (client h f) (used h f)) ≡ true → CheckIs h f (a.Ack (client h f).seq (client h f).issued)
+
+pub check_is : (h : List Entry) (f : ℕ) → CheckIs h f (answer_check h f)
+check_is h f =
+    cond_both (client_knows h f) _ _ (CheckIs h f)
+    (λ _. cond_both (is_complete (client h f)) _ _ (CheckIs h f)
+    (λ _. check_nothing)
+    (λ _. cond_both (is_empty (held_back (client h f) (used h f))) _ _ (CheckIs h f) (λ t. check_ack t) (λ _. check_hold _)))
+    (λ _. check_unknown)

@@ -1,0 +1,17 @@
+-- What holds of each member of a list.
+use Rattle.std.proofs.Common.{◌≡◌, refl, List, [], ◌∷◌, ◌++◌, inl, inr, ◌⊎◌, subst}
+pub use Rattle.cs_theorems.specs.Lists.{Member, Each}
+
+pub each_nil : {A : Type 0} (P : A → Type 0) → Each P []
+each_nil P x m = absurd m
+
+pub each_cons : {A : Type 0} (P : A → Type 0) (y : A) (ys : List A) → P y → Each P ys → Each P (y ∷ ys)
+each_cons P y ys p ps x (inl e) = subst P e p
+each_cons P y ys p ps x (inr m) = ps x m
+
+pub each_append : {A : Type 0} (P : A → Type 0) (xs ys : List A) → Each P xs → Each P ys → Each P (xs ++ ys)
+each_append P [] ys ps qs = qs
+each_append P (x ∷ xs) ys ps qs = each_cons P x (xs ++ ys) (ps x (inl refl)) (each_append P xs ys (λ z m. ps z (inr m)) qs)
+
+pub each_end : {A : Type 0} (P : A → Type 0) (xs : List A) (y : A) → Each P xs → P y → Each P (xs ++ y ∷ [])
+each_end P xs y ps p = each_append P xs (y ∷ []) ps (each_cons P y [] p (each_nil P))

@@ -1,0 +1,31 @@
+-- The tables don't look at the entries that are kept beside them.
+use Rattle.std.proofs.Common.{◌≡◌, ◌∙◌, sym, ap, subst, List, [], ◌∷◌, ◌++◌, reverse, Vec}
+use Rattle.std.proofs.lemmas.List.{reverse-append}
+use Rattle.std.specs.declared.alloc.Global.{Global}
+use Rattle.cs_laws.specs.declared.events.Event.{Event}
+use Rattle.cs_laws.specs.declared.answers.Answer.{Answer}
+use Rattle.cs_laws.specs.declared.answers.Entry.{Entry}
+use Rattle.cs_world.specs.declared.state.State.{State}
+use Rattle.cs_world.specs.Tables.{Refines}
+
+with_entries : (h : List Entry) (s : State) (es : Vec Entry Global) → Refines h s → Refines h (record s { entries = es })
+with_entries h s es i = record {
+  files = i.files;
+  sent_to_client = i.sent_to_client;
+  sent_to_server = i.sent_to_server;
+  live = i.live;
+  contexts = i.contexts;
+  begun = i.begun;
+  told = i.told;
+  fresh = i.fresh;
+}
+
+-- the tables after an event are those of the history with its entry
+pub after_entry : (s : State) (es : Vec Entry Global) (old : List Entry) (e copied : Event) (a told : Answer)
+    → es.items ≡ s.entries.items ++ record { event = copied; answer = told } ∷ [] → copied ≡ e → told ≡ a → s.entries.items ≡ old
+    → Refines (record { event = e; answer = a } ∷ reverse old) s → Refines (reverse es.items) (record s { entries = es })
+after_entry s es old e copied a told grown same_event same_answer kept i =
+    let x : Entry = record { event = copied; answer = told } in
+    let entered : reverse es.items ≡ x ∷ reverse old =
+    ap (λ xs. reverse xs) grown ∙ (reverse-append s.entries.items (x ∷ []) ∙ ap (λ xs. x ∷ reverse xs) kept) in
+    rw (entered, same_event, same_answer) (with_entries _ s es i)

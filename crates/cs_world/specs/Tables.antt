@@ -1,0 +1,90 @@
+-- How the tables of a world stand for its history.
+use Rattle.std.specs.Prelude.{◌≡◌, ℕ, ◌<◌, ◌≤◌, true, false, List, [], ◌∷◌, ◌++◌, if◌then◌else◌, Option, Some, None, reverse, length, slice_index, ◌==◌}
+use Rattle.std.specs.Ordering.{nat_cmp}
+use Rattle.std.specs.BTreeMap.{get, BTreeMap}
+use Rattle.std.specs.List.{AllByRecursion}
+use Rattle.cs_bits.specs.declared.Caps.{Caps}
+use Rattle.cs_parts.specs.Capabilities.{no_client_caps, no_server_caps, delivered, acknowledged}
+use Rattle.cs_laws.specs.declared.events.Event.{Event}
+use Rattle.cs_laws.specs.declared.answers.Answer.{Answer}
+use Rattle.cs_laws.specs.declared.answers.Answer.TheVariants as answers
+use Rattle.cs_laws.specs.declared.answers.Entry.{Entry}
+use Rattle.cs_laws.specs.declared.messages.Message.{Message}
+use Rattle.cs_laws.specs.declared.messages.Message.TheVariants as messages
+use Rattle.cs_laws.specs.Answers.{answer}
+use Rattle.cs_laws.specs.Events.{setup_file, begun}
+use Rattle.cs_laws.specs.History.{client, server, to_client, to_server, context_seq, live}
+use Rattle.cs_world.specs.declared.state.State.{State}
+use Rattle.cs_world.specs.declared.state.FileCaps.{FileCaps}
+
+-- the history so far, the newest entry first
+abbrev pub past : State → List Entry
+past s = reverse s.entries.items
+
+abbrev pub row : List Entry → ℕ → FileCaps
+row h f = record { client = client h f; server = server h f }
+
+-- what the table of files has at a file
+abbrev pub row_of : List Entry → ℕ → Option FileCaps
+row_of h f = if setup_file h f then Some (row h f) else None
+
+-- the message is a capability message of a known file
+abbrev pub IsToldCap : List Entry → Message → Type 0
+IsToldCap h (messages.Cap f seq bits end) = setup_file h f ≡ true
+IsToldCap h (messages.CapAck f seq bits) = ⊥
+
+-- the tables are those of the history
+pub record Refines (h : List Entry) (s : State) : Type 0 where
+  pub files : (f : ℕ) → get nat_cmp s.files f ≡ row_of h f
+  pub sent_to_client : s.to_client.items ≡ to_client h
+  pub sent_to_server : s.to_server.items ≡ to_server h
+  pub live : s.live.items ≡ live h
+  pub contexts : (f : ℕ) → context_seq h f ≡ 0
+  pub begun : (c : ℕ) → c ≤ 32 → slice_index s.begun c ≡ begun h c
+  -- the client is told of the capabilities of known files alone
+  pub told : AllByRecursion (IsToldCap h) (to_client h)
+  pub fresh : (f : ℕ) → setup_file h f ≡ false → row h f ≡ record { client = no_client_caps; server = no_server_caps }
+
+-- the tables are those of the history, and there is room for one more entry
+pub record IsReady (s : State) : Type 0 where
+  pub tables : Refines (past s) s
+  pub room : length s.entries.items < 10000
+
+-- the journal is as before
+pub record KeepsJournal (old new : State) : Type 0 where
+  pub entries : new.entries ≡ old.entries
+  pub pages : new.pages ≡ old.pages
+
+-- the answer to the event, and the tables after it
+pub record Steps (old new : State) (e : Event) (a : Answer) : Type 0 where
+  pub answer : a ≡ answer old.pages (past old) e
+  pub entries : new.entries ≡ old.entries
+  pub pages : new.pages ≡ old.pages
+  pub tables : Refines (record { event = e; answer = a } ∷ past old) new
+
+abbrev pub Files : Type 0
+Files = BTreeMap ℕ FileCaps
+
+-- the table has the row at the file, and is else as before
+abbrev pub PutsRow : Files → Files → ℕ → FileCaps → Type 0
+PutsRow old new f r = (g : ℕ) → get nat_cmp new g ≡ (if f == g then Some r else get nat_cmp old g)
+
+-- what a delivered capability message does to the table, if it has the file
+abbrev pub DeliversTo : Files → Files → ℕ → ℕ → Caps → ℕ → Answer → Option FileCaps → Type 0
+DeliversTo old new f seq bits end a None = Unit {0}
+DeliversTo old new f seq bits end a (Some r) =
+    (a ≡ answers.Cap f seq bits end) × PutsRow old new f (record { client = delivered r.client bits seq end; server = r.server })
+
+abbrev pub Delivers : Files → Files → Message → Answer → Type 0
+Delivers old new (messages.Cap f seq bits end) a = DeliversTo old new f seq bits end a (get nat_cmp old f)
+Delivers old new (messages.CapAck f seq bits) a = Unit {0}
+
+-- an acknowledgement is sent to the server
+abbrev pub Acknowledges : List Message → List Message → ℕ → Answer → Type 0
+Acknowledges old new f (answers.Ack seq bits) = new ≡ old ++ messages.CapAck f seq bits ∷ []
+Acknowledges old new f _ = new ≡ old
+
+-- an acknowledgement is entered in the table
+abbrev pub Completes : Files → Files → ℕ → FileCaps → Answer → Type 0
+Completes old new f r (answers.Ack seq bits) = PutsRow old new f (record { client = acknowledged r.client r.client.issued r.client.seq; server = r.server })
+Completes old new f r _ = new ≡ old

@@ -1,0 +1,15 @@
+//! The world of a run: one client and one server, a step for each event. Each step answers exactly
+//! what the journal's definitions say, and enters the event with its answer.
+#![tactic(auto)]
+
+mod client;
+mod references;
+mod server;
+mod setup;
+mod state;
+mod step;
+#[cfg(test)]
+mod tests;
+mod world;
+
+pub use world::{MakeFault, World};

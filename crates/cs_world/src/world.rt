@@ -1,0 +1,104 @@
+// The world, as the layer above sees it.
+ghost use Rattle.std.specs.Prelude.{◌≡◌, ◌<◌, ◌≤◌, [], ◌∷◌, true, false, reverse, length, IfOk, OnOk, IfErr, OnErr};
+ghost use Rattle.cs_laws.specs.Answers.{answer};
+ghost use Rattle.cs_laws.specs.Journal.{entry};
+ghost use Rattle.cs_laws.specs.Refusals.{is_refusal};
+ghost use Rattle.cs_theorems.specs.Refusals.{IsAsBefore};
+
+use crate::state::{State, start};
+use crate::step::step;
+use cs_laws::{Answer, Entry, Event, StepFault};
+use std::alloc::Global;
+use std::marker::Model;
+
+/// A world that wasn't made for want of memory, with what was handed in.
+pub struct MakeFault<O, L> {
+    pub store: O,
+    pub log: L,
+}
+
+/// A client and a server with the links between them, an object store and a metadata log.
+///
+/// Contracts see of it the history of its entries, the newest first, whether it is live, how many
+/// pages may be cached, and its store and log.
+#[derive(Drop)]
+pub struct World<O, L> {
+    state: State,
+    is_live: bool,
+    store: O,
+    log: L,
+}
+
+impl<O, L> Model for World<O, L> {
+    ghost use Rattle.std.specs.Prelude.{◌≡◌, true};
+    ghost use Rattle.cs_world.specs.Seen.{Seen};
+    ghost use Rattle.cs_world.specs.Tables.{past, Refines};
+
+    ghost Value = { Seen O L };
+
+    ghost view = { λ w. record { pages = w.state.pages; history = past w.state; live = w.is_live; store = w.store; log = w.log } };
+
+    ghost invariant = { λ w. w.is_live ≡ true → Refines (past w.state) w.state };
+}
+
+impl<O, L> World<O, L> {
+    /// A world before its first event, in which 1 to 1,024 pages may be cached.
+    pub fn make(alloc: Global, pages: u32, store: O, log: L) -> Result<World<O, L>, MakeFault<O, L>>
+        requires { (1 ≤ pages) × (pages ≤ 1024) }
+        ensures ok { IfOk result (λ w. w ≡ record { pages = pages; history = []; live = true; store = store; log = log }) }
+        ensures err { IfErr result (λ f. f ≡ record { store = store; log = log }) }
+    {
+        Ok(World {
+            state: start(alloc, pages),
+            is_live: true,
+            store,
+            log,
+        })
+    }
+
+    /// Does one event, and enters it with its answer. `Memory` is its one fault; the history, the
+    /// store and the log are then as before, and the world is no longer live. The room for the entry
+    /// is taken first, so that a refused event meets `Memory` only there.
+    pub fn step(&mut self, event: &Event) -> Result<Answer, StepFault>
+        requires live { self.old.live ≡ true }
+        requires room { length self.old.history < 10000 }
+        ensures answer { IfOk result (λ a. a ≡ answer self.old.pages self.old.history event.now) }
+        ensures history { OnOk result (self.new ≡ record self.old { history = entry self.old.pages self.old.history event.now ∷ self.old.history }) }
+        ensures refused { IfOk result (λ a. is_refusal event.now a ≡ true → IsAsBefore self.old.history self.new.history) }
+        ensures fault { IfErr result (λ f. f ≡ StepFault.Memory) }
+        ensures err { OnErr result (self.new ≡ record self.old { live = false }) }
+    {
+        self.is_live = false;
+        let answer = step(&mut self.state, event)?;
+        self.is_live = true;
+        Ok(answer)
+    }
+
+    /// Whether the world takes further events: no step of it met a fault.
+    pub fn is_live(&self) -> bool
+        ensures { result ≡ self.now.live }
+    {
+        self.is_live
+    }
+
+    /// The entries of the journal so far, the oldest first.
+    pub fn entries(&self) -> &[Entry]
+        ensures { result.now ≡ reverse self.now.history }
+    {
+        self.state.entries.as_slice()
+    }
+
+    /// Hands the store and the log back.
+    pub fn finish(self) -> (O, L)
+        ensures store { result.0 ≡ self.store }
+        ensures log { result.1 ≡ self.log }
+    {
+        let World {
+            state: _,
+            is_live: _,
+            store,
+            log,
+        } = self;
+        (store, log)
+    }
+}
