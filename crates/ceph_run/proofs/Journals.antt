@@ -9,24 +9,6 @@ use Rattle.cs_laws.specs.declared.answers.Entry.{Entry}
 use Rattle.cs_laws.specs.Journal.{history, journal, entry, header, lines, line, text, end_line}
 use Rattle.ceph_run.specs.Lines.{newest_line}
 
--- The history
-
-history_more : (pages : ℕ) (h : List Entry) (es : List Event) (i : ℕ) (e : Event) → i < length es → e ≡ get_or es i e
-    → history pages h (drop i es) ≡ history pages (entry pages h e ∷ h) (drop (i + 1) es)
-history_more pages h es i e inside is =
-    ap (λ xs. history pages h xs) (drop_more es i e inside)
-    ∙ ap (λ x. history pages (entry pages h x ∷ h) (drop (i + 1) es)) (sym is)
-
--- one event more
-pub history_step : (pages kept : ℕ) (h more : List Entry) (es : List Event) (i : ℕ) (e : Event) (all : List Entry) → i < length es → e ≡ get_or es i e
-    → kept ≡ pages → more ≡ entry kept h e ∷ h → history pages h (drop i es) ≡ all → history pages more (drop (i + 1) es) ≡ all
-history_step pages kept h more es i e all inside is same grown so_far =
-    rw (grown, same) (sym (history_more pages h es i e inside is) ∙ so_far)
-
--- no event is left
-pub history_all : (pages : ℕ) (h : List Entry) (es : List Event) (i : ℕ) (all : List Entry) → length es ≤ i → history pages h (drop i es) ≡ all → h ≡ all
-history_all pages h es i all le so_far = sym (ap (λ xs. history pages h xs) (drop_all i es le)) ∙ so_far
-
 -- What was written
 
 -- the line of an entry stands behind the lines before it
@@ -96,36 +78,6 @@ text_history pages h es all so_far =
           ∙ (ap (λ xs. xs ++ end) (sym (append_assoc header (lines h) more.0))
           ∙ append_assoc (header ++ lines h) more.0 end)),
     )
-
--- the text was cut behind the lines so far
-pub cut_behind : (pages : ℕ) (taken new : Option (List ℕ)) (h all : List Entry) (es : List Event) → history pages h es ≡ all
-    → Appends taken new (header ++ lines h) → AppendsFront taken new (text all)
-cut_behind pages taken new h all es so_far before =
-    let t = text_history pages h es all so_far in
-    rw t.1 (front_whole taken new (header ++ lines h) t.0 before)
-
--- the text was cut in the line of the newest entry
-pub cut_in_line : (pages : ℕ) (taken mid new : Option (List ℕ)) (h more all : List Entry) (x : Entry) (es : List Event) → more ≡ x ∷ h → history pages more es ≡ all
-    → Appends taken mid (header ++ lines h) → AppendsFront mid new (newest_line more) → AppendsFront taken new (text all)
-cut_in_line pages taken mid new h more all x es grown so_far before now =
-    let next : AppendsFront mid new (newest_line (x ∷ h)) = rw grown at now in
-    let reached : history pages (x ∷ h) es ≡ all = rw grown at so_far in
-    let t = text_history pages (x ∷ h) es all reached in
-    longer taken new ((header ++ lines h) ++ newest_line (x ∷ h)) t.0 (text all)
-    (t.1 ∙ ap (λ xs. xs ++ t.0) (sym (append_assoc header (lines h) (newest_line (x ∷ h)))))
-    (behind_whole taken mid new (header ++ lines h) (newest_line (x ∷ h)) before next)
-
--- the text was cut in its end line
-pub cut_in_end : (taken mid new : Option (List ℕ)) (h all : List Entry) (n : ℕ) → h ≡ all → n ≡ length h
-    → Appends taken mid (header ++ lines h) → AppendsFront mid new (end_line n) → AppendsFront taken new (text all)
-cut_in_end taken mid new h all n same count before now =
-    let P : List Entry → Type 0 = λ x. AppendsFront taken new (text x) in
-    let last : AppendsFront mid new (end_line (length h)) = rw count at now in
-    subst P same (behind_whole taken mid new (header ++ lines h) (end_line (length h)) before last)
-
--- the text was cut in its header
-pub cut_in_header : (taken new : Option (List ℕ)) (h : List Entry) → AppendsFront taken new header → AppendsFront taken new (text h)
-cut_in_header taken new h now = longer taken new header (lines h ++ end_line (length h)) (text h) (append_assoc header (lines h) (end_line (length h))) now
 
 -- Results
 

@@ -2,4 +2,5 @@ pub mod CommandLine
 pub mod Entries
 pub mod Journals
 pub mod Serving
+pub mod Stopping
 pub mod Writing

@@ -13,6 +13,8 @@ use Rattle.ceph_run.specs.declared.input.Refusal.TheVariants as refusals
 use Rattle.ceph_run.specs.Inputs.{judged, status_of, told, IsLawfulRun, JudgesWhole}
 use Rattle.ceph_run.specs.Served.{Devices, Served, Writes, IsFaultStatus}
 use Rattle.ceph_run.specs.Statuses.{read_status}
+use Rattle.ceph_run.specs.Stopped.{StopsIn}
+use Rattle.ceph_run.proofs.Stopping.{stops_at_once}
 
 -- The input wasn't read
 
@@ -24,6 +26,10 @@ any_some : (left : Option (List ℕ)) (P : List ℕ → Type 0) → ((b : List �
 any_some None P all = tt
 any_some (Some b) P all = all b
 
+unstarted : (pages : ℕ) (input : Input) (taken : Option (List ℕ)) → StopsIn pages input taken taken
+unstarted pages (Runs es) taken = stops_at_once pages es taken
+unstarted pages (Refused r) taken = tt
+
 pub unread : (pages : ℕ) (fault : ReadFault) (left_old left_new taken : Option (List ℕ)) (s t m : ℕ) → (fault ≡ reading.Failed → Rose s t)
     → Served pages (read_status fault) (record { left = left_old; source_faults = s; taken = taken; sink_faults = m })
     (record { left = left_new; source_faults = t; taken = taken; sink_faults = m })
@@ -34,6 +40,7 @@ unread pages reading.Failed left_old left_new taken s t m rose = record {
   source = λ e. (rose refl, keeps_same taken);
   sink = λ e. absurd (omega arith);
   cut = λ e. absurd (⊎_elim (λ x. omega arith) (λ x. omega arith) e);
+  stopped = λ e. absurd (⊎_elim (λ x. omega arith) (λ x. omega arith) e);
   decided = any_some left_old (λ b. (4 ≡ status_of (judged b)) ⊎ IsFaultStatus 4) (λ b. inr (inl refl));
   known = inr (inr (inr (inl refl)));
 }
@@ -44,6 +51,7 @@ unread pages reading.Memory left_old left_new taken s t m rose = record {
   source = λ e. absurd (omega arith);
   sink = λ e. absurd (omega arith);
   cut = λ e. any_some left_old (λ b. AppendsFront taken taken (told pages (judged b))) (λ b. (told pages (judged b), took_none taken (told pages (judged b))));
+  stopped = λ e. any_some left_old (λ b. StopsIn pages (judged b) taken taken) (λ b. unstarted pages (judged b) taken);
   decided = any_some left_old (λ b. (8 ≡ status_of (judged b)) ⊎ IsFaultStatus 8) (λ b. inr (inr (inr refl)));
   known = inr (inr (inr (inr (inr refl))));
 }
@@ -109,9 +117,10 @@ of_judged (Some b) input P is p = subst P is p
 
 pub judged_and_written : (pages status : ℕ) (input : Input) (left_old left_new taken_old taken_new : Option (List ℕ)) (s t m n : ℕ)
     → JudgesWhole left_old left_new input → Writes (status_of input) status (told pages input) taken_old taken_new m n
+    → ((status ≡ 5) ⊎ (status ≡ 8) → StopsIn pages input taken_old taken_new)
     → Served pages status (record { left = left_old; source_faults = s; taken = taken_old; sink_faults = m })
     (record { left = left_new; source_faults = t; taken = taken_new; sink_faults = n })
-judged_and_written pages status input left_old left_new taken_old taken_new s t m n j w = record {
+judged_and_written pages status input left_old left_new taken_old taken_new s t m n j w stops = record {
   done = λ e. (
     j.read (not_too_long input status w.known (inl e) (omega arith)),
     of_judged left_old input (λ x. IsLawfulRun pages x) j.is (lawful_run pages input),
@@ -123,6 +132,7 @@ judged_and_written pages status input left_old left_new taken_old taken_new s t 
   source = λ e. absurd (not_read (status_of input) status (whole_status input) w.known e);
   sink = w.sink;
   cut = λ e. of_judged left_old input (λ x. AppendsFront taken_old taken_new (told pages x)) j.is (w.cut e);
+  stopped = λ e. of_judged left_old input (λ x. StopsIn pages x taken_old taken_new) j.is (stops e);
   decided = of_judged left_old input (λ x. (status ≡ status_of x) ⊎ IsFaultStatus status) j.is (decides (status_of input) status w.known);
   known = knows (status_of input) status (whole_status input) w.known;
 }

@@ -1,5 +1,5 @@
 -- The status of what was written.
-use Rattle.std.proofs.Common.{◌≡◌, refl, ℕ, ◌<◌, ◌⊎◌, inl, inr, List, Option, Result, Ok, Err, OnOk, OnErr, IsErrOf, arith}
+use Rattle.std.proofs.Common.{◌≡◌, ◌∙◌, sym, refl, ℕ, ◌<◌, ◌⊎◌, inl, inr, List, Option, Result, Ok, Err, OnOk, OnErr, IsErrOf, arith}
 use Rattle.std.specs.Io.KnownBytes.{Appends}
 use Rattle.cs_ids.specs.Devices.{Rose}
 use Rattle.cs_io.specs.Whole.{AppendsFront}
@@ -39,3 +39,13 @@ unwritten whole bytes a m small = record {
   sink = λ e. absurd (omega arith);
   known = inr (inr refl);
 }
+
+err_of : {Q : Type 0} (whole : ℕ) (r : Result (Unit {0}) WriteFault) → whole < 4 → (write_status whole r ≡ 5) ⊎ (write_status whole r ≡ 8) → OnErr r Q → Q
+err_of whole (Ok x) small (inl e) q = absurd (omega arith)
+err_of whole (Ok x) small (inr e) q = absurd (omega arith)
+err_of whole (Err f) small e q = q
+
+-- the status of what was written, and what holds where it stopped
+pub stops : {Q : Type 0} (status whole : ℕ) (r : Result (Unit {0}) WriteFault) → status ≡ write_status whole r → whole < 4 → OnErr r Q → (status ≡ 5) ⊎ (status ≡ 8) → Q
+stops status whole r is small q (inl e) = err_of whole r small (inl (sym is ∙ e)) q
+stops status whole r is small q (inr e) = err_of whole r small (inr (sym is ∙ e)) q

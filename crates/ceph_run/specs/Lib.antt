@@ -3,3 +3,4 @@ pub mod Lines
 pub mod Refusals
 pub mod Served
 pub mod Statuses
+pub mod Stopped

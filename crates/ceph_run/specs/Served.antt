@@ -6,6 +6,7 @@ use Rattle.cs_ids.specs.Devices.{Rose}
 use Rattle.cs_io.specs.Whole.{AppendsFront}
 use Rattle.ceph_run.specs.declared.input.Input.{Input}
 use Rattle.ceph_run.specs.Inputs.{judged, status_of, told, IsLawfulRun}
+use Rattle.ceph_run.specs.Stopped.{StopsIn}
 
 -- the source and the sink at one moment: the bytes left and the bytes taken, where told, and how often each failed
 pub record Devices : Type 0 where
@@ -43,6 +44,8 @@ pub record Served (pages status : ℕ) (before after : Devices) : Type 0 where
   pub sink : status ≡ 5 → Rose before.sink_faults after.sink_faults
   -- 5 and 8: the sink took a front of what it would have taken
   pub cut : (status ≡ 5) ⊎ (status ≡ 8) → IfSome before.left (λ b. AppendsFront before.taken after.taken (told pages (judged b)))
+  -- 5 and 8 in a run: the sink took all lines before that of the last event that was done, and no byte of a later event's
+  pub stopped : (status ≡ 5) ⊎ (status ≡ 8) → IfSome before.left (λ b. StopsIn pages (judged b) before.taken after.taken)
   -- unless a fault comes first, the status is that of the input
   pub decided : IfSome before.left (λ b. (status ≡ status_of (judged b)) ⊎ IsFaultStatus status)
   pub known : (status ≡ 0) ⊎ ((status ≡ 2) ⊎ ((status ≡ 3) ⊎ IsFaultStatus status))

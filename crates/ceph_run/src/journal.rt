@@ -5,6 +5,7 @@ ghost use Rattle.cs_ids.specs.Devices.{Rose};
 ghost use Rattle.cs_io.specs.Whole.{AppendsFront};
 ghost use Rattle.cs_laws.specs.Journal.{journal, text, end_line};
 ghost use Rattle.ceph_run.specs.Lines.{newest_line};
+ghost use Rattle.ceph_run.specs.Stopped.{StopsAfter};
 
 use crate::write_fault::WriteFault;
 use cs_ids::Bytes;
@@ -15,7 +16,8 @@ use cs_world::World;
 use std::alloc::{AllocError, Global};
 
 /// Does the events in order. Writes the header first, the line of each entry after its event, and the
-/// end line last. `Memory` also stands for that of a step.
+/// end line last. After a fault the sink has all lines before that of the last event that was done,
+/// and no byte of a later event's. `Memory` also stands for that of a step.
 pub fn write_journal<K: Sink, O, L>(
     alloc: Global,
     world: &mut World<O, L>,
@@ -26,7 +28,7 @@ pub fn write_journal<K: Sink, O, L>(
     requires fresh { world.old.history ≡ [] }
     requires few { length events.now ≤ 10000 }
     ensures ok { OnOk result (Appends (K.taken sink.old) (K.taken sink.new) (text (journal world.old.pages events.now))) }
-    ensures err { OnErr result (AppendsFront (K.taken sink.old) (K.taken sink.new) (text (journal world.old.pages events.now))) }
+    ensures err { OnErr result (StopsAfter world.old.pages events.now (K.taken sink.old) (K.taken sink.new)) }
     ensures later { K.faults sink.old ≤ K.faults sink.new }
     ensures cause { IsErrOf result WriteFault.Sink → Rose (K.faults sink.old) (K.faults sink.new) }
     ensures store { world.new.store ≡ world.old.store }

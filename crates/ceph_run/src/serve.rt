@@ -1,5 +1,5 @@
 // Runs the script of a source.
-ghost use Rattle.std.specs.Prelude.{◌≡◌, ◌≤◌, length, OnOk, OnErr, IsErrOf, IfOk, string_bytes};
+ghost use Rattle.std.specs.Prelude.{◌≡◌, ◌≤◌, ◌⊎◌, length, OnOk, OnErr, IsErrOf, IfOk, string_bytes};
 ghost use Rattle.std.specs.Io.KnownBytes.{Appends};
 ghost use Rattle.cs_ids.specs.Devices.{Rose};
 ghost use Rattle.cs_io.specs.Whole.{AppendsFront};
@@ -8,6 +8,7 @@ ghost use Rattle.ceph_run.specs.Inputs.{told, status_of, IsWithinLimit};
 ghost use Rattle.ceph_run.specs.Refusals.{refusal_line, refusal_status};
 ghost use Rattle.ceph_run.specs.Served.{Served, Writes};
 ghost use Rattle.ceph_run.specs.Statuses.{read_status};
+ghost use Rattle.ceph_run.specs.Stopped.{StopsAfter, StopsIn};
 
 use crate::finished::Finished;
 use crate::input::{Input, Refusal, read_input};
@@ -68,6 +69,7 @@ fn serve_input<K: Sink, O, L>(
     requires few { IsWithinLimit input.now }
     ensures writes { Writes (status_of input.now) result.status (told pages input.now)
         (K.taken sink.old) (K.taken sink.new) (K.faults sink.old) (K.faults sink.new) }
+    ensures stopped { (result.status ≡ 5) ⊎ (result.status ≡ 8) → StopsIn pages input.now (K.taken sink.old) (K.taken sink.new) }
     ensures store { result.store ≡ store }
     ensures log { result.log ≡ log }
 {
@@ -110,7 +112,6 @@ fn refusal_text(alloc: Global, refusal: &Refusal) -> Result<String, AllocError>
 }
 
 // Does the events in a world of their own.
-#[tactic(auto, using(crate::proofs::Writing::writes))]
 fn run_events<K: Sink, O, L>(
     alloc: Global,
     pages: u32,
@@ -123,6 +124,7 @@ fn run_events<K: Sink, O, L>(
     requires few { length events.now ≤ 10000 }
     ensures writes { Writes 0 result.status (text (journal pages events.now))
         (K.taken sink.old) (K.taken sink.new) (K.faults sink.old) (K.faults sink.new) }
+    ensures stopped { (result.status ≡ 5) ⊎ (result.status ≡ 8) → StopsAfter pages events.now (K.taken sink.old) (K.taken sink.new) }
     ensures store { result.store ≡ store }
     ensures log { result.log ≡ log }
 {

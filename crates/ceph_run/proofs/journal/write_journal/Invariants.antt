@@ -1,6 +1,6 @@
-use Rattle.std.proofs.Common.{◌≡◌, ◌≤◌, ◌++◌, true, drop, length}
+use Rattle.std.proofs.Common.{◌≡◌, ◌≤◌, ◌++◌, true, take, length}
 use Rattle.std.specs.Io.KnownBytes.{Appends}
-use Rattle.cs_laws.specs.Journal.{history, journal, header, lines}
+use Rattle.cs_laws.specs.Journal.{journal, header, lines}
 use Rattle.ceph_run.proofs.journal.write_journal.Given as goal
 
 abbrev pub invariant-loop-event : goal.invariant-loop-event
@@ -8,7 +8,7 @@ invariant-loop-event g l = record {
   live : l.world.live ≡ true;
   pages : l.world.pages ≡ l.fn.world.pages;
   count : length l.world.history ≡ l.event-index;
-  journal : history l.fn.world.pages l.world.history (drop l.event-index l.events) ≡ journal l.fn.world.pages l.events;
+  done : l.world.history ≡ journal l.fn.world.pages (take l.event-index l.events);
   store : l.world.store ≡ l.fn.world.store;
   log : l.world.log ≡ l.fn.world.log;
   written : Appends (g.K.Sink.taken l.fn.sink) (g.K.Sink.taken l.sink) (header ++ lines l.world.history);

@@ -10,4 +10,4 @@ returns-in-Err-clause-served g c =
     (unread c.args.pages c.in-Err.fault _ _ _ _ _ _ (λ is. c.in-Err.ensures.failed (ap (λ f. let r : Result Input ReadFault = Err f in r) is)))
 
 pub returns-in-Ok-clause-served : goal.returns-in-Ok-clause-served
-returns-in-Ok-clause-served g c = judged_and_written c.args.pages _ c.in-Ok.input _ _ _ _ _ _ _ _ c.in-Ok.ensures.ok c.serve_input.ensures.writes
+returns-in-Ok-clause-served g c = judged_and_written c.args.pages _ c.in-Ok.input _ _ _ _ _ _ _ _ c.in-Ok.ensures.ok c.serve_input.ensures.writes c.serve_input.ensures.stopped

@@ -1,0 +1,161 @@
+-- Where the writing of a journal stops.
+use Rattle.std.proofs.Common.{◌≡◌, ◌∙◌, sym, ap, refl, subst, ℕ, zero, suc, ◌+◌, ◌<◌, ◌≤◌, ◌==◌, Bool, true, false, cond, List, [], ◌∷◌, ◌++◌, length, take, drop, get_or, Option, append_assoc, arith, Result, Ok, Err, OnErr}
+use Rattle.std.proofs.lemmas.Bool.{eqb-true}
+use Rattle.std.proofs.lemmas.Bool.Decides.{nat_tests}
+use Rattle.std.proofs.lemmas.List.{append-nil, take_all, take-append-drop, get_or_default}
+use Rattle.std.proofs.Math.Seq.{take-suc}
+use Rattle.std.specs.Io.KnownBytes.{Appends}
+use Rattle.cs_io.specs.Whole.{AppendsFront}
+use Rattle.cs_io.proofs.Known.{appends_more, appends_none}
+use Rattle.cs_laws.specs.declared.events.Event.{Event}
+use Rattle.cs_laws.specs.declared.answers.Entry.{Entry}
+use Rattle.cs_laws.specs.Journal.{history, journal, entry, header, lines, line, text, end_line}
+use Rattle.ceph_run.specs.Lines.{newest_line}
+use Rattle.ceph_run.specs.Stopped.{written_before, written_by, StopsAfter}
+use Rattle.ceph_run.proofs.Journals.{longer, behind_whole, front_whole, took_nothing, text_history}
+
+-- The journal of the events so far
+
+history-append : (pages : ℕ) (h : List Entry) (xs ys : List Event) → history pages h (xs ++ ys) ≡ history pages (history pages h xs) ys
+history-append pages h [] ys = refl
+history-append pages h (e ∷ xs) ys = history-append pages (entry pages h e ∷ h) xs ys
+
+journal-more : (pages : ℕ) (es : List Event) (i : ℕ) (e : Event) → i < length es → e ≡ get_or es i e
+    → journal pages (take (suc i) es) ≡ entry pages (journal pages (take i es)) e ∷ journal pages (take i es)
+journal-more pages es i e inside is =
+    ap (λ xs. journal pages xs) (take-suc es i e inside)
+    ∙ (history-append pages [] (take i es) (get_or es i e ∷ [])
+    ∙ ap (λ x. entry pages (journal pages (take i es)) x ∷ journal pages (take i es)) (sym is))
+
+-- one event more
+pub journal_step : (pages kept : ℕ) (h more : List Entry) (es : List Event) (i : ℕ) (e : Event) → i < length es → e ≡ get_or es i e
+    → kept ≡ pages → more ≡ entry kept h e ∷ h → h ≡ journal pages (take i es) → more ≡ journal pages (take (suc i) es)
+journal_step pages kept h more es i e inside is same grown so_far = rw (grown, same, so_far) (sym (journal-more pages es i e inside is))
+
+-- no event is left
+pub journal_all : (pages : ℕ) (h : List Entry) (es : List Event) (i : ℕ) → length es ≤ i → h ≡ journal pages (take i es) → h ≡ journal pages es
+journal_all pages h es i le so_far = so_far ∙ ap (λ xs. journal pages xs) (take_all i es le)
+
+-- What is written so far
+
+-- the lines before the last one's, and then its own
+before_begins : (pages : ℕ) (es : List Event) (n : ℕ) → n ≤ length es
+    → (part : List ℕ) × (header ++ lines (journal pages (take n es)) ≡ written_before pages es n ++ part)
+before_begins pages es zero le = (header ++ lines (journal pages (take 0 es)), refl)
+before_begins pages [] (suc n) le = absurd (omega arith)
+before_begins pages (e ∷ es) (suc n) le =
+    let h : List Entry = journal pages (take n (e ∷ es)) in
+    let x : Event = get_or (e ∷ es) n e in
+    let last : x ≡ get_or (e ∷ es) n x = get_or_default (e ∷ es) n e x (omega arith) in
+    let more = journal-more pages (e ∷ es) n x (omega arith) last in (
+      line (length h + 1) (entry pages h x),
+      ap (λ hs. header ++ lines hs) more ∙ sym (append_assoc header (lines h) (line (length h + 1) (entry pages h x))),
+    )
+
+-- all lines so far, and the end line where no event is left
+by_begins_if : (pages : ℕ) (es : List Event) (n : ℕ) (b : Bool) → (n == length es) ≡ b
+    → (behind : List ℕ) × (cond b (text (journal pages es)) (header ++ lines (journal pages (take n es))) ≡ (header ++ lines (journal pages (take n es))) ++ behind)
+by_begins_if pages es n true last =
+    let all : take n es ≡ es = take_all n es (omega (arith, eqb-true n (length es) last)) in
+    (end_line (length (journal pages es)), ap (λ xs. (header ++ lines (journal pages xs)) ++ end_line (length (journal pages es))) (sym all))
+by_begins_if pages es n false last = ([], sym (append-nil (header ++ lines (journal pages (take n es)))))
+
+by_begins : (pages : ℕ) (es : List Event) (n : ℕ) → (behind : List ℕ) × (written_by pages es n ≡ (header ++ lines (journal pages (take n es))) ++ behind)
+by_begins pages es n = by_begins_if pages es n (n == length es) refl
+
+by_all : (pages : ℕ) (es : List Event) (n : ℕ) → n ≡ length es → written_by pages es n ≡ text (journal pages es)
+by_all pages es n e = grind (arith, nat_tests, e)
+
+-- the text goes on from what is written by then
+text_begins_if : (pages : ℕ) (es : List Event) (n : ℕ) (b : Bool) → (n == length es) ≡ b
+    → (behind : List ℕ) × (text (journal pages es) ≡ cond b (text (journal pages es)) (header ++ lines (journal pages (take n es))) ++ behind)
+text_begins_if pages es n true last = ([], sym (append-nil (text (journal pages es))))
+text_begins_if pages es n false last =
+    let h : List Entry = journal pages (take n es) in
+    text_history pages h (drop n es) (journal pages es)
+    (sym (history-append pages [] (take n es) (drop n es)) ∙ ap (λ xs. journal pages xs) (take-append-drop n es))
+
+text_begins : (pages : ℕ) (es : List Event) (n : ℕ) → (behind : List ℕ) × (text (journal pages es) ≡ written_by pages es n ++ behind)
+text_begins pages es n = text_begins_if pages es n (n == length es) refl
+
+-- a front of what is written by then is a front of the text
+pub front_of_text : (pages : ℕ) (es : List Event) (old new : Option (List ℕ)) → StopsAfter pages es old new → AppendsFront old new (text (journal pages es))
+front_of_text pages es old new s =
+    let rest = text_begins pages es s.done in
+    longer old new (written_by pages es s.done) rest.0 (text (journal pages es)) rest.1 s.no_more
+
+-- Where it stops
+
+-- before anything was written
+pub stops_at_once : (pages : ℕ) (es : List Event) (a : Option (List ℕ)) → StopsAfter pages es a a
+stops_at_once pages es a = record {
+  done = 0;
+  few = omega arith;
+  lines = ([], appends_none a);
+  no_more = took_nothing a (written_by pages es 0);
+}
+
+-- in the header
+pub stops_in_header : (pages : ℕ) (es : List Event) (old new : Option (List ℕ)) → AppendsFront old new header → StopsAfter pages es old new
+stops_in_header pages es old new t =
+    let upto = by_begins pages es 0 in
+    record {
+      done = 0;
+      few = omega arith;
+      lines = (t.1.front, t.1.taken);
+      no_more = longer old new header (lines (journal pages (take 0 es)) ++ upto.0) (written_by pages es 0) (upto.1 ∙ append_assoc header (lines (journal pages (take 0 es))) upto.0) t;
+    }
+
+-- before an event
+pub stops_before : (pages : ℕ) (es : List Event) (n : ℕ) (h : List Entry) (old new : Option (List ℕ)) → n ≤ length es → h ≡ journal pages (take n es)
+    → Appends old new (header ++ lines h) → StopsAfter pages es old new
+stops_before pages es n h old new few so_far taken =
+    let upto = by_begins pages es n in
+    let from = before_begins pages es n few in
+    let all : Appends old new (header ++ lines (journal pages (take n es))) = rw so_far at taken in
+    record {
+      done = n;
+      few = few;
+      lines = (from.0, rw from.1 at all);
+      no_more = rw upto.1 (front_whole old new (header ++ lines (journal pages (take n es))) upto.0 all);
+    }
+
+-- in the line of an event
+pub stops_in_line : (pages : ℕ) (es : List Event) (i : ℕ) (h more : List Entry) (x : Entry) (old mid new : Option (List ℕ)) → i < length es
+    → h ≡ journal pages (take i es) → more ≡ x ∷ h → more ≡ journal pages (take (suc i) es)
+    → Appends old mid (header ++ lines h) → AppendsFront mid new (newest_line more) → StopsAfter pages es old new
+stops_in_line pages es i h more x old mid new inside so_far grown stepped taken now =
+    let upto = by_begins pages es (suc i) in
+    let last : AppendsFront mid new (newest_line (x ∷ h)) = rw grown at now in
+    let all : AppendsFront old new ((header ++ lines h) ++ newest_line (x ∷ h)) = behind_whole old mid new (header ++ lines h) (newest_line (x ∷ h)) taken last in
+    let same : (header ++ lines h) ++ newest_line (x ∷ h) ≡ header ++ lines (journal pages (take (suc i) es)) =
+    append_assoc header (lines h) (newest_line (x ∷ h)) ∙ ap (λ hs. header ++ lines hs) (sym grown ∙ stepped) in
+    let P : List ℕ → Type 0 = λ xs. Appends old new (xs ++ last.1.front) in
+    record {
+      done = suc i;
+      few = omega arith;
+      lines = (last.1.front, subst P (ap (λ hs. header ++ lines hs) so_far) (appends_more old mid new (header ++ lines h) last.1.front taken last.1.taken));
+      no_more = longer old new ((header ++ lines h) ++ newest_line (x ∷ h)) upto.0 (written_by pages es (suc i)) (upto.1 ∙ ap (λ xs. xs ++ upto.0) (sym same)) all;
+    }
+
+-- in the end line
+pub stops_in_end : (pages : ℕ) (es : List Event) (n k : ℕ) (h : List Entry) (old mid new : Option (List ℕ)) → n ≡ length es → h ≡ journal pages (take n es) → k ≡ length h
+    → Appends old mid (header ++ lines h) → AppendsFront mid new (end_line k) → StopsAfter pages es old new
+stops_in_end pages es n k h old mid new all so_far count taken now =
+    let from = before_begins pages es n (omega arith) in
+    let end : AppendsFront mid new (end_line (length h)) = rw count at now in
+    let whole : h ≡ journal pages es = journal_all pages h es n (omega arith) so_far in
+    let written = behind_whole old mid new (header ++ lines h) (end_line (length h)) taken end in
+    let P : List Entry → Type 0 = λ hs. AppendsFront old new (text hs) in
+    let Q : List ℕ → Type 0 = λ xs. Appends old new xs in
+    record {
+      done = n;
+      few = omega arith;
+      lines = (
+        from.0 ++ end.1.front,
+        subst Q
+            (ap (λ xs. xs ++ end.1.front) (ap (λ hs. header ++ lines hs) so_far ∙ from.1) ∙ append_assoc (written_before pages es n) from.0 end.1.front)
+            (appends_more old mid new (header ++ lines h) end.1.front taken end.1.taken),
+      );
+      no_more = rw (by_all pages es n all) (subst P whole written);
+    }
