@@ -1,2 +1,5 @@
+pub mod Absent
+pub mod Checks
+pub mod Completes
 pub mod Kept
 pub mod Rows

@@ -1,10 +1,13 @@
 -- How the tables of a world stand for its history.
-use Rattle.std.specs.Prelude.{◌≡◌, ℕ, ◌<◌, ◌≤◌, true, false, List, [], ◌∷◌, ◌++◌, if◌then◌else◌, Option, Some, None, reverse, length, slice_index, ◌==◌}
+use Rattle.std.specs.Prelude.{◌≡◌, ℕ, ◌<◌, true, false, List, ◌∷◌, if◌then◌else◌, Option, Some, None, reverse, length, ◌==◌}
 use Rattle.std.specs.Ordering.{nat_cmp}
 use Rattle.std.specs.BTreeMap.{get, BTreeMap}
 use Rattle.std.specs.List.{AllByRecursion}
 use Rattle.cs_bits.specs.declared.Caps.{Caps}
 use Rattle.cs_parts.specs.Capabilities.{no_client_caps, no_server_caps, delivered, acknowledged}
+use Rattle.cs_caps.specs.declared.client.Done.{Done}
+use Rattle.cs_caps.specs.declared.client.Done.TheVariants as done
+use Rattle.cs_caps.specs.Client.{completion}
 use Rattle.cs_laws.specs.declared.events.Event.{Event}
 use Rattle.cs_laws.specs.declared.answers.Answer.{Answer}
 use Rattle.cs_laws.specs.declared.answers.Answer.TheVariants as answers
@@ -14,6 +17,7 @@ use Rattle.cs_laws.specs.declared.messages.Message.TheVariants as messages
 use Rattle.cs_laws.specs.Answers.{answer}
 use Rattle.cs_laws.specs.Events.{setup_file, begun}
 use Rattle.cs_laws.specs.History.{client, server, to_client, to_server, context_seq, live}
+use Rattle.cs_refs.specs.Table.{begun_of}
 use Rattle.cs_world.specs.declared.state.State.{State}
 use Rattle.cs_world.specs.declared.state.FileCaps.{FileCaps}
 
@@ -23,6 +27,10 @@ past s = reverse s.entries.items
 
 abbrev pub row : List Entry → ℕ → FileCaps
 row h f = record { client = client h f; server = server h f }
+
+-- the row of a file of which nothing was granted yet
+abbrev pub new_row : FileCaps
+new_row = record { client = no_client_caps; server = no_server_caps }
 
 -- what the table of files has at a file
 abbrev pub row_of : List Entry → ℕ → Option FileCaps
@@ -38,12 +46,12 @@ pub record Refines (h : List Entry) (s : State) : Type 0 where
   pub files : (f : ℕ) → get nat_cmp s.files f ≡ row_of h f
   pub sent_to_client : s.to_client.items ≡ to_client h
   pub sent_to_server : s.to_server.items ≡ to_server h
-  pub live : s.live.items ≡ live h
+  pub live : s.refs.live ≡ live h
   pub contexts : (f : ℕ) → context_seq h f ≡ 0
-  pub begun : (c : ℕ) → c ≤ 32 → slice_index s.begun c ≡ begun h c
+  pub begun : (c : ℕ) → begun_of c s.refs ≡ begun h c
   -- the client is told of the capabilities of known files alone
   pub told : AllByRecursion (IsToldCap h) (to_client h)
-  pub fresh : (f : ℕ) → setup_file h f ≡ false → row h f ≡ record { client = no_client_caps; server = no_server_caps }
+  pub fresh : (f : ℕ) → setup_file h f ≡ false → row h f ≡ new_row
 
 -- the tables are those of the history, and there is room for one more entry
 pub record IsReady (s : State) : Type 0 where
@@ -79,12 +87,19 @@ abbrev pub Delivers : Files → Files → Message → Answer → Type 0
 Delivers old new (messages.Cap f seq bits end) a = DeliversTo old new f seq bits end a (get nat_cmp old f)
 Delivers old new (messages.CapAck f seq bits) a = Unit {0}
 
--- an acknowledgement is sent to the server
-abbrev pub Acknowledges : List Message → List Message → ℕ → Answer → Type 0
-Acknowledges old new f (answers.Ack seq bits) = new ≡ old ++ messages.CapAck f seq bits ∷ []
-Acknowledges old new f _ = new ≡ old
+-- the table says the same of each file
+abbrev pub SameRows : Files → Files → Type 0
+SameRows old new = (g : ℕ) → get nat_cmp new g ≡ get nat_cmp old g
 
--- an acknowledgement is entered in the table
-abbrev pub Completes : Files → Files → ℕ → FileCaps → Answer → Type 0
-Completes old new f r (answers.Ack seq bits) = PutsRow old new f (record { client = acknowledged r.client r.client.issued r.client.seq; server = r.server })
-Completes old new f r _ = new ≡ old
+-- only an acknowledgement changes the table
+abbrev pub CompletesBy : Files → Files → ℕ → FileCaps → Done → Type 0
+CompletesBy old new f r (done.Ack seq bits) = PutsRow old new f (record { client = acknowledged r.client bits seq; server = r.server })
+CompletesBy old new f r (done.Hold bits) = SameRows old new
+CompletesBy old new f r done.Nothing = SameRows old new
+
+-- what the client does about a file that the table has, by the bits in use
+abbrev pub CompletesIn : Files → Files → ℕ → Caps → Option Done → Option FileCaps → Type 0
+CompletesIn old new f used None None = SameRows old new
+CompletesIn old new f used (Some d) (Some r) = (completion r.client used ≡ d) × CompletesBy old new f r d
+CompletesIn old new f used None (Some r) = ⊥
+CompletesIn old new f used (Some d) None = ⊥

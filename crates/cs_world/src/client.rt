@@ -1,16 +1,16 @@
 // The client's events: deliveries and checks.
-ghost use Rattle.std.specs.Prelude.{◌≡◌, ◌∷◌, [], ◌++◌, IfOk, OnErr, OnOk};
+ghost use Rattle.std.specs.Prelude.{IfOk, OnErr};
 ghost use Rattle.cs_laws.specs.declared.events.Event.TheVariants as events;
-ghost use Rattle.cs_laws.specs.Answers.{answer_check_of};
-ghost use Rattle.cs_parts.specs.References.{used_in};
-ghost use Rattle.cs_world.specs.Tables.{Steps, KeepsJournal, IsReady, Delivers, Completes, Acknowledges};
+ghost use Rattle.cs_world.specs.Tables.{Steps, KeepsJournal, IsReady, Delivers, CompletesIn};
+ghost use Rattle.std.specs.Ordering.{nat_cmp};
+ghost use Rattle.std.specs.BTreeMap.{get};
 
-use crate::state::{FileCaps, State, look_up, put};
+use crate::state::{FileCaps, State};
 use cs_bits::Caps;
+use cs_caps::Done;
 use cs_ids::{Ino, Memory};
 use cs_laws::{Answer, Message};
-use cs_parts::{ClientCaps, Live};
-use std::collections::{BTreeMap, VecDeque};
+use std::collections::BTreeMap;
 
 pub fn to_client(state: &mut State) -> Result<Answer, Memory>
     requires { IsReady state.old }
@@ -20,12 +20,12 @@ pub fn to_client(state: &mut State) -> Result<Answer, Memory>
     let Some(message) = state.to_client.pop_front() else {
         return Ok(Answer::Idle);
     };
-    deliver(&mut state.files, &message)
+    Ok(deliver(&mut state.files, &message))
 }
 
 // A message of the other way is never on its way to the client.
-fn deliver(files: &mut BTreeMap<Ino, FileCaps>, message: &Message) -> Result<Answer, Memory>
-    ensures { IfOk result (λ a. Delivers files.old files.new message.now a) }
+fn deliver(files: &mut BTreeMap<Ino, FileCaps>, message: &Message) -> Answer
+    ensures { Delivers files.old files.new message.now result }
 {
     let Message::Cap {
         file,
@@ -34,93 +34,46 @@ fn deliver(files: &mut BTreeMap<Ino, FileCaps>, message: &Message) -> Result<Ans
         max,
     } = message
     else {
-        return Ok(Answer::Idle);
+        return Answer::Idle;
     };
-    let Some(caps) = look_up(files, *file) else {
-        return Ok(Answer::Idle);
+    let Some(caps) = files.get_mut(file) else {
+        return Answer::Idle;
     };
-    let client = caps.client.delivered(*bits, *seq, *max);
-    put(files, *file, client, caps.server)?;
-    Ok(Answer::Cap {
+    caps.client.deliver(*bits, *seq, *max);
+    Answer::Cap {
         file: *file,
         seq: *seq,
         bits: *bits,
         max: *max,
-    })
+    }
 }
 
+#[tactic(auto, using(crate::proofs::Checks::says_nothing, crate::proofs::Checks::says_hold, crate::proofs::Checks::says_ack))]
 pub fn check(state: &mut State, file: Ino) -> Result<Answer, Memory>
     requires { IsReady state.old }
     ensures ok { IfOk result (λ a. Steps state.old state.new (events.Check file) a) }
     ensures err { OnErr result (KeepsJournal state.old state.new) }
 {
-    let Some(caps) = look_up(&state.files, file) else {
+    let used = state.refs.used(file);
+    let Some(done) = complete(&mut state.files, file, used) else {
         return Ok(Answer::Unknown);
     };
-    let in_use = used(state.live.as_slice(), file);
-    let answer = checked(&caps.client, in_use);
-    acknowledge(&mut state.to_server, file, &answer)?;
-    complete(&mut state.files, file, caps, &answer)?;
-    Ok(answer)
-}
-
-// The bits of the live references to a file.
-fn used(live: &[Live], file: Ino) -> Caps
-    ensures { result ≡ used_in file live.now }
-{
-    let mut used = Caps::none();
-    let mut i = live.len();
-    while i > 0 {
-        i -= 1;
-        let r = &live[i];
-        if r.file == file {
-            used = r.bits.union(used);
+    match done {
+        Done::Nothing => Ok(Answer::Nothing),
+        Done::Hold { bits } => Ok(Answer::Hold { bits }),
+        Done::Ack { seq, bits } => {
+            state
+                .to_server
+                .push_back(Message::CapAck { file, seq, bits })?;
+            Ok(Answer::Ack { seq, bits })
         }
     }
-    used
 }
 
-fn checked(client: &ClientCaps, in_use: Caps) -> Answer
-    ensures { result ≡ answer_check_of client.now in_use }
+// Acknowledges what a file's client end was told, as far as the bits in use allow it.
+fn complete(files: &mut BTreeMap<Ino, FileCaps>, file: Ino, used: Caps) -> Option<Done>
+    ensures { CompletesIn files.old files.new file used result (get nat_cmp files.old file) }
 {
-    if client.is_complete() {
-        return Answer::Nothing;
-    }
-    let held_back = client.held_back(in_use);
-    if held_back.is_none() {
-        Answer::Ack {
-            seq: client.seq,
-            bits: client.issued,
-        }
-    } else {
-        Answer::Hold { bits: held_back }
-    }
-}
-
-fn acknowledge(to_server: &mut VecDeque<Message>, file: Ino, answer: &Answer) -> Result<(), Memory>
-    ensures { OnOk result (Acknowledges to_server.old.items to_server.new.items file answer.now) }
-{
-    if let Answer::Ack { seq, bits } = answer {
-        to_server.push_back(Message::CapAck {
-            file,
-            seq: *seq,
-            bits: *bits,
-        })?;
-    }
-    Ok(())
-}
-
-fn complete(
-    files: &mut BTreeMap<Ino, FileCaps>,
-    file: Ino,
-    caps: FileCaps,
-    answer: &Answer,
-) -> Result<(), Memory>
-    ensures { OnOk result (Completes files.old files.new file caps answer.now) }
-{
-    if let Answer::Ack { .. } = answer {
-        let client = caps.client.acknowledged();
-        put(files, file, client, caps.server)?;
-    }
-    Ok(())
+    let caps = files.get_mut(&file)?;
+    Some(caps.client.complete(used))
 }

@@ -3,7 +3,7 @@ ghost use Rattle.std.specs.Prelude.{IfOk, OnErr};
 ghost use Rattle.cs_laws.specs.declared.events.Event.TheVariants as events;
 ghost use Rattle.cs_world.specs.Tables.{Steps, KeepsJournal, IsReady};
 
-use crate::state::{State, look_up, put, send_cap};
+use crate::state::{State, send_cap};
 use cs_bits::Caps;
 use cs_ids::{Ino, Memory};
 use cs_laws::Answer;
@@ -13,17 +13,11 @@ pub fn grant(state: &mut State, file: Ino, bits: Caps, max: u32) -> Result<Answe
     ensures ok { IfOk result (λ a. Steps state.old state.new (events.Grant file bits max) a) }
     ensures err { OnErr result (KeepsJournal state.old state.new) }
 {
-    let Some(caps) = look_up(&state.files, file) else {
+    let Some(caps) = state.files.get_mut(&file) else {
         return Ok(Answer::Unknown);
     };
-    let server = caps.server.granted(bits, max);
-    let answer = Answer::SentCap {
-        seq: server.seq,
-        held: server.held,
-    };
-    send_cap(&mut state.to_client, file, &server)?;
-    put(&mut state.files, file, caps.client, server)?;
-    Ok(answer)
+    caps.server.grant(bits, max);
+    send_cap(&mut state.to_client, file, &caps.server)
 }
 
 pub fn revoke(state: &mut State, file: Ino, bits: Caps) -> Result<Answer, Memory>
@@ -31,15 +25,9 @@ pub fn revoke(state: &mut State, file: Ino, bits: Caps) -> Result<Answer, Memory
     ensures ok { IfOk result (λ a. Steps state.old state.new (events.Revoke file bits) a) }
     ensures err { OnErr result (KeepsJournal state.old state.new) }
 {
-    let Some(caps) = look_up(&state.files, file) else {
+    let Some(caps) = state.files.get_mut(&file) else {
         return Ok(Answer::Unknown);
     };
-    let server = caps.server.revoked(bits);
-    let answer = Answer::SentCap {
-        seq: server.seq,
-        held: server.held,
-    };
-    send_cap(&mut state.to_client, file, &server)?;
-    put(&mut state.files, file, caps.client, server)?;
-    Ok(answer)
+    caps.server.revoke(bits);
+    send_cap(&mut state.to_client, file, &caps.server)
 }

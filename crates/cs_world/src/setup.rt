@@ -3,10 +3,9 @@ ghost use Rattle.std.specs.Prelude.{IfOk, OnErr};
 ghost use Rattle.cs_laws.specs.declared.events.Event.TheVariants as events;
 ghost use Rattle.cs_world.specs.Tables.{Steps, KeepsJournal, IsReady};
 
-use crate::state::{State, put};
+use crate::state::{State, add_file};
 use cs_ids::{Ino, Memory};
 use cs_laws::Answer;
-use cs_parts::{ClientCaps, ServerCaps};
 
 pub fn file(state: &mut State, file: Ino, parent: Ino) -> Result<Answer, Memory>
     requires { IsReady state.old }
@@ -19,11 +18,6 @@ pub fn file(state: &mut State, file: Ino, parent: Ino) -> Result<Answer, Memory>
     if parent.get() != 1 {
         return Ok(Answer::NoDir);
     }
-    put(
-        &mut state.files,
-        file,
-        ClientCaps::none(),
-        ServerCaps::none(),
-    )?;
+    add_file(&mut state.files, file)?;
     Ok(Answer::Made)
 }

@@ -1,21 +1,21 @@
 // The journal so far, and the tables that are kept beside it.
-ghost use Rattle.std.specs.Prelude.{◌≡◌, ℕ, [], ◌∷◌, ◌++◌, ◌==◌, if◌then◌else◌, Some, OnOk};
-ghost use Rattle.std.specs.Ordering.{nat_cmp};
-ghost use Rattle.std.specs.BTreeMap.{get};
+ghost use Rattle.std.specs.Prelude.{◌≡◌, [], ◌∷◌, ◌++◌, OnOk, IfOk};
+ghost use Rattle.cs_laws.specs.Answers.{sent_cap};
 ghost use Rattle.cs_laws.specs.Flight.{cap_message};
-ghost use Rattle.cs_world.specs.Tables.{Refines};
+ghost use Rattle.cs_world.specs.Tables.{Refines, PutsRow, new_row};
 
+use cs_caps::{Cap, Held};
 use cs_ids::{Ino, Memory};
-use cs_laws::{Entry, Message};
-use cs_parts::{ClientCaps, Live, ServerCaps};
+use cs_laws::{Answer, Entry, Message};
+use cs_refs::Refs;
 use std::alloc::Global;
 use std::collections::{BTreeMap, VecDeque};
 
 /// Both ends of a file's capabilities.
-#[derive(Clone, Copy)]
+#[derive(Drop)]
 pub struct FileCaps {
-    pub client: ClientCaps,
-    pub server: ServerCaps,
+    pub client: Cap,
+    pub server: Held,
 }
 
 /// The entries of the journal, the oldest first, and what each event reads and writes of them.
@@ -27,9 +27,7 @@ pub struct State {
     pub files: BTreeMap<Ino, FileCaps>,
     pub to_client: VecDeque<Message>,
     pub to_server: VecDeque<Message>,
-    pub live: Vec<Live>,
-    /// How many references each caller has begun.
-    pub begun: [u64; 33],
+    pub refs: Refs,
 }
 
 pub fn start(alloc: Global, pages: u32) -> State
@@ -44,27 +42,19 @@ pub fn start(alloc: Global, pages: u32) -> State
         files: BTreeMap::new(alloc),
         to_client: VecDeque::new(alloc),
         to_server: VecDeque::new(alloc),
-        live: Vec::new(alloc),
-        begun: [0; 33],
+        refs: Refs::new(alloc),
     }
 }
 
-pub fn look_up(files: &BTreeMap<Ino, FileCaps>, file: Ino) -> Option<FileCaps>
-    ensures { result ≡ get nat_cmp files.now file }
+/// Adds a file, of which nothing was granted yet.
+pub fn add_file(files: &mut BTreeMap<Ino, FileCaps>, file: Ino) -> Result<(), Memory>
+    ensures { OnOk result (PutsRow files.old files.new file new_row) }
 {
-    files.get(&file).copied()
-}
-
-pub fn put(
-    files: &mut BTreeMap<Ino, FileCaps>,
-    file: Ino,
-    client: ClientCaps,
-    server: ServerCaps,
-) -> Result<(), Memory>
-    ensures { OnOk result ((f : ℕ) → get nat_cmp files.new f
-        ≡ (if file == f then Some (record { client = client; server = server }) else get nat_cmp files.old f)) }
-{
-    files.insert(file, FileCaps { client, server })?;
+    let caps = FileCaps {
+        client: Cap::new(),
+        server: Held::new(),
+    };
+    files.insert(file, caps)?;
     Ok(())
 }
 
@@ -72,15 +62,19 @@ pub fn put(
 pub fn send_cap(
     to_client: &mut VecDeque<Message>,
     file: Ino,
-    server: &ServerCaps,
-) -> Result<(), Memory>
-    ensures { OnOk result (to_client.new.items ≡ to_client.old.items ++ cap_message file server.now ∷ []) }
+    server: &Held,
+) -> Result<Answer, Memory>
+    ensures sent { OnOk result (to_client.new.items ≡ to_client.old.items ++ cap_message file server.now ∷ []) }
+    ensures answer { IfOk result (λ a. a ≡ sent_cap server.now) }
 {
     to_client.push_back(Message::Cap {
         file,
-        seq: server.seq,
-        bits: server.given,
-        max: server.max,
+        seq: server.seq(),
+        bits: server.given(),
+        max: server.max(),
     })?;
-    Ok(())
+    Ok(Answer::SentCap {
+        seq: server.seq(),
+        held: server.held(),
+    })
 }

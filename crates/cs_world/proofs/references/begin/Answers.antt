@@ -4,9 +4,7 @@ use Rattle.cs_theorems.proofs.Growth.{begun_small}
 use Rattle.cs_world.specs.Tables.{past}
 use Rattle.cs_world.proofs.references.begin.Goals as goal
 
-pub draw-number-requires-clause-room : goal.draw-number-requires-clause-room
-draw-number-requires-clause-room c =
+pub begin-requires : goal.begin-requires
+begin-requires c =
     let s = c.args.state.now in
-    let few = begun_small (past s) c.args.caller in
-    let same = c.requires.tables.begun c.args.caller (omega (arith, c.get-index.ensures.range, c.get-index.ensures.value)) in
-    rw (c.get-index.ensures.value, same) (omega (arith, few, c.requires.room, length-reverse s.entries.items))
+    rw (c.requires.tables.begun c.args.caller) (omega (arith, begun_small (past s) c.args.caller, c.requires.room, length-reverse s.entries.items))

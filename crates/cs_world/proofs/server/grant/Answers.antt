@@ -1,10 +1,11 @@
 use Rattle.std.proofs.Common.{◌∙◌, sym, arith}
 use Rattle.std.proofs.lemmas.List.{length-reverse}
-use Rattle.cs_world.proofs.Rows.{row_seq_small}
 use Rattle.cs_world.specs.Tables.{past}
+use Rattle.cs_world.proofs.Rows.{row_seq_small}
 use Rattle.cs_world.proofs.server.grant.Goals as goal
 
-pub granted-server-requires : goal.granted-server-requires
-granted-server-requires c =
+pub grant-requires : goal.grant-requires
+grant-requires c =
     let s = c.args.state.now in
-    row_seq_small (past s) c.args.file c.in-Some.caps (sym (c.requires.tables.files c.args.file) ∙ (sym c.look_up.ensures ∙ c.in-Some.is)) (omega (arith, length-reverse s.entries.items))
+    row_seq_small (past s) c.args.file c.in-Some.caps.now (sym (c.requires.tables.files c.args.file) ∙ sym c.in-Some.ensures.value)
+    (omega (arith, c.requires.room, length-reverse s.entries.items))

@@ -1,6 +1,6 @@
 use Rattle.std.proofs.Common.{◌≡◌, ◌≤◌, drop, length}
 use Rattle.cs_parts.specs.References.{used_in}
-use Rattle.cs_world.proofs.client.used.Given as goal
+use Rattle.cs_refs.proofs.used.used_by.Given as goal
 
 abbrev pub invariant-loop-i : goal.invariant-loop-i
 invariant-loop-i l = record {

@@ -1,0 +1,12 @@
+use Rattle.std.proofs.Common.{rules, sym}
+use Rattle.cs_world.specs.Tables.{Files, PutsRow}
+use Rattle.cs_world.proofs.Completes.{completes}
+use Rattle.cs_world.proofs.client.complete.Goals as goal
+
+pub returns : goal.returns
+returns c =
+    let row = c.in_ok-caps.caps.now in
+    let new : Files = c.get_mut.follows.lender record { client = c.complete.new.self; server = row.server } in
+    let put : PutsRow c.args.files.now new c.args.file (record { client = c.complete.new.self; server = row.server }) = λ g. search rules in
+    completes c.args.files.now new c.args.file c.args.used row c.complete.result c.complete.new.self (sym c.in_ok-caps.ensures.value)
+      c.complete.ensures.answer c.complete.ensures.after put
