@@ -1,12 +1,12 @@
 -- A journal that grows, entry by entry, and what is written of it.
-use Rattle.std.proofs.Common.{◌≡◌, ◌∙◌, sym, ap, refl, ℕ, ◌+◌, ◌<◌, ◌≤◌, List, [], ◌∷◌, ◌++◌, length, drop, get_or, Option, append_assoc, subst, Result, Ok, Err, OnOk, OnErr}
-use Rattle.std.proofs.lemmas.List.{drop_more, drop_all, append-nil}
+use Rattle.std.proofs.Common.{◌≡◌, ◌∙◌, sym, ap, refl, ℕ, ◌+◌, List, [], ◌∷◌, ◌++◌, length, Option, append_assoc, subst, Result, Ok, Err, OnOk, OnErr}
+use Rattle.std.proofs.lemmas.List.{append-nil}
 use Rattle.std.specs.Io.KnownBytes.{Appends}
-use Rattle.cs_io.specs.Whole.{AppendsFront, TookFront}
+use Rattle.cs_io.specs.Whole.{AppendsFront}
 use Rattle.cs_io.proofs.Known.{appends_more, took_none}
 use Rattle.cs_laws.specs.declared.events.Event.{Event}
 use Rattle.cs_laws.specs.declared.answers.Entry.{Entry}
-use Rattle.cs_laws.specs.Journal.{history, journal, entry, header, lines, line, text, end_line}
+use Rattle.cs_laws.specs.Journal.{history, entry, header, lines, line, text, end_line}
 use Rattle.ceph_run.specs.Lines.{newest_line}
 
 -- What was written

@@ -1,6 +1,6 @@
 -- How a run ends, from what was read and what was written.
-use Rattle.std.proofs.Common.{◌≡◌, ◌≢◌, ◌∙◌, sym, ap, subst, refl, ℕ, ◌<◌, ◌⊎◌, ⊎_elim, inl, inr, List, Option, Some, None, IfSome, IsErrOf, Ok, Err, Result, arith}
-use Rattle.std.specs.Io.KnownBytes.{Appends, IsAtEnd, Keeps}
+use Rattle.std.proofs.Common.{◌≡◌, ◌≢◌, ◌∙◌, ap, subst, refl, ℕ, ◌<◌, ◌⊎◌, ⊎_elim, inl, inr, List, Option, Some, None, IfSome, arith}
+use Rattle.std.specs.Io.KnownBytes.{Appends, Keeps}
 use Rattle.cs_ids.specs.Devices.{Rose}
 use Rattle.cs_io.specs.Whole.{AppendsFront}
 use Rattle.cs_io.specs.declared.whole.ReadFault.{ReadFault}
@@ -11,7 +11,7 @@ use Rattle.ceph_run.specs.declared.input.Input.{Input}
 use Rattle.ceph_run.specs.declared.input.Input.TheVariants.{Refused, Runs}
 use Rattle.ceph_run.specs.declared.input.Refusal.TheVariants as refusals
 use Rattle.ceph_run.specs.Inputs.{judged, status_of, told, IsLawfulRun, JudgesWhole}
-use Rattle.ceph_run.specs.Served.{Devices, Served, Writes, IsFaultStatus}
+use Rattle.ceph_run.specs.Served.{Served, Writes, IsFaultStatus}
 use Rattle.ceph_run.specs.Statuses.{read_status}
 use Rattle.ceph_run.specs.Stopped.{StopsIn}
 use Rattle.ceph_run.proofs.Stopping.{stops_at_once}

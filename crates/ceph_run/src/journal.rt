@@ -46,7 +46,7 @@ pub fn write_journal<K: Sink, O, L>(
     write_end(alloc, count, sink)
 }
 
-// Writes the line of the newest entry.
+// Writes the line of the newest entry, and nothing where there is none.
 fn write_newest<K: Sink, O, L>(
     world: &World<O, L>,
     line: &mut Bytes,

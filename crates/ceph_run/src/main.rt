@@ -19,7 +19,7 @@ use std::rt::Env;
 use std::{env, io};
 
 // The words behind the program's name. A word that isn't UTF-8 makes a faulty command line, as no
-// words do.
+// words do. The one other error of the words is want of memory.
 fn words(rt: &(impl Env + AllocGlobal)) -> io::Result<Vec<String>> {
     let mut words = Vec::new(rt.alloc());
     match env::args(rt) {

@@ -20,8 +20,11 @@ use cs_world::{MakeFault, World};
 use std::alloc::{AllocError, Global};
 
 /// Reads the whole input, parses it, does the events in order and writes the journal as they are
-/// done. An input that is no script or exceeds a limit is refused by a line of its own. 1 to 1,024
-/// pages may be cached. The store and the log are handed back as they came.
+/// done. 1 to 1,024 pages may be cached. The store and the log are handed back as they came.
+///
+/// The status is 0 where all was written. An input that is no script is refused by a line of its own
+/// with status 2, and one that exceeds a limit, 1,048,576 bytes or 10,000 events, with status 3. Where
+/// the source fails the status is 4, where the sink fails 5, and 8 for want of memory.
 pub fn serve_run<S: Source, K: Sink, O, L>(
     alloc: Global,
     pages: u32,

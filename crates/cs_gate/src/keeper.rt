@@ -65,7 +65,7 @@ impl Keeper {
         self.state
     }
 
-    /// Shuts the gate: from now on no pass comes in.
+    /// Shuts the gate, which must be open: from now on no pass comes in.
     pub fn shut(&mut self)
         requires { IsTrue (is_open self.old.state) }
         ensures { self.new ≡ record self.old { state = KeeperState.Shut (keeper_generation self.old.state) } }
@@ -75,7 +75,7 @@ impl Keeper {
         self.state = KeeperState::Shut(self.state.generation());
     }
 
-    /// Reads how many passes are inside or turning back. The keeper is drained from then on where
+    /// Reads how many passes are inside or turning back; the gate must be closed. The keeper is drained from then on where
     /// the answer is `Drained`, and else it stays as it was.
     pub fn probe(&mut self) -> Probe
         requires { IsFalse (is_open self.old.state) }
@@ -92,7 +92,7 @@ impl Keeper {
         Probe::Drained
     }
 
-    /// Opens the gate again, in a later generation.
+    /// Opens the gate again, which must be drained, in a later generation below 2^31.
     pub fn reopen(&mut self, generation: u32)
         requires drained { IsTrue (is_drained self.old.state) }
         requires later { keeper_generation self.old.state < generation }

@@ -71,7 +71,7 @@ impl Pass {
         self.inside
     }
 
-    /// Tries to go in. Where it finds the gate closed, it turns back.
+    /// Tries to go in; the pass must be out. Where it finds the gate closed, it turns back.
     pub fn enter(&mut self) -> Entered
         requires { IsNone self.old.inside }
         ensures { IsEntry self.old self.new result }
@@ -87,7 +87,7 @@ impl Pass {
         Entered::Inside { generation }
     }
 
-    /// Goes out.
+    /// Goes out; the pass must be inside.
     pub fn leave(&mut self)
         requires { IsSome self.old.inside }
         ensures { self.new ≡ record self.old { inside = None } }

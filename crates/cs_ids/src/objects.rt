@@ -5,10 +5,12 @@ use crate::Ino;
 #[derive(Clone, Copy, PartialEq, Eq, Debug)]
 pub struct Obj {
     pub ino: Ino,
+    /// Counted from 0.
     pub index: u32,
 }
 
-/// A file's metadata: its size in bytes, the time of its last write, and its mode.
+/// A file's metadata: its size in bytes, the time of its last write by the script's clock, and its
+/// mode, twelve bits of permissions.
 #[derive(Clone, Copy, PartialEq, Eq, Debug)]
 pub struct FileMeta {
     pub size: u64,

@@ -29,6 +29,7 @@ pub enum Answer {
     Again(Why),
     /// No message is on its way.
     Idle,
+    /// The file stands from now on.
     Made,
     /// 256 references live.
     Full,
@@ -36,6 +37,7 @@ pub enum Answer {
     Ref {
         number: RefNo,
     },
+    /// The reference ended.
     Ended,
     /// Nothing is left to acknowledge.
     Nothing,
@@ -48,7 +50,8 @@ pub enum Answer {
         seq: Seq,
         bits: Caps,
     },
-    /// A capability message was delivered.
+    /// A capability message was delivered: the client may have these bits, and the file may grow up
+    /// to `max` bytes.
     Cap {
         file: Ino,
         seq: Seq,
@@ -63,10 +66,11 @@ pub enum Answer {
 }
 
 impl Answer {
-    /// A copy, equal to the answer.
+    /// A copy, equal to the answer. It meets no want of memory as long as no answer holds a list.
     pub fn copy(&self, _alloc: Global) -> Result<Answer, Memory>
         ensures { IfOk result (λ a. a ≡ self.now) }
     {
+        // The proof of the match needs the type of the reason named.
         let _told: Option<Why> = None;
         Ok(match self {
             Answer::Unknown => Answer::Unknown,
@@ -115,7 +119,7 @@ pub fn not_yet(answer: &Answer) -> bool
     )
 }
 
-/// An event with its answer.
+/// An entry of the journal: an event with its answer.
 #[derive(Drop)]
 pub struct Entry {
     pub event: Event,

@@ -18,7 +18,7 @@ pub enum RefName {
 /// What happens: one atomic step of the client, the server or a caller.
 #[derive(Drop)]
 pub enum Event {
-    /// A file stands in a directory before the run begins.
+    /// A file stands in a directory before the run begins. A script gives it inode 2 to 9,999.
     File {
         file: Ino,
         parent: Ino,
@@ -56,10 +56,11 @@ pub enum Event {
 }
 
 impl Event {
-    /// A copy, equal to the event.
+    /// A copy, equal to the event. It meets no want of memory as long as no event holds a list.
     pub fn copy(&self, _alloc: Global) -> Result<Event, Memory>
         ensures { IfOk result (λ e. e ≡ self.now) }
     {
+        // The proof of the match needs the type of the name named.
         let _told: Option<RefName> = None;
         Ok(match self {
             Event::File { file, parent } => Event::File {

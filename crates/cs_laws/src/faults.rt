@@ -2,8 +2,8 @@
 use cs_ids::Memory;
 use thiserror::Error;
 
-/// What is wrong with a line of a script. On a line the tests are made in this order, but that
-/// `Word`, `Number` and `Range` come for the first bad field from the left.
+/// What is wrong with a line of a script. The tests of a line are made in this order: its length; the
+/// header, on line 1; its first word; its fields from the left; a further word; its place.
 #[derive(Clone, Copy, PartialEq, Eq, Debug)]
 pub enum Kind {
     /// Line 1 isn't `ceph-script 1`.
@@ -16,7 +16,7 @@ pub enum Kind {
     Range,
     /// A further word follows.
     Extra,
-    /// A line that begins a script stands after an event of another kind.
+    /// A `file` line stands after an event of another kind.
     Late,
     /// The line has over 4,096 bytes.
     Long,

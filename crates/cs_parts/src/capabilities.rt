@@ -17,7 +17,7 @@ pub struct ClientCaps {
     pub seq: Seq,
     /// The number that was acknowledged last, 0 where there is none.
     pub acked: Seq,
-    /// How far the file may grow, in bytes.
+    /// How far the file may grow, in bytes: 0 to 1,048,576 in a run.
     pub max: u32,
 }
 
@@ -30,7 +30,7 @@ pub struct ServerCaps {
     pub held: Caps,
     /// The number of the last message that was sent, 0 where there is none.
     pub seq: Seq,
-    /// How far the file may grow, in bytes.
+    /// How far the file may grow, in bytes: 0 to 1,048,576 in a run.
     pub max: u32,
 }
 
@@ -102,7 +102,7 @@ impl ServerCaps {
         }
     }
 
-    /// After a grant of bits, with a greatest end.
+    /// After a grant of bits, with a greatest end in bytes. The last message's number is below 99,998.
     pub fn granted(&self, bits: Caps, max: u32) -> Self
         requires { self.now.seq < 99998 }
         ensures { result ≡ granted self.now bits max }
@@ -115,7 +115,7 @@ impl ServerCaps {
         }
     }
 
-    /// After a revocation of bits.
+    /// After a revocation of bits. The last message's number is below 99,998.
     pub fn revoked(&self, bits: Caps) -> Self
         requires { self.now.seq < 99998 }
         ensures { result ≡ revoked self.now bits }

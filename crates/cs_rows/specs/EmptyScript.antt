@@ -1,5 +1,5 @@
 -- A header alone: an empty journal.
-use Rattle.std.specs.Prelude.{ℕ, List, [], ◌∷◌, codes, ◌++◌}
+use Rattle.std.specs.Prelude.{ℕ, List, [], codes, ◌++◌}
 use Rattle.cs_laws.specs.declared.events.Event.{Event}
 
 abbrev pub input : List ℕ

@@ -147,7 +147,7 @@ fn event_by(word: &[u8], words: &[&[u8]]) -> Result<Event, Kind>
 pub fn event_from(words: &[&[u8]]) -> Result<Event, Kind>
     ensures { Gives (λ e. e) result (event_of (texts words.now)) }
 {
-    match words.get(0) {
+    match words.first() {
         Some(word) => event_by(word, words),
         None => Err(Kind::Word),
     }

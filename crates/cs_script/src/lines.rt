@@ -21,6 +21,8 @@ pub enum ParseFault {
     Memory,
 }
 
+// The event, unless it stands too late. Here and below, the proof of a move of an event needs the type
+// of a reference's name named.
 fn in_time(setup: bool, event: Event) -> Result<Event, Kind>
     ensures { Gives (λ e. e) result (in_time setup event) }
 {

@@ -1,5 +1,5 @@
 -- What the answer to each event can be, with the tests that led there where a law wants them.
-use Rattle.std.proofs.Common.{◌≡◌, refl, ℕ, ◌+◌, Bool, true, false, List, [], ◌∷◌, ◌&&◌, length, nat_lt, nat_le}
+use Rattle.std.proofs.Common.{◌≡◌, ℕ, ◌+◌, true, List, ◌&&◌, length, nat_lt, nat_le}
 use Rattle.std.proofs.lemmas.Bool.{cond_both}
 use Rattle.cs_bits.specs.declared.Caps.{Caps}
 use Rattle.cs_bits.specs.Bits.{covers, is_empty}
@@ -12,7 +12,7 @@ use Rattle.cs_laws.specs.declared.answers.Entry.{Entry}
 use Rattle.cs_laws.specs.Events.{client_knows, begun}
 use Rattle.cs_laws.specs.History.{client, live, used}
 use Rattle.cs_laws.specs.References.{can_end}
-use Rattle.cs_laws.specs.Answers.{answer_begin, answer_end, answer_check, answer_check_of, writes}
+use Rattle.cs_laws.specs.Answers.{answer_begin, answer_end, answer_check, writes}
 
 pub data BeginIs (h : List Entry) (c f : ℕ) (b : Caps) : Answer → Type 0 where
   begin_unknown : BeginIs h c f b a.Unknown

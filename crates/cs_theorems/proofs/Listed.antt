@@ -1,5 +1,5 @@
 -- What holds of each member of a list.
-use Rattle.std.proofs.Common.{◌≡◌, refl, List, [], ◌∷◌, ◌++◌, inl, inr, ◌⊎◌, subst}
+use Rattle.std.proofs.Common.{refl, List, [], ◌∷◌, ◌++◌, inl, inr, subst}
 pub use Rattle.cs_theorems.specs.Lists.{Member, Each}
 
 pub each_nil : {A : Type 0} (P : A → Type 0) → Each P []

@@ -23,7 +23,8 @@ pub fn to_client(state: &mut State) -> Result<Answer, Memory>
     Ok(deliver(&mut state.files, &message))
 }
 
-// A message of the other way is never on its way to the client.
+// A message of the other way is never on its way to the client, nor is one of an unknown file: the
+// tables say so, and the answers for both are never given.
 fn deliver(files: &mut BTreeMap<Ino, FileCaps>, message: &Message) -> Answer
     ensures { Delivers files.old files.new message.now result }
 {

@@ -17,6 +17,7 @@ pub fn answer(state: &mut State, event: &Event) -> Result<Answer, Memory>
     ensures ok { IfOk result (λ a. Steps state.old state.new event.now a) }
     ensures err { OnErr result (KeepsJournal state.old state.new) }
 {
+    // The proof of a move of an event needs the type of a reference's name named, here and below.
     let _told: Option<RefName> = None;
     match event {
         Event::File { file: made, parent } => file(state, *made, *parent),

@@ -12,6 +12,7 @@ use std::alloc::Global;
 use std::marker::Model;
 
 /// A world that wasn't made for want of memory, with what was handed in.
+#[derive(Drop)]
 pub struct MakeFault<O, L> {
     pub store: O,
     pub log: L,

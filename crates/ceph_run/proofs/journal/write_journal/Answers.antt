@@ -1,4 +1,4 @@
-use Rattle.std.proofs.Common.{◌≡◌, ◌+◌, ◌∙◌, ◌∷◌, ap, refl, sym, suc, length, take, add-one, arith}
+use Rattle.std.proofs.Common.{◌≡◌, ◌∙◌, ◌∷◌, ap, refl, length, add-one, arith}
 use Rattle.std.proofs.lemmas.List.{length-reverse}
 use Rattle.cs_laws.specs.Journal.{journal, entry}
 use Rattle.ceph_run.proofs.Journals.{line_step, text_step, on_ok, on_err, any_err}

@@ -1,4 +1,4 @@
-use Rattle.std.proofs.Common.{◌≡◌, ◌∙◌, sym, refl, ◌++◌, []}
+use Rattle.std.proofs.Common.{◌≡◌, ◌∙◌, sym, refl, []}
 use Rattle.std.proofs.lemmas.List.{append-nil}
 use Rattle.ceph_run.specs.Lines.{newest_line}
 use Rattle.ceph_run.proofs.Entries.{newest_is}

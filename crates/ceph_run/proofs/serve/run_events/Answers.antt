@@ -16,8 +16,8 @@ returns-in-Ok-clause-writes g c =
     let whole = rw pages at c.write_journal-written.ensures.ok in
     let cut = rw pages at c.write_journal-written.ensures.err in
     rw c.write_status.ensures
-      (writes 0 c.write_journal-written.result _ _ _ _ _ (omega arith) whole
-      (on_err c.write_journal-written.result (λ stopped. front_of_text c.args.pages c.args.events.now _ _ stopped) cut) c.write_journal-written.ensures.cause)
+    (writes 0 c.write_journal-written.result _ _ _ _ _ (omega arith) whole
+    (on_err c.write_journal-written.result (λ stopped. front_of_text c.args.pages c.args.events.now _ _ stopped) cut) c.write_journal-written.ensures.cause)
 
 pub returns-in-Ok-clause-stopped : goal.returns-in-Ok-clause-stopped
 returns-in-Ok-clause-stopped g c =

@@ -1,4 +1,4 @@
-use Rattle.std.proofs.Common.{ap, Result, Ok, Err}
+use Rattle.std.proofs.Common.{ap, Result, Err}
 use Rattle.cs_io.specs.declared.whole.ReadFault.{ReadFault}
 use Rattle.ceph_run.specs.declared.input.Input.{Input}
 use Rattle.ceph_run.proofs.Serving.{unread, judged_and_written}

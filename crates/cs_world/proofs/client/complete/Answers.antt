@@ -9,4 +9,4 @@ returns c =
     let new : Files = c.get_mut.follows.lender record { client = c.complete.new.self; server = row.server } in
     let put : PutsRow c.args.files.now new c.args.file (record { client = c.complete.new.self; server = row.server }) = λ g. search rules in
     completes c.args.files.now new c.args.file c.args.used row c.complete.result c.complete.new.self (sym c.in_ok-caps.ensures.value)
-      c.complete.ensures.answer c.complete.ensures.after put
+    c.complete.ensures.answer c.complete.ensures.after put
