@@ -1,6 +1,7 @@
+use crate::command::ceph_main;
 use crate::finished::Finished;
 use crate::serve::serve_run;
-use cs_ids::Memory;
+use cs_ids::{Bytes, Memory};
 use cs_io::{FaultySink, FaultySource, MemSink, MemSource, Sink, Source};
 use std::alloc::Global;
 use std::test::Fail;
@@ -56,6 +57,62 @@ fn inputs_end_with_their_status_and_text(rt: HostRuntime) -> Result<(), Fail> {
         assert_eq!(rt; status, *wanted);
         assert_eq!(rt; sink.bytes(), *text);
     }
+    Ok(())
+}
+
+// A script of a line, over and over, behind a beginning.
+fn repeated(
+    alloc: Global,
+    begin: &[u8],
+    line: &[u8],
+    times: u32,
+    end: &[u8],
+) -> Result<Bytes, Memory> {
+    let mut script = Bytes::from_slice(alloc, begin)?;
+    for _ in 0..times {
+        script.append(line)?;
+    }
+    script.append(end)?;
+    Ok(script)
+}
+
+#[test]
+fn a_line_of_4097_bytes_is_long(rt: HostRuntime) -> Result<(), Fail> {
+    let script = repeated(rt.alloc(), b"ceph-script 1\n", b"x", 4097, b"\n")?;
+    let (status, sink) = run(rt.alloc(), script.as_slice())?;
+    assert_eq!(rt; status, 2);
+    assert_eq!(rt; sink.bytes(), b"ceph-fault script 2 long\n".as_slice());
+    Ok(())
+}
+
+#[test]
+fn the_table_is_full_at_256_references(rt: HostRuntime) -> Result<(), Fail> {
+    let begin = b"ceph-script 1\nfile 100 1\ngrant 100 Frw 4096\ntoclient\n";
+    let script = repeated(
+        rt.alloc(),
+        begin,
+        b"begin 1 100 Fr 0\n",
+        256,
+        b"begin 2 100 Fr 0\n",
+    )?;
+    let (status, sink) = run(rt.alloc(), script.as_slice())?;
+    assert_eq!(rt; status, 0);
+    let end = b"\n259 begin 1 100 Fr 0 -> ref 256\n260 begin 2 100 Fr 0 -> full\nend 260\n";
+    assert!(rt; sink.bytes().ends_with(end));
+    Ok(())
+}
+
+#[test]
+fn faulty_words_are_told(rt: HostRuntime) -> Result<(), Fail> {
+    let mut source = MemSource::new(rt.alloc(), HOLD_THEN_ACK)?;
+    let mut sink = MemSink::new(rt.alloc());
+    let Finished {
+        status,
+        store: (),
+        log: (),
+    } = ceph_main(&rt, rt.alloc(), &[], &mut source, &mut sink, (), ());
+    assert_eq!(rt; status, 1);
+    assert_eq!(rt; sink.bytes(), b"ceph-fault usage\n".as_slice());
     Ok(())
 }
 

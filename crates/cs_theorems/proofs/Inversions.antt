@@ -1,18 +1,21 @@
 -- What the answer to each event can be, with the tests that led there where a law wants them.
-use Rattle.std.proofs.Common.{◌≡◌, ℕ, ◌+◌, true, List, ◌&&◌, length, nat_lt, nat_le}
+use Rattle.std.proofs.Common.{◌≡◌, refl, ℕ, ◌+◌, true, List, [], ◌∷◌, ◌&&◌, length, nat_lt, nat_le}
 use Rattle.std.proofs.lemmas.Bool.{cond_both}
 use Rattle.cs_bits.specs.declared.Caps.{Caps}
 use Rattle.cs_bits.specs.Bits.{covers, is_empty}
-use Rattle.cs_parts.specs.Capabilities.{held_back, is_complete}
+use Rattle.cs_parts.specs.declared.capabilities.ServerCaps.{ServerCaps}
+use Rattle.cs_parts.specs.Capabilities.{granted, revoked, held_back, is_complete}
 use Rattle.cs_laws.specs.declared.events.RefName.{RefName}
 use Rattle.cs_laws.specs.declared.answers.Answer.{Answer}
 use Rattle.cs_laws.specs.declared.answers.Answer.TheVariants as a
 use Rattle.cs_laws.specs.declared.answers.Why.TheVariants as why
 use Rattle.cs_laws.specs.declared.answers.Entry.{Entry}
-use Rattle.cs_laws.specs.Events.{client_knows, begun}
-use Rattle.cs_laws.specs.History.{client, live, used}
+use Rattle.cs_laws.specs.declared.messages.Message.{Message}
+use Rattle.cs_laws.specs.declared.messages.Message.TheVariants as messages
+use Rattle.cs_laws.specs.Events.{client_knows, server_knows, begun}
+use Rattle.cs_laws.specs.History.{client, server, to_client, live, used}
 use Rattle.cs_laws.specs.References.{can_end}
-use Rattle.cs_laws.specs.Answers.{answer_begin, answer_end, answer_check, writes}
+use Rattle.cs_laws.specs.Answers.{answer_begin, answer_end, answer_check, answer_first, answer_to_client, answer_grant, answer_revoke, writes}
 
 pub data BeginIs (h : List Entry) (c f : ℕ) (b : Caps) : Answer → Type 0 where
   begin_unknown : BeginIs h c f b a.Unknown
@@ -51,3 +54,25 @@ check_is h f =
     (λ _. check_nothing)
     (λ _. cond_both (is_empty (held_back (client h f) (used h f))) _ _ (CheckIs h f) (λ t. check_ack t) (λ _. check_hold _)))
     (λ _. check_unknown)
+
+pub data FirstIs (h : List Entry) : Answer → Type 0 where
+  first_idle : FirstIs h a.Idle
+  first_cap : (f seq : ℕ) (bits : Caps) (end : ℕ) (q : List Message) → to_client h ≡ messages.Cap f seq bits end ∷ q → FirstIs h (a.Cap f seq bits end)
+
+first_is_of : (h : List Entry) (q : List Message) → to_client h ≡ q → FirstIs h (answer_first q)
+first_is_of h [] e = first_idle
+first_is_of h (messages.Cap f seq bits end ∷ q) e = first_cap f seq bits end q e
+first_is_of h (messages.CapAck f seq bits ∷ q) e = first_idle
+
+pub first_is : (h : List Entry) → FirstIs h (answer_to_client h)
+first_is h = first_is_of h (to_client h) refl
+
+pub data GrantIs (h : List Entry) (f : ℕ) (s : ServerCaps) : Answer → Type 0 where
+  grant_unknown : GrantIs h f s a.Unknown
+  grant_sent : GrantIs h f s (a.SentCap s.seq s.held)
+
+pub grant_is : (h : List Entry) (f : ℕ) (bits : Caps) (end : ℕ) → GrantIs h f (granted (server h f) bits end) (answer_grant h f bits end)
+grant_is h f bits end = cond_both (server_knows h f) _ _ (GrantIs h f (granted (server h f) bits end)) (λ _. grant_sent) (λ _. grant_unknown)
+
+pub revoke_is : (h : List Entry) (f : ℕ) (bits : Caps) → GrantIs h f (revoked (server h f) bits) (answer_revoke h f bits)
+revoke_is h f bits = cond_both (server_knows h f) _ _ (GrantIs h f (revoked (server h f) bits)) (λ _. grant_sent) (λ _. grant_unknown)

@@ -2,9 +2,11 @@
 use Rattle.std.specs.Prelude.{List}
 use Rattle.cs_laws.specs.declared.answers.Entry.{Entry}
 use Rattle.cs_laws.specs.Laws.{AcksAreFree}
+use Rattle.cs_theorems.specs.Held.{HeldCoversImplemented}
 use Rattle.cs_theorems.specs.References.{LiveWereIssued, NumbersAreDrawnOnce}
 
 pub record IsLawful (h : List Entry) : Type 0 where
   pub acks_are_free : AcksAreFree h
+  pub held_covers_implemented : HeldCoversImplemented h
   pub live_references_were_issued : LiveWereIssued h
   pub numbers_are_drawn_once : NumbersAreDrawnOnce h

@@ -1,3 +1,4 @@
+pub mod Held
 pub mod Lawful
 pub mod Lists
 pub mod References
