@@ -5,8 +5,10 @@ pub mod Fits
 pub mod Flight
 pub mod Grammar
 pub mod History
+pub mod Image
 pub mod Journal
 pub mod Laws
+pub mod Objects
 pub mod References
 pub mod Refusals
 pub mod Texts

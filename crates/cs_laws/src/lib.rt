@@ -8,6 +8,7 @@ mod answers;
 mod events;
 mod faults;
 mod messages;
+mod objects;
 mod printing;
 #[cfg(test)]
 mod tests;
@@ -16,3 +17,4 @@ pub use answers::{Answer, Entry, Why, not_yet};
 pub use events::{Event, RefName, is_built};
 pub use faults::{Kind, ScriptFault, StepFault};
 pub use messages::Message;
+pub use objects::{At, ObjOp, ObjOps};
