@@ -6,7 +6,6 @@ use Rattle.cs_ids.specs.declared.objects.Obj.{Obj}
 use Rattle.cs_laws.specs.declared.objects.At.{At}
 use Rattle.cs_laws.specs.declared.objects.At.TheVariants as at
 use Rattle.cs_laws.specs.declared.objects.ObjOp.{ObjOp}
-use Rattle.cs_laws.specs.Image.{byte_over}
 use Rattle.cs_laws.specs.Objects.{same_object, object, all_below, before, byte_of, operations_at}
 use Rattle.cs_objstore.specs.Shown.{shows}
 use Rattle.cs_objstore.specs.Stores.{ReadsObject}
@@ -19,38 +18,8 @@ pub record Drawn (a : At) (obj : Obj) (past : List ObjOp) (off : ℕ) (out : Lis
   pub bytes : (k : ℕ) → k < length out → get_or out k 0 ≡ byte_of (object obj past) (off + k)
   pub shown : all_shown a (object obj past) ≡ true
 
--- ---- the steps
-
-pub drawn_none : (a : At) (obj : Obj) (off : ℕ) (out : List ℕ) → ((k : ℕ) → k < length out → get_or out k 0 ≡ 0) → Drawn a obj [] off out
-drawn_none at.Head obj off out zero = record { bytes = zero; shown = refl }
-drawn_none (at.Snap s) obj off out zero = record { bytes = zero; shown = refl }
-
-object_other : (obj : Obj) (op : ObjOp) (past : List ObjOp) → same_object op.obj obj ≡ false → object obj (op ∷ past) ≡ object obj past
-object_other obj op past other = rw other refl
-
 object_more : (obj : Obj) (op : ObjOp) (past : List ObjOp) → same_object op.obj obj ≡ true → object obj (op ∷ past) ≡ op ∷ object obj past
 object_more obj op past same = rw same refl
-
-pub drawn_other : (a : At) (obj : Obj) (op : ObjOp) (past : List ObjOp) (off : ℕ) (out : List ℕ)
-    → same_object op.obj obj ≡ false → Drawn a obj past off out → Drawn a obj (op ∷ past) off out
-drawn_other a obj op past off out other d =
-    let e : object obj (op ∷ past) ≡ object obj past = object_other obj op past other in
-    record { bytes = rw e d.bytes; shown = rw e d.shown }
-
-shown_more : (a : At) (op : ObjOp) (ops : List ObjOp) → shows a op ≡ true → all_shown a ops ≡ true → all_shown a (op ∷ ops) ≡ true
-shown_more at.Head op ops here rest = refl
-shown_more (at.Snap s) op ops here rest = rw (here, rest) refl
-
-pub drawn_more : (a : At) (obj : Obj) (op : ObjOp) (past : List ObjOp) (off : ℕ) (old new : List ℕ)
-    → same_object op.obj obj ≡ true → shows a op ≡ true → length new ≡ length old
-    → ((k : ℕ) → k < length new → get_or new k 0 ≡ byte_over op.off op.bytes (off + k) (get_or old k 0))
-    → Drawn a obj past off old → Drawn a obj (op ∷ past) off new
-drawn_more a obj op past off old new same here len over d =
-    let e : object obj (op ∷ past) ≡ op ∷ object obj past = object_more obj op past same in
-    record {
-      bytes = rw e (λ k h. over k h ∙ ap (byte_over op.off op.bytes (off + k)) (d.bytes k (rw len at h)));
-      shown = rw e (shown_more a op (object obj past) here d.shown);
-    }
 
 -- ---- the ends
 
