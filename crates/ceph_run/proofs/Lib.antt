@@ -1,4 +1,3 @@
-pub mod CommandLine
 pub mod Entries
 pub mod Journals
 pub mod Serving

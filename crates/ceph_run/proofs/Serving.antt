@@ -1,20 +1,41 @@
 -- How a run ends, from what was read and what was written.
-use Rattle.std.proofs.Common.{◌≡◌, ◌≢◌, ◌∙◌, ap, subst, refl, ℕ, ◌<◌, ◌⊎◌, ⊎_elim, inl, inr, List, Option, Some, None, IfSome, arith}
+use Rattle.std.proofs.Common.{◌≡◌, ◌≢◌, ◌∙◌, ap, subst, refl, ℕ, ◌<◌, ◌⊎◌, inl, inr, List, [], Option, Some, None, IfSome, Result, Ok, Err, OnOk, IfErr, IsErrOf, arith}
 use Rattle.std.specs.Io.KnownBytes.{Appends, Keeps}
 use Rattle.cs_ids.specs.Devices.{Rose}
 use Rattle.cs_io.specs.Whole.{AppendsFront}
 use Rattle.cs_io.specs.declared.whole.ReadFault.{ReadFault}
 use Rattle.cs_io.specs.declared.whole.ReadFault.TheVariants as reading
 use Rattle.cs_io.proofs.Known.{took_none}
+use Rattle.cs_laws.specs.declared.events.Event.{Event}
+use Rattle.cs_laws.specs.declared.objects.ObjOp.{ObjOp}
+use Rattle.cs_laws.specs.Journal.{journal, text}
+use Rattle.cs_laws.specs.Operations.{applied}
 use Rattle.cs_theorems.proofs.Together.{lawful}
 use Rattle.ceph_run.specs.declared.input.Input.{Input}
 use Rattle.ceph_run.specs.declared.input.Input.TheVariants.{Refused, Runs}
+use Rattle.ceph_run.specs.declared.input.Refusal.{Refusal}
 use Rattle.ceph_run.specs.declared.input.Refusal.TheVariants as refusals
-use Rattle.ceph_run.specs.Inputs.{judged, status_of, told, IsLawfulRun, JudgesWhole}
-use Rattle.ceph_run.specs.Served.{Served, Writes, IsFaultStatus}
-use Rattle.ceph_run.specs.Statuses.{read_status}
-use Rattle.ceph_run.specs.Stopped.{StopsIn}
-use Rattle.ceph_run.proofs.Stopping.{stops_at_once}
+use Rattle.ceph_run.specs.declared.run_fault.RunFault.{RunFault}
+use Rattle.ceph_run.specs.declared.run_fault.RunFault.TheVariants as faults
+use Rattle.ceph_run.specs.Inputs.{judged, status_of, told, stored, IsLawfulRun, JudgesWhole}
+use Rattle.ceph_run.specs.Refusals.{refusal_line, refusal_status}
+use Rattle.ceph_run.specs.Served.{Served, Ends, Writes, IsFaultStatus, IsStopStatus}
+use Rattle.ceph_run.specs.Statuses.{read_status, run_status}
+use Rattle.ceph_run.specs.Stopped.{Stops, StopsInput}
+use Rattle.ceph_run.proofs.Stopping.{stops_at_once, front_of_stop}
+
+-- Statuses
+
+-- not one of these
+no_stop : (s : ℕ) → s < 5 → IsStopStatus s → ⊥
+no_stop s small (inl e) = omega arith
+no_stop s small (inr (inl e)) = omega arith
+no_stop s small (inr (inr e)) = omega arith
+
+no_end : (s : ℕ) → 3 < s → (s ≡ 0) ⊎ ((s ≡ 2) ⊎ (s ≡ 3)) → ⊥
+no_end s great (inl e) = omega arith
+no_end s great (inr (inl e)) = omega arith
+no_end s great (inr (inr e)) = omega arith
 
 -- The input wasn't read
 
@@ -26,34 +47,124 @@ any_some : (left : Option (List ℕ)) (P : List ℕ → Type 0) → ((b : List �
 any_some None P all = tt
 any_some (Some b) P all = all b
 
-unstarted : (pages : ℕ) (input : Input) (taken : Option (List ℕ)) → StopsIn pages input taken taken
-unstarted pages (Runs es) taken = stops_at_once pages es taken
-unstarted pages (Refused r) taken = tt
+unstarted : (pages : ℕ) (input : Input) (taken : Option (List ℕ)) (ops : List ObjOp) → ops ≡ [] → StopsInput faults.Memory pages input taken taken ops
+unstarted pages (Runs es) taken ops none = inl (stops_at_once pages es taken ops none)
+unstarted pages (Refused r) taken ops none = none
 
-pub unread : (pages : ℕ) (fault : ReadFault) (left_old left_new taken : Option (List ℕ)) (s t m : ℕ) → (fault ≡ reading.Failed → Rose s t)
-    → Served pages (read_status fault) (record { left = left_old; source_faults = s; taken = taken; sink_faults = m })
-    (record { left = left_new; source_faults = t; taken = taken; sink_faults = m })
-unread pages reading.Failed left_old left_new taken s t m rose = record {
+pub unread : (pages : ℕ) (fault : ReadFault) (left_old left_new taken : Option (List ℕ)) (s t m : ℕ) (ops : List ObjOp) (k : ℕ)
+    → (fault ≡ reading.Failed → Rose s t) → ops ≡ []
+    → Served pages (read_status fault) (record { left = left_old; source_faults = s; taken = taken; sink_faults = m; ops = ops; store_faults = k })
+    (record { left = left_new; source_faults = t; taken = taken; sink_faults = m; ops = ops; store_faults = k })
+unread pages reading.Failed left_old left_new taken s t m ops k rose none = record {
   done = λ e. absurd (omega arith);
   refused = λ e. absurd (omega arith);
-  ended = λ e. absurd (⊎_elim (λ x. omega arith) (λ y. ⊎_elim (λ x. omega arith) (λ x. omega arith) y) e);
+  ended = λ e. absurd (no_end 4 (omega arith) e);
   source = λ e. (rose refl, keeps_same taken);
   sink = λ e. absurd (omega arith);
-  cut = λ e. absurd (⊎_elim (λ x. omega arith) (λ x. omega arith) e);
-  stopped = λ e. absurd (⊎_elim (λ x. omega arith) (λ x. omega arith) e);
+  store = λ e. absurd (omega arith);
+  memory = λ e. absurd (omega arith);
+  cut = λ e. absurd (no_stop 4 (omega arith) e);
   decided = any_some left_old (λ b. (4 ≡ status_of (judged b)) ⊎ IsFaultStatus 4) (λ b. inr (inl refl));
   known = inr (inr (inr (inl refl)));
 }
-unread pages reading.Memory left_old left_new taken s t m rose = record {
+unread pages reading.Memory left_old left_new taken s t m ops k rose none = record {
   done = λ e. absurd (omega arith);
   refused = λ e. absurd (omega arith);
-  ended = λ e. absurd (⊎_elim (λ x. omega arith) (λ y. ⊎_elim (λ x. omega arith) (λ x. omega arith) y) e);
+  ended = λ e. absurd (no_end 8 (omega arith) e);
   source = λ e. absurd (omega arith);
   sink = λ e. absurd (omega arith);
+  store = λ e. absurd (omega arith);
+  memory = λ e. any_some left_old (λ b. StopsInput faults.Memory pages (judged b) taken taken ops) (λ b. unstarted pages (judged b) taken ops none);
   cut = λ e. any_some left_old (λ b. AppendsFront taken taken (told pages (judged b))) (λ b. (told pages (judged b), took_none taken (told pages (judged b))));
-  stopped = λ e. any_some left_old (λ b. StopsIn pages (judged b) taken taken) (λ b. unstarted pages (judged b) taken);
-  decided = any_some left_old (λ b. (8 ≡ status_of (judged b)) ⊎ IsFaultStatus 8) (λ b. inr (inr (inr refl)));
-  known = inr (inr (inr (inr (inr refl))));
+  decided = any_some left_old (λ b. (8 ≡ status_of (judged b)) ⊎ IsFaultStatus 8) (λ b. inr (inr (inr (inr refl))));
+  known = inr (inr (inr (inr (inr (inr refl)))));
+}
+
+-- The input is refused
+
+refused_small : (r : Refusal) → refusal_status r < 4
+refused_small (refusals.Faulty f) = omega arith
+refused_small refusals.TooLong = omega arith
+refused_small refusals.TooManyEvents = omega arith
+refused_small refusals.TooManyFiles = omega arith
+
+stop_of : (k s : ℕ) → (s ≡ k) ⊎ ((s ≡ 5) ⊎ (s ≡ 8)) → (s ≡ k) ⊎ IsStopStatus s
+stop_of k s (inl e) = inl e
+stop_of k s (inr (inl e)) = inr (inl e)
+stop_of k s (inr (inr e)) = inr (inr (inr e))
+
+writing_stop : (k s : ℕ) → k < 4 → (s ≡ k) ⊎ ((s ≡ 5) ⊎ (s ≡ 8)) → IsStopStatus s → (s ≡ 5) ⊎ (s ≡ 8)
+writing_stop k s small known (inl e) = inl e
+writing_stop k s small (inl e) (inr (inl f)) = absurd (omega arith)
+writing_stop k s small (inr known) (inr (inl f)) = known
+writing_stop k s small known (inr (inr e)) = inr e
+
+no_six : (k s : ℕ) → k < 4 → (s ≡ k) ⊎ ((s ≡ 5) ⊎ (s ≡ 8)) → s ≡ 6 → ⊥
+no_six k s small (inl e) f = omega arith
+no_six k s small (inr (inl e)) f = omega arith
+no_six k s small (inr (inr e)) f = omega arith
+
+pub refused : (pages : ℕ) (r : Refusal) (status : ℕ) (taken_old taken_new : Option (List ℕ)) (m n : ℕ) (ops : List ObjOp) (j k : ℕ) → ops ≡ []
+    → Writes (refusal_status r) status (refusal_line r) taken_old taken_new m n
+    → Ends pages (Refused r) status taken_old taken_new m n ops j k
+refused pages r status taken_old taken_new m n ops j k none w = record {
+  whole = λ e. (w.whole e, none);
+  sink = λ e. (w.sink e, none);
+  store = λ e. absurd (no_six (refusal_status r) status (refused_small r) w.known e);
+  memory = λ e. none;
+  cut = λ e. w.cut (writing_stop (refusal_status r) status (refused_small r) w.known e);
+  known = stop_of (refusal_status r) status w.known;
+}
+
+-- The input is run
+
+pub ran : (pages : ℕ) (es : List Event) (r : Result (Unit {0}) RunFault) (a b : Option (List ℕ)) (m n : ℕ) (ops : List ObjOp) (j k : ℕ)
+    → OnOk r (Appends a b (text (journal pages es))) → OnOk r (ops ≡ applied (journal pages es))
+    → IfErr r (λ f. Stops f pages es a b ops) → (IsErrOf r faults.Sink → Rose m n) → (IsErrOf r faults.Store → Rose j k)
+    → Ends pages (Runs es) (run_status r) a b m n ops j k
+ran pages es (Ok x) a b m n ops j k whole listed stops sink store = record {
+  whole = λ e. (whole, listed);
+  sink = λ e. absurd (omega arith);
+  store = λ e. absurd (omega arith);
+  memory = λ e. absurd (omega arith);
+  cut = λ e. absurd (no_stop 0 (omega arith) e);
+  known = inl refl;
+}
+ran pages es (Err faults.Sink) a b m n ops j k whole listed stops sink store = record {
+  whole = λ e. absurd (omega arith);
+  sink = λ e. (sink refl, stops);
+  store = λ e. absurd (omega arith);
+  memory = λ e. absurd (omega arith);
+  cut = λ e. front_of_stop faults.Sink pages es a b ops stops;
+  known = inr (inl refl);
+}
+ran pages es (Err faults.Store) a b m n ops j k whole listed stops sink store = record {
+  whole = λ e. absurd (omega arith);
+  sink = λ e. absurd (omega arith);
+  store = λ e. (store refl, stops);
+  memory = λ e. absurd (omega arith);
+  cut = λ e. front_of_stop faults.Store pages es a b ops stops;
+  known = inr (inr (inl refl));
+}
+ran pages es (Err faults.Log) a b m n ops j k whole listed stops sink store = absurd stops
+ran pages es (Err faults.Memory) a b m n ops j k whole listed stops sink store = record {
+  whole = λ e. absurd (omega arith);
+  sink = λ e. absurd (omega arith);
+  store = λ e. absurd (omega arith);
+  memory = λ e. stops;
+  cut = λ e. front_of_stop faults.Memory pages es a b ops stops;
+  known = inr (inr (inr refl));
+}
+
+-- nothing was done for want of memory
+pub unmade : (pages : ℕ) (es : List Event) (a : Option (List ℕ)) (m : ℕ) (ops : List ObjOp) (k : ℕ) → ops ≡ [] → Ends pages (Runs es) 8 a a m m ops k k
+unmade pages es a m ops k none = record {
+  whole = λ e. absurd (omega arith);
+  sink = λ e. absurd (omega arith);
+  store = λ e. absurd (omega arith);
+  memory = λ e. inl (stops_at_once pages es a ops none);
+  cut = λ e. (text (journal pages es), took_none a (text (journal pages es)));
+  known = inr (inr (inr refl));
 }
 
 -- The input was read and judged
@@ -70,20 +181,18 @@ whole_status : (input : Input) → IsWholeStatus (status_of input)
 whole_status (Runs es) = inl refl
 whole_status (Refused (refusals.Faulty f)) = inr (inl refl)
 whole_status (Refused refusals.TooLong) = inr (inr refl)
-whole_status (Refused refusals.TooMany) = inr (inr refl)
+whole_status (Refused refusals.TooManyEvents) = inr (inr refl)
+whole_status (Refused refusals.TooManyFiles) = inr (inr refl)
 
--- the status is the one of a whole writing, or one of a writing that stopped
+-- the status is the one of a whole run, or one of a run that stopped
 abbrev Known : ℕ → ℕ → Type 0
-Known k s = (s ≡ k) ⊎ ((s ≡ 5) ⊎ (s ≡ 8))
+Known k s = (s ≡ k) ⊎ IsStopStatus s
 
 no_fault : (k s : ℕ) → Known k s → IsWholeStatus s → s ≡ k
 no_fault k s (inl e) w = e
-no_fault k s (inr (inl e)) (inl w) = absurd (omega arith)
-no_fault k s (inr (inl e)) (inr (inl w)) = absurd (omega arith)
-no_fault k s (inr (inl e)) (inr (inr w)) = absurd (omega arith)
-no_fault k s (inr (inr e)) (inl w) = absurd (omega arith)
-no_fault k s (inr (inr e)) (inr (inl w)) = absurd (omega arith)
-no_fault k s (inr (inr e)) (inr (inr w)) = absurd (omega arith)
+no_fault k s (inr e) (inl w) = absurd (no_stop s (omega arith) e)
+no_fault k s (inr e) (inr (inl w)) = absurd (no_stop s (omega arith) e)
+no_fault k s (inr e) (inr (inr w)) = absurd (no_stop s (omega arith) e)
 
 not_too_long : (input : Input) (s : ℕ) → Known (status_of input) s → IsWholeStatus s → s < 3 → input ≢ Refused refusals.TooLong
 not_too_long input s known whole small is =
@@ -95,44 +204,42 @@ not_read : (k s : ℕ) → IsWholeStatus k → Known k s → s ≡ 4 → ⊥
 not_read k s (inl w) (inl e) f = omega arith
 not_read k s (inr (inl w)) (inl e) f = omega arith
 not_read k s (inr (inr w)) (inl e) f = omega arith
-not_read k s w (inr (inl e)) f = omega arith
-not_read k s w (inr (inr e)) f = omega arith
+not_read k s w (inr e) f = no_stop s (omega arith) e
 
 decides : (k s : ℕ) → Known k s → (s ≡ k) ⊎ IsFaultStatus s
 decides k s (inl e) = inl e
-decides k s (inr (inl e)) = inr (inr (inl e))
-decides k s (inr (inr e)) = inr (inr (inr e))
+decides k s (inr e) = inr (inr e)
 
 knows : (k s : ℕ) → IsWholeStatus k → Known k s → (s ≡ 0) ⊎ ((s ≡ 2) ⊎ ((s ≡ 3) ⊎ IsFaultStatus s))
 knows k s (inl w) (inl e) = inl (e ∙ w)
 knows k s (inr (inl w)) (inl e) = inr (inl (e ∙ w))
 knows k s (inr (inr w)) (inl e) = inr (inr (inl (e ∙ w)))
-knows k s w (inr (inl e)) = inr (inr (inr (inr (inl e))))
-knows k s w (inr (inr e)) = inr (inr (inr (inr (inr e))))
+knows k s w (inr e) = inr (inr (inr (inr e)))
 
 -- what holds of the input that was judged holds of the bytes that were left
 of_judged : (left : Option (List ℕ)) (input : Input) (P : Input → Type 0) → IfSome left (λ b. input ≡ judged b) → P input → IfSome left (λ b. P (judged b))
 of_judged None input P is p = tt
 of_judged (Some b) input P is p = subst P is p
 
-pub judged_and_written : (pages status : ℕ) (input : Input) (left_old left_new taken_old taken_new : Option (List ℕ)) (s t m n : ℕ)
-    → JudgesWhole left_old left_new input → Writes (status_of input) status (told pages input) taken_old taken_new m n
-    → ((status ≡ 5) ⊎ (status ≡ 8) → StopsIn pages input taken_old taken_new)
-    → Served pages status (record { left = left_old; source_faults = s; taken = taken_old; sink_faults = m })
-    (record { left = left_new; source_faults = t; taken = taken_new; sink_faults = n })
-judged_and_written pages status input left_old left_new taken_old taken_new s t m n j w stops = record {
-  done = λ e. (
-    j.read (not_too_long input status w.known (inl e) (omega arith)),
-    of_judged left_old input (λ x. IsLawfulRun pages x) j.is (lawful_run pages input),
-  );
-  refused = λ e. j.read (not_too_long input status w.known (inr (inl e)) (omega arith));
+pub judged_and_ended : (pages status : ℕ) (input : Input) (left_old left_new taken_old taken_new : Option (List ℕ)) (s t m n : ℕ) (before ops : List ObjOp) (j k : ℕ)
+    → JudgesWhole left_old left_new input → Ends pages input status taken_old taken_new m n ops j k
+    → Served pages status (record { left = left_old; source_faults = s; taken = taken_old; sink_faults = m; ops = before; store_faults = j })
+    (record { left = left_new; source_faults = t; taken = taken_new; sink_faults = n; ops = ops; store_faults = k })
+judged_and_ended pages status input left_old left_new taken_old taken_new s t m n before ops j k judge w = record {
+  done = λ e.
+      let same = no_fault (status_of input) status w.known (inl e) in (
+        judge.read (not_too_long input status w.known (inl e) (omega arith)),
+        of_judged left_old input (λ x. IsLawfulRun pages x × (ops ≡ stored pages x)) judge.is (lawful_run pages input, (w.whole same).1),
+      );
+  refused = λ e. judge.read (not_too_long input status w.known (inr (inl e)) (omega arith));
   ended = λ e.
       let same = no_fault (status_of input) status w.known e in
-      of_judged left_old input (λ x. (status ≡ status_of x) × Appends taken_old taken_new (told pages x)) j.is (same, w.whole same);
+      of_judged left_old input (λ x. (status ≡ status_of x) × Appends taken_old taken_new (told pages x)) judge.is (same, (w.whole same).0);
   source = λ e. absurd (not_read (status_of input) status (whole_status input) w.known e);
-  sink = w.sink;
-  cut = λ e. of_judged left_old input (λ x. AppendsFront taken_old taken_new (told pages x)) j.is (w.cut e);
-  stopped = λ e. of_judged left_old input (λ x. StopsIn pages x taken_old taken_new) j.is (stops e);
-  decided = of_judged left_old input (λ x. (status ≡ status_of x) ⊎ IsFaultStatus status) j.is (decides (status_of input) status w.known);
+  sink = λ e. ((w.sink e).0, of_judged left_old input (λ x. StopsInput faults.Sink pages x taken_old taken_new ops) judge.is (w.sink e).1);
+  store = λ e. ((w.store e).0, of_judged left_old input (λ x. StopsInput faults.Store pages x taken_old taken_new ops) judge.is (w.store e).1);
+  memory = λ e. of_judged left_old input (λ x. StopsInput faults.Memory pages x taken_old taken_new ops) judge.is (w.memory e);
+  cut = λ e. of_judged left_old input (λ x. AppendsFront taken_old taken_new (told pages x)) judge.is (w.cut e);
+  decided = of_judged left_old input (λ x. (status ≡ status_of x) ⊎ IsFaultStatus status) judge.is (decides (status_of input) status w.known);
   known = knows (status_of input) status (whole_status input) w.known;
 }

@@ -1,8 +1,10 @@
--- Where the writing of a journal stops.
-use Rattle.std.proofs.Common.{◌≡◌, ◌∙◌, sym, ap, refl, subst, ℕ, zero, suc, ◌+◌, ◌<◌, ◌≤◌, ◌==◌, Bool, true, false, cond, List, [], ◌∷◌, ◌++◌, length, take, drop, get_or, Option, append_assoc, arith}
+-- Where a run stops.
+use Rattle.std.proofs.Common.{◌≡◌, ◌∙◌, sym, ap, refl, subst, ℕ, zero, suc, ◌+◌, ◌<◌, ◌≤◌, ◌==◌, Bool, true, false, cond, List, [], ◌∷◌, ◌++◌, length, take, drop, get_or, Option, Some, inl, inr, append_assoc, Result, Ok, Err, IfErr, arith}
+use Rattle.std.specs.Result.{IsErrAnd}
 use Rattle.std.proofs.lemmas.Bool.{eqb-true}
 use Rattle.std.proofs.lemmas.Bool.Decides.{nat_tests}
 use Rattle.std.proofs.lemmas.List.{append-nil, take_all, take-append-drop, get_or_default}
+use Rattle.std.proofs.lemmas.Option.{slice_get-get_or}
 use Rattle.std.proofs.Math.Seq.{take-suc}
 use Rattle.std.specs.Io.KnownBytes.{Appends}
 use Rattle.cs_io.specs.Whole.{AppendsFront}
@@ -11,7 +13,17 @@ use Rattle.cs_laws.specs.declared.events.Event.{Event}
 use Rattle.cs_laws.specs.declared.answers.Entry.{Entry}
 use Rattle.cs_laws.specs.Journal.{history, journal, entry, header, lines, line, text, end_line}
 use Rattle.ceph_run.specs.Lines.{newest_line}
-use Rattle.ceph_run.specs.Stopped.{written_before, written_by, StopsAfter}
+use Rattle.cs_laws.specs.declared.faults.StepFault.{StepFault}
+use Rattle.cs_laws.specs.declared.faults.StepFault.TheVariants as stepping
+use Rattle.cs_laws.specs.declared.objects.ObjOp.{ObjOp}
+use Rattle.cs_laws.specs.Operations.{applied}
+use Rattle.cs_world.specs.Storing.{AppliesFront, brings}
+use Rattle.ceph_run.specs.declared.run_fault.RunFault.{RunFault}
+use Rattle.ceph_run.specs.declared.run_fault.RunFault.TheVariants as faults
+use Rattle.ceph_run.specs.declared.write_fault.WriteFault.{WriteFault}
+use Rattle.ceph_run.specs.declared.write_fault.WriteFault.TheVariants as writing
+use Rattle.ceph_run.specs.Statuses.{of_write, of_step}
+use Rattle.ceph_run.specs.Stopped.{written_before, written_by, StopsAfter, StopsIn, Stops}
 use Rattle.ceph_run.proofs.Journals.{longer, behind_whole, front_whole, took_nothing, text_history}
 
 -- The journal of the events so far
@@ -79,52 +91,90 @@ text_begins : (pages : ℕ) (es : List Event) (n : ℕ) → (behind : List ℕ) 
 text_begins pages es n = text_begins_if pages es n (n == length es) refl
 
 -- a front of what is written by then is a front of the text
-pub front_of_text : (pages : ℕ) (es : List Event) (old new : Option (List ℕ)) → StopsAfter pages es old new → AppendsFront old new (text (journal pages es))
-front_of_text pages es old new s =
+pub front_of_text : (pages : ℕ) (es : List Event) (old new : Option (List ℕ)) (ops : List ObjOp) → StopsAfter pages es old new ops → AppendsFront old new (text (journal pages es))
+front_of_text pages es old new ops s =
     let rest = text_begins pages es s.done in
     longer old new (written_by pages es s.done) rest.0 (text (journal pages es)) rest.1 s.no_more
+
+-- the lines before an event are a front of the text
+front_in_text : (pages : ℕ) (es : List Event) (old new : Option (List ℕ)) (ops : List ObjOp) → StopsIn pages es old new ops → AppendsFront old new (text (journal pages es))
+front_in_text pages es old new ops s =
+    let h : List Entry = journal pages (take s.done es) in
+    let rest =
+    text_history pages h (drop s.done es) (journal pages es)
+    (sym (history-append pages [] (take s.done es) (drop s.done es)) ∙ ap (λ xs. journal pages xs) (take-append-drop s.done es)) in
+    rw rest.1 (front_whole old new (header ++ lines h) rest.0 s.lines)
+
+-- whatever stops it
+pub front_of_stop : (f : RunFault) (pages : ℕ) (es : List Event) (old new : Option (List ℕ)) (ops : List ObjOp) → Stops f pages es old new ops
+    → AppendsFront old new (text (journal pages es))
+front_of_stop faults.Sink pages es old new ops s = front_of_text pages es old new ops s
+front_of_stop faults.Store pages es old new ops s = front_in_text pages es old new ops s
+front_of_stop faults.Log pages es old new ops s = absurd s
+front_of_stop faults.Memory pages es old new ops (inl s) = front_of_text pages es old new ops s
+front_of_stop faults.Memory pages es old new ops (inr s) = front_in_text pages es old new ops s
+
+-- a result is a fault of which this holds
+pub if_err_is : (P : RunFault → Type 0) (r : Result (Unit {0}) RunFault) (x : RunFault) → IsErrAnd r (λ f. f ≡ x) → P x → IfErr r P
+if_err_is P (Ok u) x is p = tt
+if_err_is P (Err f) x is p = subst P (sym is) p
+
+-- a writing that stops
+pub stops_of_write : (w : WriteFault) (pages : ℕ) (es : List Event) (old new : Option (List ℕ)) (ops : List ObjOp) → StopsAfter pages es old new ops
+    → Stops (of_write w) pages es old new ops
+stops_of_write writing.Sink pages es old new ops s = s
+stops_of_write writing.Memory pages es old new ops s = inl s
+
+-- a step that does
+pub stops_of_step : (f : StepFault) (pages : ℕ) (es : List Event) (old new : Option (List ℕ)) (ops : List ObjOp) → (f ≡ stepping.Log → ⊥) → StopsIn pages es old new ops
+    → Stops (of_step f) pages es old new ops
+stops_of_step stepping.Store pages es old new ops other s = s
+stops_of_step stepping.Log pages es old new ops other s = absurd (other refl)
+stops_of_step stepping.Memory pages es old new ops other s = inr s
 
 -- Where it stops
 
 -- before anything was written
-pub stops_at_once : (pages : ℕ) (es : List Event) (a : Option (List ℕ)) → StopsAfter pages es a a
-stops_at_once pages es a = record {
+pub stops_at_once : (pages : ℕ) (es : List Event) (a : Option (List ℕ)) (ops : List ObjOp) → ops ≡ [] → StopsAfter pages es a a ops
+stops_at_once pages es a ops none = record {
   done = 0;
   few = omega arith;
   lines = ([], appends_none a);
   no_more = took_nothing a (written_by pages es 0);
+  listed = none;
 }
 
 -- in the header
-pub stops_in_header : (pages : ℕ) (es : List Event) (old new : Option (List ℕ)) → AppendsFront old new header → StopsAfter pages es old new
-stops_in_header pages es old new t =
+pub stops_in_header : (pages : ℕ) (es : List Event) (old new : Option (List ℕ)) (ops : List ObjOp) → ops ≡ [] → AppendsFront old new header → StopsAfter pages es old new ops
+stops_in_header pages es old new ops none t =
     let upto = by_begins pages es 0 in
     record {
       done = 0;
       few = omega arith;
       lines = (t.1.front, t.1.taken);
       no_more = longer old new header (lines (journal pages (take 0 es)) ++ upto.0) (written_by pages es 0) (upto.1 ∙ append_assoc header (lines (journal pages (take 0 es))) upto.0) t;
+      listed = none;
     }
 
--- before an event
-pub stops_before : (pages : ℕ) (es : List Event) (n : ℕ) (h : List Entry) (old new : Option (List ℕ)) → n ≤ length es → h ≡ journal pages (take n es)
-    → Appends old new (header ++ lines h) → StopsAfter pages es old new
-stops_before pages es n h old new few so_far taken =
-    let upto = by_begins pages es n in
-    let from = before_begins pages es n few in
-    let all : Appends old new (header ++ lines (journal pages (take n es))) = rw so_far at taken in
+-- in an event
+pub stops_in_event : (pages kept : ℕ) (es : List Event) (i : ℕ) (e : Event) (h : List Entry) (old new : Option (List ℕ)) (before ops : List ObjOp) → i < length es
+    → e ≡ get_or es i e → kept ≡ pages → h ≡ journal pages (take i es) → Appends old new (header ++ lines h) → before ≡ applied h
+    → AppliesFront (brings kept h e) before ops → StopsIn pages es old new ops
+stops_in_event pages kept es i e h old new before ops inside is same so_far taken listed front =
+    let P : List ObjOp → ℕ → List Entry → Type 0 = λ os k hs. AppliesFront (brings k hs e) os ops in
     record {
-      done = n;
-      few = few;
-      lines = (from.0, rw from.1 at all);
-      no_more = rw upto.1 (front_whole old new (header ++ lines (journal pages (take n es))) upto.0 all);
+      done = i;
+      event = e;
+      next = slice_get-get_or es i e inside ∙ ap (λ x. let o : Option Event = Some x in o) (sym is);
+      lines = rw so_far at taken;
+      listed = rw (listed, same, so_far) at front;
     }
 
 -- in the line of an event
-pub stops_in_line : (pages : ℕ) (es : List Event) (i : ℕ) (h more : List Entry) (x : Entry) (old mid new : Option (List ℕ)) → i < length es
-    → h ≡ journal pages (take i es) → more ≡ x ∷ h → more ≡ journal pages (take (suc i) es)
-    → Appends old mid (header ++ lines h) → AppendsFront mid new (newest_line more) → StopsAfter pages es old new
-stops_in_line pages es i h more x old mid new inside so_far grown stepped taken now =
+pub stops_in_line : (pages : ℕ) (es : List Event) (i : ℕ) (h more : List Entry) (x : Entry) (old mid new : Option (List ℕ)) (ops : List ObjOp) → i < length es
+    → ops ≡ applied more → h ≡ journal pages (take i es) → more ≡ x ∷ h → more ≡ journal pages (take (suc i) es)
+    → Appends old mid (header ++ lines h) → AppendsFront mid new (newest_line more) → StopsAfter pages es old new ops
+stops_in_line pages es i h more x old mid new ops inside listed so_far grown stepped taken now =
     let upto = by_begins pages es (suc i) in
     let last : AppendsFront mid new (newest_line (x ∷ h)) = rw grown at now in
     let all : AppendsFront old new ((header ++ lines h) ++ newest_line (x ∷ h)) = behind_whole old mid new (header ++ lines h) (newest_line (x ∷ h)) taken last in
@@ -136,12 +186,13 @@ stops_in_line pages es i h more x old mid new inside so_far grown stepped taken 
       few = omega arith;
       lines = (last.1.front, subst P (ap (λ hs. header ++ lines hs) so_far) (appends_more old mid new (header ++ lines h) last.1.front taken last.1.taken));
       no_more = longer old new ((header ++ lines h) ++ newest_line (x ∷ h)) upto.0 (written_by pages es (suc i)) (upto.1 ∙ ap (λ xs. xs ++ upto.0) (sym same)) all;
+      listed = listed ∙ ap (λ hs. applied hs) stepped;
     }
 
 -- in the end line
-pub stops_in_end : (pages : ℕ) (es : List Event) (n k : ℕ) (h : List Entry) (old mid new : Option (List ℕ)) → n ≡ length es → h ≡ journal pages (take n es) → k ≡ length h
-    → Appends old mid (header ++ lines h) → AppendsFront mid new (end_line k) → StopsAfter pages es old new
-stops_in_end pages es n k h old mid new all so_far count taken now =
+pub stops_in_end : (pages : ℕ) (es : List Event) (n k : ℕ) (h : List Entry) (old mid new : Option (List ℕ)) (ops : List ObjOp) → n ≡ length es → ops ≡ applied h → h ≡ journal pages (take n es)
+    → k ≡ length h → Appends old mid (header ++ lines h) → AppendsFront mid new (end_line k) → StopsAfter pages es old new ops
+stops_in_end pages es n k h old mid new ops all listed so_far count taken now =
     let from = before_begins pages es n (omega arith) in
     let end : AppendsFront mid new (end_line (length h)) = rw count at now in
     let whole : h ≡ journal pages es = journal_all pages h es n (omega arith) so_far in
@@ -158,4 +209,5 @@ stops_in_end pages es n k h old mid new all so_far count taken now =
             (appends_more old mid new (header ++ lines h) end.1.front taken end.1.taken),
       );
       no_more = rw (by_all pages es n all) (subst P whole written);
+      listed = listed ∙ ap (λ hs. applied hs) so_far;
     }

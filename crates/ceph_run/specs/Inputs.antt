@@ -1,20 +1,30 @@
 -- What an input is, and what a run of it writes.
-use Rattle.std.specs.Prelude.{◌≡◌, ◌≢◌, ◌≤◌, ℕ, List, length, Option, Result, Ok, Err, IfSome, nat_lt, if◌then◌else◌}
+use Rattle.std.specs.Prelude.{◌≡◌, ◌≢◌, ◌≤◌, ℕ, List, [], length, Option, Result, Ok, Err, IfSome, Bool, true, false, nat_lt, count_by, if◌then◌else◌}
 use Rattle.std.specs.Io.KnownBytes.{IsAtEnd}
 use Rattle.cs_laws.specs.declared.events.Event.{Event}
+use Rattle.cs_laws.specs.declared.events.Event.TheVariants as events
 use Rattle.cs_laws.specs.declared.faults.ScriptFault.{ScriptFault}
+use Rattle.cs_laws.specs.declared.objects.ObjOp.{ObjOp}
 use Rattle.cs_laws.specs.Grammar.{script_of}
 use Rattle.cs_laws.specs.Journal.{journal, text}
+use Rattle.cs_laws.specs.Operations.{applied}
 use Rattle.cs_theorems.specs.Lawful.{IsLawful}
 use Rattle.ceph_run.specs.declared.input.Input.{Input}
 use Rattle.ceph_run.specs.declared.input.Input.TheVariants.{Refused, Runs}
 use Rattle.ceph_run.specs.declared.input.Refusal.TheVariants as refusals
 use Rattle.ceph_run.specs.Refusals.{refusal_line, refusal_status}
 
--- an input that isn't too long: it is in the grammar, and then it has so many events
+abbrev pub is_file : Event → Bool
+is_file (events.File f p) = true
+is_file _ = false
+
+-- an input that isn't too long: it is in the grammar, and then it has so many events, and makes so many files, whatever the answers
 abbrev pub judged_script : Result (List Event) ScriptFault → Input
 judged_script (Err f) = Refused (refusals.Faulty f)
-judged_script (Ok es) = if nat_lt 10000 (length es) then Refused refusals.TooMany else Runs es
+judged_script (Ok es) =
+    if nat_lt 10000 (length es) then Refused refusals.TooManyEvents
+    else if nat_lt 64 (count_by is_file es) then Refused refusals.TooManyFiles
+    else Runs es
 
 -- what an input is
 abbrev pub judged : List ℕ → Input
@@ -29,6 +39,11 @@ status_of (Refused r) = refusal_status r
 abbrev pub told : ℕ → Input → List ℕ
 told pages (Runs es) = text (journal pages es)
 told pages (Refused r) = refusal_line r
+
+-- the operations that the store has after its run, the newest first, unless a fault ends that
+abbrev pub stored : ℕ → Input → List ObjOp
+stored pages (Runs es) = applied (journal pages es)
+stored pages (Refused r) = []
 
 -- the laws hold of the journal that it writes
 abbrev pub IsLawfulRun : ℕ → Input → Type 0

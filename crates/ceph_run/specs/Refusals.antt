@@ -7,12 +7,14 @@ use Rattle.ceph_run.specs.declared.input.Refusal.TheVariants as refusals
 abbrev pub refusal_status : Refusal → ℕ
 refusal_status (refusals.Faulty f) = 2
 refusal_status refusals.TooLong = 3
-refusal_status refusals.TooMany = 3
+refusal_status refusals.TooManyEvents = 3
+refusal_status refusals.TooManyFiles = 3
 
 abbrev pub refusal_text : Refusal → List ℕ
 refusal_text (refusals.Faulty f) = codes "ceph-fault script " ++ (decimal f.line ++ (codes " " ++ kind_text f.kind))
 refusal_text refusals.TooLong = codes "ceph-fault limit bytes"
-refusal_text refusals.TooMany = codes "ceph-fault limit events"
+refusal_text refusals.TooManyEvents = codes "ceph-fault limit events"
+refusal_text refusals.TooManyFiles = codes "ceph-fault limit files"
 
 abbrev pub refusal_line : Refusal → List ℕ
 refusal_line r = refusal_text r ++ codes "\n"

@@ -1,22 +1,31 @@
 -- How a run ends, by its status.
-use Rattle.std.specs.Prelude.{◌≡◌, ℕ, ◌⊎◌, List, [], ◌∷◌, Option, IfSome, map, codes, String, string_bytes}
+use Rattle.std.specs.Prelude.{◌≡◌, ℕ, ◌⊎◌, List, Option, IfSome, codes}
 use Rattle.std.specs.Io.KnownBytes.{Appends, IsAtEnd, Keeps}
-use Rattle.std.specs.declared.alloc.Global.{Global}
 use Rattle.cs_ids.specs.Devices.{Rose}
 use Rattle.cs_io.specs.Whole.{AppendsFront}
-use Rattle.ceph_run.specs.Inputs.{judged, status_of, told, IsLawfulRun}
-use Rattle.ceph_run.specs.Stopped.{StopsIn}
+use Rattle.cs_laws.specs.declared.objects.ObjOp.{ObjOp}
+use Rattle.ceph_run.specs.declared.input.Input.{Input}
+use Rattle.ceph_run.specs.declared.run_fault.RunFault.TheVariants as faults
+use Rattle.ceph_run.specs.Inputs.{judged, status_of, told, stored, IsLawfulRun}
+use Rattle.ceph_run.specs.Stopped.{StopsInput}
 
--- the source and the sink at one moment: the bytes left and the bytes taken, where told, and how often each failed
+-- the source, the sink and the store at one moment: the bytes left and the bytes taken, where told, the operations that were applied,
+-- the newest first, and how often each failed
 pub record Devices : Type 0 where
   pub left : Option (List ℕ)
   pub source_faults : ℕ
   pub taken : Option (List ℕ)
   pub sink_faults : ℕ
+  pub ops : List ObjOp
+  pub store_faults : ℕ
 
 -- a fault ended the run
 abbrev pub IsFaultStatus : ℕ → Type 0
-IsFaultStatus status = (status ≡ 4) ⊎ ((status ≡ 5) ⊎ (status ≡ 8))
+IsFaultStatus status = (status ≡ 4) ⊎ ((status ≡ 5) ⊎ ((status ≡ 6) ⊎ (status ≡ 8)))
+
+-- what was written stopped, or the run did
+abbrev pub IsStopStatus : ℕ → Type 0
+IsStopStatus status = (status ≡ 5) ⊎ ((status ≡ 6) ⊎ (status ≡ 8))
 
 -- the bytes were written under a status that says so, or the writing stopped
 pub record Writes (whole_status status : ℕ) (bytes : List ℕ) (taken_old taken_new : Option (List ℕ)) (faults_old faults_new : ℕ) : Type 0 where
@@ -28,10 +37,21 @@ pub record Writes (whole_status status : ℕ) (bytes : List ℕ) (taken_old take
   pub sink : status ≡ 5 → Rose faults_old faults_new
   pub known : (status ≡ whole_status) ⊎ ((status ≡ 5) ⊎ (status ≡ 8))
 
+-- what became of an input that was judged
+pub record Ends (pages : ℕ) (input : Input) (status : ℕ) (taken_old taken_new : Option (List ℕ)) (sink_old sink_new : ℕ) (ops : List ObjOp)
+    (store_old store_new : ℕ) : Type 0 where
+  -- unless a fault came, the sink took all that is told of it, and the store lists what it brings
+  pub whole : status ≡ status_of input → Appends taken_old taken_new (told pages input) × (ops ≡ stored pages input)
+  pub sink : status ≡ 5 → Rose sink_old sink_new × StopsInput faults.Sink pages input taken_old taken_new ops
+  pub store : status ≡ 6 → Rose store_old store_new × StopsInput faults.Store pages input taken_old taken_new ops
+  pub memory : status ≡ 8 → StopsInput faults.Memory pages input taken_old taken_new ops
+  pub cut : IsStopStatus status → AppendsFront taken_old taken_new (told pages input)
+  pub known : (status ≡ status_of input) ⊎ IsStopStatus status
+
 -- what the call of a run did
 pub record Served (pages status : ℕ) (before after : Devices) : Type 0 where
-  -- 0: the source was read to its end, and all laws hold of the journal
-  pub done : status ≡ 0 → IsAtEnd after.left × IfSome before.left (λ b. IsLawfulRun pages (judged b))
+  -- 0: the source was read to its end, all laws hold of the journal, and the store lists its operations
+  pub done : status ≡ 0 → IsAtEnd after.left × IfSome before.left (λ b. IsLawfulRun pages (judged b) × (after.ops ≡ stored pages (judged b)))
   -- 2: the source was read to its end
   pub refused : status ≡ 2 → IsAtEnd after.left
   -- 0, 2 and 3: this is what the input is, and the sink took the journal, the fault's line or the limit's line
@@ -39,23 +59,23 @@ pub record Served (pages status : ℕ) (before after : Devices) : Type 0 where
       → IfSome before.left (λ b. (status ≡ status_of (judged b)) × Appends before.taken after.taken (told pages (judged b)))
   -- 4: the source failed, and the sink took nothing
   pub source : status ≡ 4 → Rose before.source_faults after.source_faults × Keeps before.taken after.taken
-  -- 5: the sink failed
-  pub sink : status ≡ 5 → Rose before.sink_faults after.sink_faults
-  -- 5 and 8: the sink took a front of what it would have taken
-  pub cut : (status ≡ 5) ⊎ (status ≡ 8) → IfSome before.left (λ b. AppendsFront before.taken after.taken (told pages (judged b)))
-  -- 5 and 8 in a run: the sink took all lines before that of the last event that was done, and no byte of a later event's
-  pub stopped : (status ≡ 5) ⊎ (status ≡ 8) → IfSome before.left (λ b. StopsIn pages (judged b) before.taken after.taken)
+  -- 5: the sink failed; it took all lines before that of the last event that was done, and no byte of a later event's, and the store
+  -- lists the operations of the events that were done
+  pub sink : status ≡ 5
+      → Rose before.sink_faults after.sink_faults
+      × IfSome before.left (λ b. StopsInput faults.Sink pages (judged b) before.taken after.taken after.ops)
+  -- 6: the store failed in an event; the sink took the lines before its own, and the store lists the operations of the events before
+  -- it and then a front of its own
+  pub store : status ≡ 6
+      → Rose before.store_faults after.store_faults
+      × IfSome before.left (λ b. StopsInput faults.Store pages (judged b) before.taken after.taken after.ops)
+  -- 8: as at 5 or as at 6, or the input wasn't read, and sink and store are as they came
+  pub memory : status ≡ 8 → IfSome before.left (λ b. StopsInput faults.Memory pages (judged b) before.taken after.taken after.ops)
+  -- 5, 6 and 8: the sink took a front of what it would have taken
+  pub cut : IsStopStatus status → IfSome before.left (λ b. AppendsFront before.taken after.taken (told pages (judged b)))
   -- unless a fault comes first, the status is that of the input
   pub decided : IfSome before.left (λ b. (status ≡ status_of (judged b)) ⊎ IsFaultStatus status)
   pub known : (status ≡ 0) ⊎ ((status ≡ 2) ⊎ ((status ≡ 3) ⊎ IsFaultStatus status))
-
--- the words of a command line
-abbrev pub words_are : List (String Global) → List (List ℕ)
-words_are ws = map string_bytes ws
-
--- the words that are accepted
-abbrev pub run_words : List (List ℕ)
-run_words = codes "run" ∷ []
 
 abbrev pub usage_line : List ℕ
 usage_line = codes "ceph-fault usage\n"

@@ -1,23 +1,25 @@
 // The command line.
-ghost use Rattle.std.specs.Prelude.{◌≡◌, ◌≢◌, ◌↔◌, IsTrue, OnOk, OnErr, IsErrOf};
+ghost use Rattle.std.specs.Prelude.{◌≡◌, ◌⊎◌, ℕ, [], Some, None, OnOk, OnErr, IsErrOf};
 ghost use Rattle.std.specs.Io.KnownBytes.{Appends};
 ghost use Rattle.cs_ids.specs.Devices.{Rose};
 ghost use Rattle.cs_io.specs.Whole.{AppendsFront};
-ghost use Rattle.ceph_run.specs.Served.{Served, Writes, words_are, run_words, usage_line};
+ghost use Rattle.cs_command.specs.Words.{asked, texts_of};
+ghost use Rattle.cs_command.specs.declared.command.Command.TheVariants.{Run};
+ghost use Rattle.ceph_run.specs.Served.{Served, Writes, usage_line};
 
 use crate::finished::Finished;
 use crate::serve::serve_run;
 use crate::write_fault::{WriteFault, write_status};
+use cs_command::{Command, WordsFault, read_command};
 use cs_io::{Sink, Source, write_all};
+use cs_objstore::ObjStore;
 use std::alloc::Global;
 
-/// How many pages may be cached.
-const PAGES: u32 = 256;
-
 /// Does all that the program does. The words are those behind the program's name. The one command
-/// is `run`; faulty words are status 1, with a line that says so. The store and the log are handed
-/// back as they came.
-pub fn ceph_main<R, S: Source, K: Sink, O, L>(
+/// is `run`, with the option `--pages P`; faulty words are status 1, with a line that says so. Nothing
+/// was applied to the store, which is handed back as [`serve_run`] leaves it, and as it came where the
+/// words are faulty; the log is handed back as it came.
+pub fn ceph_main<R, S: Source, K: Sink, O: ObjStore, L>(
     _rt: &R,
     alloc: Global,
     words: &[String],
@@ -26,24 +28,45 @@ pub fn ceph_main<R, S: Source, K: Sink, O, L>(
     store: O,
     log: L,
 ) -> Finished<O, L>
-    ensures served { words_are words.now ≡ run_words → Served 256 result.status
-        (record { left = S.left source.old; source_faults = S.faults source.old; taken = K.taken sink.old; sink_faults = K.faults sink.old })
-        (record { left = S.left source.new; source_faults = S.faults source.new; taken = K.taken sink.new; sink_faults = K.faults sink.new }) }
-    // Status 1, unless the writing of the usage line stopped. The source stays as it was.
-    ensures usage { words_are words.now ≢ run_words → Writes 1 result.status usage_line
+    requires empty { O.ops store ≡ [] }
+    ensures served { (pages : ℕ) → asked (texts_of words.now) ≡ Some (Run pages) → Served pages result.status
+        (record {
+          left = S.left source.old;
+          source_faults = S.faults source.old;
+          taken = K.taken sink.old;
+          sink_faults = K.faults sink.old;
+          ops = O.ops store;
+          store_faults = O.faults store;
+        })
+        (record {
+          left = S.left source.new;
+          source_faults = S.faults source.new;
+          taken = K.taken sink.new;
+          sink_faults = K.faults sink.new;
+          ops = O.ops result.store;
+          store_faults = O.faults result.store;
+        }) }
+    // Status 1, unless the writing of the usage line stopped. The source and the store stay as they were.
+    ensures usage { asked (texts_of words.now) ≡ None → Writes 1 result.status usage_line
         (K.taken sink.old) (K.taken sink.new) (K.faults sink.old) (K.faults sink.new) }
-    ensures unread { words_are words.now ≢ run_words → source.new ≡ source.old }
-    ensures store { result.store ≡ store }
+    ensures unread { asked (texts_of words.now) ≡ None → source.new ≡ source.old }
+    ensures untouched { asked (texts_of words.now) ≡ None → result.store ≡ store }
+    // No event was done.
+    ensures unrun { (result.status ≡ 2) ⊎ ((result.status ≡ 3) ⊎ (result.status ≡ 4)) → result.store ≡ store }
     ensures log { result.log ≡ log }
 {
-    if is_run(words) {
-        serve_run(alloc, PAGES, source, sink, store, log)
-    } else {
-        Finished {
+    match read_command(alloc, words) {
+        Ok(Command::Run { pages }) => serve_run(alloc, pages, source, sink, store, log),
+        Err(WordsFault::Usage) => Finished {
             status: tell_usage(sink),
             store,
             log,
-        }
+        },
+        Err(WordsFault::Memory) => Finished {
+            status: 8,
+            store,
+            log,
+        },
     }
 }
 
@@ -63,13 +86,4 @@ fn write_usage<K: Sink>(sink: &mut K) -> Result<(), WriteFault>
 {
     write_all(sink, b"ceph-fault usage\n")?;
     Ok(())
-}
-
-fn is_run(words: &[String]) -> bool
-    ensures { IsTrue result ↔ (words_are words.now ≡ run_words) }
-{
-    match words {
-        [word] => word.as_str() == "run",
-        _ => false,
-    }
 }

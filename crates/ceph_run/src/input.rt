@@ -1,12 +1,12 @@
 // Reads the input of a run and judges it.
-ghost use Rattle.std.specs.Prelude.{◌≡◌, ◌≤◌, Some, IfOk, IsErrOf};
+ghost use Rattle.std.specs.Prelude.{◌≡◌, ◌≤◌, Some, IfOk, IsErrOf, count_by};
 ghost use Rattle.cs_ids.specs.Devices.{Rose};
-ghost use Rattle.ceph_run.specs.Inputs.{JudgesWhole, JudgesScript, IsWithinLimit};
+ghost use Rattle.ceph_run.specs.Inputs.{JudgesWhole, JudgesScript, IsWithinLimit, is_file};
 ghost use Rattle.ceph_run.specs.Refusals.{refusal_text, refusal_status};
 
 use cs_ids::Memory;
 use cs_io::{ReadAll, ReadFault, Source, read_all};
-use cs_laws::ScriptFault;
+use cs_laws::{Event, ScriptFault};
 use cs_script::{ParseFault, Script, parse};
 use std::alloc::Global;
 use std::fmt;
@@ -17,6 +17,9 @@ const MOST_BYTES: usize = 1_048_576;
 /// The most events of a script.
 const MOST_EVENTS: usize = 10_000;
 
+/// The most files that a script makes.
+const MOST_FILES: usize = 64;
+
 /// Why an input isn't run.
 #[derive(Clone, Copy)]
 pub enum Refusal {
@@ -25,7 +28,9 @@ pub enum Refusal {
     /// It is no script: this is its first bad line.
     Faulty(ScriptFault),
     /// It is a script of over 10,000 events.
-    TooMany,
+    TooManyEvents,
+    /// It is a script of over 64 `file` lines, whatever they would be answered.
+    TooManyFiles,
 }
 
 impl fmt::Display for Refusal {
@@ -39,7 +44,8 @@ impl fmt::Display for Refusal {
                 let kind = fault.kind;
                 write!(f, "ceph-fault script {line} {kind}")
             }
-            Refusal::TooMany => write!(f, "ceph-fault limit events"),
+            Refusal::TooManyEvents => write!(f, "ceph-fault limit events"),
+            Refusal::TooManyFiles => write!(f, "ceph-fault limit files"),
         }
     }
 }
@@ -51,7 +57,7 @@ impl Refusal {
     {
         match self {
             Refusal::Faulty(_) => 2,
-            Refusal::TooLong | Refusal::TooMany => 3,
+            Refusal::TooLong | Refusal::TooManyEvents | Refusal::TooManyFiles => 3,
         }
     }
 }
@@ -88,10 +94,22 @@ fn judge(alloc: Global, bytes: &[u8]) -> Result<Input, Memory>
         Err(ParseFault::Fault(fault)) => Ok(Input::Refused(Refusal::Faulty(fault))),
         Ok(script) => {
             if script.len() > MOST_EVENTS {
-                Ok(Input::Refused(Refusal::TooMany))
+                Ok(Input::Refused(Refusal::TooManyEvents))
+            } else if count_files(script.events()) > MOST_FILES {
+                Ok(Input::Refused(Refusal::TooManyFiles))
             } else {
                 Ok(Input::Runs(script))
             }
         }
     }
+}
+
+// How many `file` lines a script has.
+fn count_files(events: &[Event]) -> usize
+    ensures { result ≡ count_by is_file events.now }
+{
+    events
+        .iter()
+        .filter(|event| matches!(event, Event::File { .. }))
+        .count()
 }

@@ -4,15 +4,23 @@
 
 mod command;
 mod finished;
+#[cfg(test)]
+mod grammar_tests;
 mod input;
 mod journal;
+mod run_fault;
 mod serve;
+#[cfg(test)]
+mod store_tests;
+#[cfg(test)]
+mod test_runs;
 #[cfg(test)]
 mod tests;
 mod write_fault;
 
 use command::ceph_main;
 use cs_io::{StdSink, StdSource};
+use cs_objstore::MemStore;
 use finished::Finished;
 use std::process::ExitCode;
 use std::rt::Env;
@@ -42,7 +50,7 @@ fn main(rt: HostRuntime) -> ExitCode {
     let mut sink = StdSink::new(io::writer(&rt));
     let Finished {
         status,
-        store: (),
+        store: _,
         log: (),
     } = ceph_main(
         &rt,
@@ -50,7 +58,7 @@ fn main(rt: HostRuntime) -> ExitCode {
         words.as_slice(),
         &mut source,
         &mut sink,
-        (),
+        MemStore::new(rt.alloc()),
         (),
     );
     ExitCode::from(status)

@@ -1,31 +1,36 @@
 // Runs the script of a source.
-ghost use Rattle.std.specs.Prelude.{◌≡◌, ◌≤◌, ◌⊎◌, length, OnOk, OnErr, IsErrOf, IfOk, string_bytes};
+ghost use Rattle.std.specs.Prelude.{◌≡◌, ◌≤◌, ◌⊎◌, [], length, OnOk, OnErr, IsErrOf, IfOk, string_bytes};
 ghost use Rattle.std.specs.Io.KnownBytes.{Appends};
+ghost use Rattle.std.specs.List.{AllPass};
 ghost use Rattle.cs_ids.specs.Devices.{Rose};
 ghost use Rattle.cs_io.specs.Whole.{AppendsFront};
-ghost use Rattle.cs_laws.specs.Journal.{journal, text};
-ghost use Rattle.ceph_run.specs.Inputs.{told, status_of, IsWithinLimit};
+ghost use Rattle.cs_laws.specs.Fits.{fits};
+ghost use Rattle.ceph_run.specs.declared.input.Input.TheVariants.{Runs};
+ghost use Rattle.ceph_run.specs.Inputs.{IsWithinLimit};
 ghost use Rattle.ceph_run.specs.Refusals.{refusal_line, refusal_status};
-ghost use Rattle.ceph_run.specs.Served.{Served, Writes};
+ghost use Rattle.ceph_run.specs.Served.{Served, Ends, Writes};
 ghost use Rattle.ceph_run.specs.Statuses.{read_status};
-ghost use Rattle.ceph_run.specs.Stopped.{StopsAfter, StopsIn};
 
 use crate::finished::Finished;
 use crate::input::{Input, Refusal, read_input};
 use crate::journal::write_journal;
+use crate::run_fault::run_status;
 use crate::write_fault::{WriteFault, write_status};
 use cs_io::{ReadFault, Sink, Source, write_all};
 use cs_laws::Event;
+use cs_objstore::ObjStore;
 use cs_world::{MakeFault, World};
 use std::alloc::{AllocError, Global};
 
 /// Reads the whole input, parses it, does the events in order and writes the journal as they are
-/// done. 1 to 1,024 pages may be cached. The store and the log are handed back as they came.
+/// done. 1 to 1,024 pages may be cached. Nothing was applied to the store, which is handed back with
+/// the operations that the journal implies, and the log is handed back as it came.
 ///
 /// The status is 0 where all was written. An input that is no script is refused by a line of its own
 /// with status 2, and one that exceeds a limit, 1,048,576 bytes or 10,000 events, with status 3. Where
-/// the source fails the status is 4, where the sink fails 5, and 8 for want of memory.
-pub fn serve_run<S: Source, K: Sink, O, L>(
+/// the source fails the status is 4, where the sink fails 5, where the store fails 6, and 8 for want
+/// of memory. At 2, 3 and 4 the store is handed back as it came.
+pub fn serve_run<S: Source, K: Sink, O: ObjStore, L>(
     alloc: Global,
     pages: u32,
     source: &mut S,
@@ -33,11 +38,26 @@ pub fn serve_run<S: Source, K: Sink, O, L>(
     store: O,
     log: L,
 ) -> Finished<O, L>
-    requires { (1 ≤ pages) × (pages ≤ 1024) }
+    requires pages { (1 ≤ pages) × (pages ≤ 1024) }
+    requires empty { O.ops store ≡ [] }
     ensures served { Served pages result.status
-        (record { left = S.left source.old; source_faults = S.faults source.old; taken = K.taken sink.old; sink_faults = K.faults sink.old })
-        (record { left = S.left source.new; source_faults = S.faults source.new; taken = K.taken sink.new; sink_faults = K.faults sink.new }) }
-    ensures store { result.store ≡ store }
+        (record {
+          left = S.left source.old;
+          source_faults = S.faults source.old;
+          taken = K.taken sink.old;
+          sink_faults = K.faults sink.old;
+          ops = O.ops store;
+          store_faults = O.faults store;
+        })
+        (record {
+          left = S.left source.new;
+          source_faults = S.faults source.new;
+          taken = K.taken sink.new;
+          sink_faults = K.faults sink.new;
+          ops = O.ops result.store;
+          store_faults = O.faults result.store;
+        }) }
+    ensures unrun { (result.status ≡ 2) ⊎ ((result.status ≡ 3) ⊎ (result.status ≡ 4)) → result.store ≡ store }
     ensures log { result.log ≡ log }
 {
     match read_input(alloc, source) {
@@ -60,7 +80,7 @@ fn read_status(fault: ReadFault) -> u8
 }
 
 // Runs the script that an input is, or refuses the input.
-fn serve_input<K: Sink, O, L>(
+fn serve_input<K: Sink, O: ObjStore, L>(
     alloc: Global,
     pages: u32,
     input: &Input,
@@ -70,10 +90,10 @@ fn serve_input<K: Sink, O, L>(
 ) -> Finished<O, L>
     requires pages { (1 ≤ pages) × (pages ≤ 1024) }
     requires few { IsWithinLimit input.now }
-    ensures writes { Writes (status_of input.now) result.status (told pages input.now)
-        (K.taken sink.old) (K.taken sink.new) (K.faults sink.old) (K.faults sink.new) }
-    ensures stopped { (result.status ≡ 5) ⊎ (result.status ≡ 8) → StopsIn pages input.now (K.taken sink.old) (K.taken sink.new) }
-    ensures store { result.store ≡ store }
+    requires empty { O.ops store ≡ [] }
+    ensures ends { Ends pages input.now result.status (K.taken sink.old) (K.taken sink.new) (K.faults sink.old) (K.faults sink.new)
+        (O.ops result.store) (O.faults store) (O.faults result.store) }
+    ensures unrun { (result.status ≡ 2) ⊎ (result.status ≡ 3) → result.store ≡ store }
     ensures log { result.log ≡ log }
 {
     match input {
@@ -115,7 +135,7 @@ fn refusal_text(alloc: Global, refusal: &Refusal) -> Result<String, AllocError>
 }
 
 // Does the events in a world of their own.
-fn run_events<K: Sink, O, L>(
+fn run_events<K: Sink, O: ObjStore, L>(
     alloc: Global,
     pages: u32,
     events: &[Event],
@@ -125,10 +145,10 @@ fn run_events<K: Sink, O, L>(
 ) -> Finished<O, L>
     requires pages { (1 ≤ pages) × (pages ≤ 1024) }
     requires few { length events.now ≤ 10000 }
-    ensures writes { Writes 0 result.status (text (journal pages events.now))
-        (K.taken sink.old) (K.taken sink.new) (K.faults sink.old) (K.faults sink.new) }
-    ensures stopped { (result.status ≡ 5) ⊎ (result.status ≡ 8) → StopsAfter pages events.now (K.taken sink.old) (K.taken sink.new) }
-    ensures store { result.store ≡ store }
+    requires fitting { AllPass fits events.now }
+    requires empty { O.ops store ≡ [] }
+    ensures ends { Ends pages (Runs events.now) result.status (K.taken sink.old) (K.taken sink.new) (K.faults sink.old) (K.faults sink.new)
+        (O.ops result.store) (O.faults store) (O.faults result.store) }
     ensures log { result.log ≡ log }
 {
     match World::make(alloc, pages, store, log) {
@@ -138,10 +158,10 @@ fn run_events<K: Sink, O, L>(
             log,
         },
         Ok(mut world) => {
-            let written = write_journal(alloc, &mut world, events, sink);
+            let ran = write_journal(alloc, &mut world, events, sink);
             let (store, log) = world.finish();
             Finished {
-                status: write_status(0, &written),
+                status: run_status(&ran),
                 store,
                 log,
             }

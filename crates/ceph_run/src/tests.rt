@@ -1,8 +1,10 @@
 use crate::command::ceph_main;
 use crate::finished::Finished;
 use crate::serve::serve_run;
-use cs_ids::{Bytes, Memory};
+use crate::test_runs::{repeated, run};
+use cs_ids::Memory;
 use cs_io::{FaultySink, FaultySource, MemSink, MemSource, Sink, Source};
+use cs_objstore::MemStore;
 use std::alloc::Global;
 use std::test::Fail;
 
@@ -15,17 +17,10 @@ const HELD: &[u8] =
 fn status<S: Source, K: Sink>(alloc: Global, source: &mut S, sink: &mut K) -> u8 {
     let Finished {
         status,
-        store: (),
+        store: _,
         log: (),
-    } = serve_run(alloc, 256, source, sink, (), ());
+    } = serve_run(alloc, 256, source, sink, MemStore::new(alloc), ());
     status
-}
-
-fn run(alloc: Global, input: &[u8]) -> Result<(u8, MemSink), Memory> {
-    let mut source = MemSource::new(alloc, input)?;
-    let mut sink = MemSink::new(alloc);
-    let status = status(alloc, &mut source, &mut sink);
-    Ok((status, sink))
 }
 
 #[test]
@@ -60,22 +55,6 @@ fn inputs_end_with_their_status_and_text(rt: HostRuntime) -> Result<(), Fail> {
     Ok(())
 }
 
-// A script of a line, over and over, behind a beginning.
-fn repeated(
-    alloc: Global,
-    begin: &[u8],
-    line: &[u8],
-    times: u32,
-    end: &[u8],
-) -> Result<Bytes, Memory> {
-    let mut script = Bytes::from_slice(alloc, begin)?;
-    for _ in 0..times {
-        script.append(line)?;
-    }
-    script.append(end)?;
-    Ok(script)
-}
-
 #[test]
 fn a_line_of_4097_bytes_is_long(rt: HostRuntime) -> Result<(), Fail> {
     let script = repeated(rt.alloc(), b"ceph-script 1\n", b"x", 4097, b"\n")?;
@@ -108,9 +87,17 @@ fn faulty_words_are_told(rt: HostRuntime) -> Result<(), Fail> {
     let mut sink = MemSink::new(rt.alloc());
     let Finished {
         status,
-        store: (),
+        store: _,
         log: (),
-    } = ceph_main(&rt, rt.alloc(), &[], &mut source, &mut sink, (), ());
+    } = ceph_main(
+        &rt,
+        rt.alloc(),
+        &[],
+        &mut source,
+        &mut sink,
+        MemStore::new(rt.alloc()),
+        (),
+    );
     assert_eq!(rt; status, 1);
     assert_eq!(rt; sink.bytes(), b"ceph-fault usage\n".as_slice());
     Ok(())

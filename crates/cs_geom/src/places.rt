@@ -1,7 +1,7 @@
 // The places of a byte: its page and its object, and where it lies in each.
 
 ghost use Rattle.std.specs.Prelude.{◌≡◌, ◌+◌, ◌≤◌};
-ghost use Rattle.cs_geom.specs.Places.{piece_at};
+ghost use Rattle.cs_geom.specs.Places.{offset_of, piece_at};
 
 /// The bytes of a page. A file is cached by pages.
 pub const PAGE_SIZE: u64 = 4096;
@@ -28,6 +28,13 @@ pub struct Piece {
 }
 
 impl Piece {
+    /// The offset in the file of the first byte.
+    pub fn offset(&self) -> u64
+        ensures { result ≡ offset_of self.now }
+    {
+        PAGE_SIZE * u64::from(self.page) + u64::from(self.page_off)
+    }
+
     // The piece of `len` bytes at the offset `off` of a file.
     pub(crate) fn at(off: u64, len: u64) -> Self
         requires { off + len ≤ MAX_FILE_SIZE }

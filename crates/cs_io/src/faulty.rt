@@ -1,66 +1,16 @@
 // A source and a sink in memory of which chosen calls fail.
-ghost use Rattle.std.specs.Prelude.{◌≡◌, ◌==◌, ◌<◌, [], Some, length, true, IfOk, IsErr, is_err};
-ghost use Rattle.std.specs.List.{list_any};
+ghost use Rattle.std.specs.Prelude.{◌≡◌, ◌<◌, [], Some, length, true, IfOk, IsErr, is_err};
 ghost use Rattle.std.specs.Io.{ReadsAtMost, WritesAtMost};
 ghost use Rattle.std.specs.Io.KnownBytes.{ReadConsumes, WriteAppends};
 ghost use Rattle.cs_ids.specs.Devices.{HasCause};
-ghost use Rattle.cs_io.specs.States.{ReadsFront, first_call, after_call, is_listed};
+ghost use Rattle.cs_faults.specs.Plans.{first_call, after_call, is_listed};
+ghost use Rattle.cs_io.specs.States.{ReadsFront};
 
-use crate::count::FaultCount;
 use crate::{MemSink, MemSource, Sink, Source};
+use cs_faults::FaultPlan;
 use cs_ids::{Failed, Memory};
 use std::alloc::Global;
 use std::marker::Model;
-
-// Which calls of a device fail.
-#[derive(Drop)]
-pub struct FaultPlan {
-    listed: Vec<u32>,
-    next: u64,
-    faults: FaultCount,
-}
-
-impl Model for FaultPlan {
-    ghost use Rattle.cs_io.specs.States.{CallPlan};
-
-    ghost Value = { CallPlan };
-
-    ghost view = { λ p. record { listed = p.listed.items; next = p.next; faults = p.faults } };
-}
-
-impl FaultPlan {
-    fn new(alloc: Global, calls: &[u32]) -> Result<Self, Memory>
-        ensures { IfOk result (λ p. p ≡ first_call calls.now) }
-    {
-        Ok(FaultPlan {
-            listed: Vec::from_slice(alloc, calls)?,
-            next: 1,
-            faults: FaultCount::new(),
-        })
-    }
-
-    // Counts a call, which fails where it is listed.
-    fn count_call(&mut self) -> Result<(), Failed>
-        ensures listed { is_err result ≡ is_listed self.old }
-        ensures counted { self.new ≡ after_call (is_err result) self.old }
-        ensures cause { HasCause self.old.faults self.new.faults result }
-    {
-        let number = self.next;
-        self.next = number.saturating_add(1);
-        if contains(self.listed.as_slice(), number) {
-            self.faults.raise();
-            Err(Failed)
-        } else {
-            Ok(())
-        }
-    }
-}
-
-fn contains(calls: &[u32], number: u64) -> bool
-    ensures { result ≡ list_any (λ call. call == number) calls.now }
-{
-    calls.iter().any(|call| u64::from(*call) == number)
-}
 
 /// A source in memory of which the listed calls fail. Contracts see the bytes left and the plan of
 /// its calls.
@@ -164,7 +114,7 @@ impl Sink for FaultySink {
         self.plan.count_call()?;
         let written = self.sink.write(buf);
         if written.is_err() {
-            self.plan.faults.raise();
+            self.plan.count_fault();
         }
         written
     }

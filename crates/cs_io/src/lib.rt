@@ -2,7 +2,6 @@
 //! and faulty ones for tests. Whole inputs are read and whole outputs written.
 #![tactic(auto)]
 
-mod count;
 mod faulty;
 mod memory;
 mod standard;

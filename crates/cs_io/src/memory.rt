@@ -3,11 +3,11 @@ ghost use Rattle.std.specs.Prelude.{◌≡◌, ◌<◌, [], ◌++◌, Some, leng
 ghost use Rattle.std.specs.Io.{ReadsAtMost, WritesAtMost};
 ghost use Rattle.std.specs.Io.KnownBytes.{ReadConsumes, WriteAppends};
 ghost use Rattle.cs_ids.specs.Devices.{HasCause};
-ghost use Rattle.cs_io.specs.Counts.{raised};
+ghost use Rattle.cs_faults.specs.Counts.{raised};
 ghost use Rattle.cs_io.specs.States.{ReadsFront};
 
-use crate::count::FaultCount;
 use crate::{Sink, Source};
+use cs_faults::FaultCount;
 use cs_ids::{Bytes, Failed, Memory};
 use std::alloc::Global;
 use std::marker::Model;

@@ -3,10 +3,10 @@ ghost use Rattle.std.specs.Prelude.{◌≡◌, ◌<◌, length, IfOk, OnOk, OnEr
 ghost use Rattle.std.specs.Io.{ReadsAtMost, WritesAtMost};
 ghost use Rattle.std.specs.Io.KnownBytes.{ReadConsumes, WriteAppends};
 ghost use Rattle.cs_ids.specs.Devices.{HasCause};
-ghost use Rattle.cs_io.specs.Counts.{raised};
+ghost use Rattle.cs_faults.specs.Counts.{raised};
 
-use crate::count::FaultCount;
 use crate::{Sink, Source};
+use cs_faults::FaultCount;
 use cs_ids::Failed;
 use std::io::{Read, Write};
 

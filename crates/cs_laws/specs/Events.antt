@@ -27,6 +27,14 @@ server_knows h f = setup_file h f
 abbrev pub is_directory : List Entry → ℕ → Bool
 is_directory h d = d == 1
 
+-- the time that was told last: no event tells one yet
+abbrev pub clock_then : Event → Answer → ℕ → ℕ
+clock_then _ _ t = t
+
+abbrev pub clock : List Entry → ℕ
+clock [] = 0
+clock (x ∷ h) = clock_then x.event x.answer (clock h)
+
 abbrev pub begun_then : Event → Answer → ℕ → ℕ → ℕ
 begun_then (events.Begin caller f bits end) (answers.Ref number) c n = if caller == c then n + 1 else n
 begun_then _ _ c n = n

@@ -1,5 +1,5 @@
 -- Which events a line of a script spells.
-use Rattle.std.specs.Prelude.{ℕ, ◌&&◌, nat_le, Bool, true}
+use Rattle.std.specs.Prelude.{ℕ, ◌+◌, ◌&&◌, nat_le, Bool, true, List, length}
 use Rattle.cs_bits.specs.declared.Caps.{Caps}
 use Rattle.cs_bits.specs.Bits as sets
 use Rattle.cs_laws.specs.declared.events.Event.{Event}
@@ -13,9 +13,18 @@ greatest_end = 1048576
 abbrev pub is_built : Caps → Bool
 is_built bits = sets.fits bits && sets.is_empty (sets.meet bits (sets.union sets.file_buffer sets.file_cache))
 
+-- the most bytes of one write
+abbrev pub most_written : ℕ
+most_written = 1024
+
+-- a write has some bytes, not too many, and ends where a file may end
+abbrev pub is_write : ℕ → List ℕ → Bool
+is_write off bytes = (nat_le 1 (length bytes) && nat_le (length bytes) most_written) && nat_le (off + length bytes) greatest_end
+
 abbrev pub fits : Event → Bool
 fits (events.File f p) = nat_le 2 f && nat_le f 9999
 fits (events.Begin caller f bits end) = is_built bits && nat_le end greatest_end
+fits (events.Write caller name off bytes) = is_write off bytes
 fits (events.Grant f bits end) = is_built bits && nat_le end greatest_end
 fits (events.Revoke f bits) = is_built bits
 fits _ = true

@@ -5,6 +5,7 @@ use Rattle.std.specs.List.{slice_split}
 use Rattle.cs_bits.specs.declared.Caps.{Caps}
 use Rattle.cs_bits.specs.Bits.{caps_of}
 use Rattle.cs_text.specs.Decimal.{is_decimal, value}
+use Rattle.cs_text.specs.Hex.{bytes_of_hex}
 use Rattle.cs_text.specs.Lines.{lines_in}
 use Rattle.cs_laws.specs.declared.events.Event.{Event}
 use Rattle.cs_laws.specs.declared.events.Event.TheVariants as events
@@ -13,7 +14,7 @@ use Rattle.cs_laws.specs.declared.events.RefName.TheVariants as names
 use Rattle.cs_laws.specs.declared.faults.Kind.{Kind}
 use Rattle.cs_laws.specs.declared.faults.Kind.TheVariants as kinds
 use Rattle.cs_laws.specs.declared.faults.ScriptFault.{ScriptFault}
-use Rattle.cs_laws.specs.Fits.{is_built, greatest_end}
+use Rattle.cs_laws.specs.Fits.{is_built, greatest_end, most_written}
 
 abbrev pub Words : Type 0
 Words = List (List ℕ)
@@ -58,6 +59,15 @@ name_of (c ∷ cs) =
 abbrev pub name_at : ℕ → Words → Result RefName Kind
 name_at i ws = word_in name_of (slice_get ws i)
 
+-- pairs of digits, one at least and not too many
+abbrev pub bytes_of : Option (List ℕ) → Result (List ℕ) Kind
+bytes_of None = Err kinds.Word
+bytes_of (Some []) = Err kinds.Word
+bytes_of (Some (b ∷ bs)) = if nat_le (length (b ∷ bs)) most_written then Ok (b ∷ bs) else Err kinds.Range
+
+abbrev pub bytes_at : ℕ → Words → Result (List ℕ) Kind
+bytes_at i ws = word_in (λ w. bytes_of (bytes_of_hex w)) (slice_get ws i)
+
 -- these are all the words
 abbrev pub only : ℕ → Event → Words → Result Event Kind
 only n e ws = if nat_le (length ws) n then Ok e else Err kinds.Extra
@@ -84,6 +94,19 @@ end_of ws = do
   r ← name_at 2 ws
   only 3 (events.End c r) ws
 
+-- a write of so many bytes ends where a file may end
+abbrev pub ends_in_file : ℕ → ℕ → Event → Result Event Kind
+ends_in_file off count e = if nat_le (off + count) greatest_end then Ok e else Err kinds.Range
+
+unfoldable pub write_of : Words → Result Event Kind
+write_of ws = do
+  c ← number_at 1 0 32 ws
+  r ← name_at 2 ws
+  o ← number_at 3 0 1048575 ws
+  b ← bytes_at 4 ws
+  e ← only 5 (events.Write c r o b) ws
+  ends_in_file o (length b) e
+
 unfoldable pub check_of : Words → Result Event Kind
 check_of ws = do
   f ← number_at 1 1 99999 ws
@@ -106,9 +129,9 @@ revoke_of ws = do
 
 abbrev pub is_later_caller_word : List ℕ → Bool
 is_later_caller_word w =
-    bytes_eq w (codes "write") || (bytes_eq w (codes "read") || (bytes_eq w (codes "chmod")
-    || (bytes_eq w (codes "lookup") || (bytes_eq w (codes "req") || (bytes_eq w (codes "clock")
-    || (bytes_eq w (codes "show") || bytes_eq w (codes "names")))))))
+    bytes_eq w (codes "read") || (bytes_eq w (codes "chmod") || (bytes_eq w (codes "lookup")
+    || (bytes_eq w (codes "req") || (bytes_eq w (codes "clock") || (bytes_eq w (codes "show")
+    || bytes_eq w (codes "names"))))))
 
 abbrev pub is_later_client_word : List ℕ → Bool
 is_later_client_word w =
@@ -130,6 +153,7 @@ event_by w ws =
     if bytes_eq w (codes "file") then file_of ws
     else if bytes_eq w (codes "begin") then begin_of ws
     else if bytes_eq w (codes "end") then end_of ws
+    else if bytes_eq w (codes "write") then write_of ws
     else if bytes_eq w (codes "check") then check_of ws
     else if bytes_eq w (codes "toclient") then only 1 events.ToClient ws
     else if bytes_eq w (codes "grant") then grant_of ws

@@ -2,6 +2,7 @@
 -- an entry does is a function of the entry and of the history before it.
 use Rattle.std.specs.Prelude.{ℕ, List, [], ◌∷◌}
 use Rattle.cs_bits.specs.declared.Caps.{Caps}
+use Rattle.cs_bits.specs.Bits.{no_caps, union}
 use Rattle.cs_parts.specs.declared.capabilities.ClientCaps.{ClientCaps}
 use Rattle.cs_parts.specs.declared.capabilities.ServerCaps.{ServerCaps}
 use Rattle.cs_parts.specs.declared.references.Live.{Live}
@@ -9,9 +10,15 @@ use Rattle.cs_parts.specs.Capabilities.{no_client_caps, no_server_caps}
 use Rattle.cs_parts.specs.References.{used_in}
 use Rattle.cs_laws.specs.declared.answers.Entry.{Entry}
 use Rattle.cs_laws.specs.declared.messages.Message.{Message}
+use Rattle.cs_snapctx.specs.declared.realm.RealmRecord.{RealmRecord}
+use Rattle.cs_snapctx.specs.Context.{Context}
 use Rattle.cs_laws.specs.Capabilities.{client_then, server_then}
+use Rattle.cs_laws.specs.Context.{empty_root, root_then, root_context}
+use Rattle.cs_laws.specs.Events.{clock}
 use Rattle.cs_laws.specs.Flight.{to_client_then, to_server_then}
-use Rattle.cs_laws.specs.References.{live_then}
+use Rattle.cs_laws.specs.Image.{Write}
+use Rattle.cs_laws.specs.References.{live_then, dirty_then}
+use Rattle.cs_laws.specs.Writes.{writes_then}
 
 abbrev mutual
   -- the server's end of a file's capabilities
@@ -34,16 +41,30 @@ abbrev mutual
   to_server [] = []
   to_server (x ∷ h) = to_server_then x.event x.answer (to_server h)
 
-  -- the seq of a file's snapshot context, which is 0 as long as no realm's record can be delivered
-  pub context_seq : List Entry → ℕ → ℕ
-  context_seq [] f = 0
-  context_seq (x ∷ h) f = context_seq h f
+  -- the root's last realm record that the client has
+  pub root : List Entry → RealmRecord
+  root [] = empty_root
+  root (x ∷ h) = root_then x.event x.answer (root h)
 
   -- the references begun and not ended
   pub live : List Entry → List Live
   live [] = []
-  live (x ∷ h) = live_then x.event x.answer (λ f. context_seq h f) (live h)
+  live (x ∷ h) = live_then x.event x.answer (λ f. (root_context (root h)).seq) (live h)
 
--- the bits of a file that are in use
+  -- the writes to a file, the newest first
+  pub writes : List Entry → ℕ → List Write
+  writes [] f = []
+  writes (x ∷ h) f = writes_then x.event x.answer (live h) (clock h) f (writes h f)
+
+  -- the metadata of a file that was changed and not sent in a flush
+  pub dirty : List Entry → ℕ → Caps
+  dirty [] f = no_caps
+  dirty (x ∷ h) f = dirty_then x.event x.answer (live h) f (dirty h f)
+
+-- the snapshot context of a file, whose realm is the root
+abbrev pub context : List Entry → ℕ → Context
+context h f = root_context (root h)
+
+-- the bits of a file that are in use: those of its live references, and those that its dirty metadata needs
 abbrev pub used : List Entry → ℕ → Caps
-used h f = used_in f (live h)
+used h f = union (used_in f (live h)) (dirty h f)

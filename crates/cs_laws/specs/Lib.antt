@@ -1,5 +1,6 @@
 pub mod Answers
 pub mod Capabilities
+pub mod Context
 pub mod Events
 pub mod Fits
 pub mod Flight
@@ -9,6 +10,8 @@ pub mod Image
 pub mod Journal
 pub mod Laws
 pub mod Objects
+pub mod Operations
 pub mod References
 pub mod Refusals
 pub mod Texts
+pub mod Writes

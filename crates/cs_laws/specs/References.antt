@@ -1,13 +1,20 @@
--- What an entry does to the live references.
-use Rattle.std.specs.Prelude.{ℕ, Bool, false, List, [], ◌∷◌, ◌++◌}
+-- What an entry does to the live references, and to the metadata that is dirty.
+use Rattle.std.specs.Prelude.{ℕ, ◌==◌, Bool, false, List, [], ◌∷◌, ◌++◌, Option, Some, None, if◌then◌else◌}
+use Rattle.cs_bits.specs.declared.Caps.{Caps}
+use Rattle.cs_bits.specs.Bits.{union, file_write}
 use Rattle.cs_parts.specs.declared.references.Live.{Live}
-use Rattle.cs_parts.specs.References.{has_ref, without_ref}
+use Rattle.cs_parts.specs.References.{has_ref, ref_named, without_ref}
 use Rattle.cs_laws.specs.declared.events.Event.{Event}
 use Rattle.cs_laws.specs.declared.events.Event.TheVariants as events
 use Rattle.cs_laws.specs.declared.events.RefName.{RefName}
 use Rattle.cs_laws.specs.declared.events.RefName.TheVariants as names
 use Rattle.cs_laws.specs.declared.answers.Answer.{Answer}
 use Rattle.cs_laws.specs.declared.answers.Answer.TheVariants as answers
+
+-- the live reference that a caller uses by this name: one of its own, or one of caller 0
+abbrev pub named : ℕ → RefName → List Live → Option Live
+named caller (names.Own number) rs = ref_named caller number rs
+named caller (names.Kept number) rs = ref_named 0 number rs
 
 -- a caller can end a live reference of its own by this name
 abbrev pub can_end : ℕ → RefName → List Live → Bool
@@ -24,3 +31,13 @@ live_then (events.Begin caller file bits end) (answers.Ref number) seq rs =
     rs ++ record { caller = caller; number = number; file = file; bits = bits; end = end; tag = seq file } ∷ []
 live_then (events.End caller name) answers.Ended seq rs = without_named caller name rs
 live_then _ _ seq rs = rs
+
+-- a write on a reference makes the size and the times of its file dirty, which Fw stands for
+abbrev pub with_dirty : Option Live → ℕ → Caps → Caps
+with_dirty None f d = d
+with_dirty (Some r) f d = if r.file == f then union d file_write else d
+
+-- rs: the live references before the entry
+abbrev pub dirty_then : Event → Answer → List Live → ℕ → Caps → Caps
+dirty_then (events.Write caller name off bytes) answers.Wrote rs f d = with_dirty (named caller name rs) f d
+dirty_then _ _ rs f d = d

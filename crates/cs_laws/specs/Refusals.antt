@@ -17,6 +17,8 @@ is_turned_down answers.Unknown = true
 is_turned_down answers.Exists = true
 is_turned_down answers.NoDir = true
 is_turned_down answers.Full = true
+is_turned_down answers.NoBit = true
+is_turned_down answers.Past = true
 is_turned_down answers.Nothing = true
 is_turned_down _ = false
 

@@ -1,6 +1,7 @@
 -- The texts of events, answers and kinds of faults.
 use Rattle.std.specs.Prelude.{ℕ, List, ◌++◌, codes, decimal}
 use Rattle.cs_bits.specs.Bits.{caps_text}
+use Rattle.cs_text.specs.Hex.{hex_text}
 use Rattle.cs_laws.specs.declared.events.Event.{Event}
 use Rattle.cs_laws.specs.declared.events.Event.TheVariants as events
 use Rattle.cs_laws.specs.declared.answers.Answer.{Answer}
@@ -24,6 +25,7 @@ abbrev pub event_text : Event → List ℕ
 event_text (events.File f p) = codes "file " ++ decimal f ++ codes " " ++ decimal p
 event_text (events.Begin c f bits end) = codes "begin " ++ decimal c ++ codes " " ++ decimal f ++ codes " " ++ caps_text bits ++ codes " " ++ decimal end
 event_text (events.End c name) = codes "end " ++ decimal c ++ codes " " ++ name_text name
+event_text (events.Write c name off bytes) = codes "write " ++ decimal c ++ codes " " ++ name_text name ++ codes " " ++ decimal off ++ codes " " ++ hex_text bytes
 event_text (events.Check f) = codes "check " ++ decimal f
 event_text events.ToClient = codes "toclient"
 event_text (events.Grant f bits end) = codes "grant " ++ decimal f ++ codes " " ++ caps_text bits ++ codes " " ++ decimal end
@@ -39,6 +41,9 @@ answer_text answers.Made = codes "made"
 answer_text answers.Full = codes "full"
 answer_text (answers.Ref n) = codes "ref " ++ decimal n
 answer_text answers.Ended = codes "ended"
+answer_text answers.NoBit = codes "nobit"
+answer_text answers.Past = codes "past"
+answer_text answers.Wrote = codes "wrote"
 answer_text answers.Nothing = codes "nothing"
 answer_text (answers.Hold bits) = codes "hold " ++ caps_text bits
 answer_text (answers.Ack seq bits) = codes "ack " ++ decimal seq ++ codes " " ++ caps_text bits

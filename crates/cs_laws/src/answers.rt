@@ -39,6 +39,12 @@ pub enum Answer {
     },
     /// The reference ended.
     Ended,
+    /// The reference has no right to do this.
+    NoBit,
+    /// The write would end beyond the reference's end.
+    Past,
+    /// The bytes were written.
+    Wrote,
     /// Nothing is left to acknowledge.
     Nothing,
     /// These bits were taken back and are still in use.
@@ -82,6 +88,9 @@ impl Answer {
             Answer::Full => Answer::Full,
             Answer::Ref { number } => Answer::Ref { number: *number },
             Answer::Ended => Answer::Ended,
+            Answer::NoBit => Answer::NoBit,
+            Answer::Past => Answer::Past,
+            Answer::Wrote => Answer::Wrote,
             Answer::Nothing => Answer::Nothing,
             Answer::Hold { bits } => Answer::Hold { bits: *bits },
             Answer::Ack { seq, bits } => Answer::Ack {

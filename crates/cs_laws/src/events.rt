@@ -1,9 +1,9 @@
 // The events of a script.
 ghost use Rattle.std.specs.Prelude.{◌≡◌, IfOk};
-ghost use Rattle.cs_laws.specs.Fits.{fits, is_built};
+ghost use Rattle.cs_laws.specs.Fits.{fits, is_built, is_write};
 
 use cs_bits::Caps;
-use cs_ids::{Caller, Ino, Memory, RefNo};
+use cs_ids::{Bytes, Caller, Ino, Memory, RefNo};
 use std::alloc::Global;
 
 /// How a script names a reference.
@@ -36,6 +36,14 @@ pub enum Event {
         caller: Caller,
         name: RefName,
     },
+    /// A caller writes bytes to the file of a reference, from the offset `off` on. A script gives it
+    /// 1 to 1,024 bytes, which end at 1,048,576 at the most.
+    Write {
+        caller: Caller,
+        name: RefName,
+        off: u32,
+        bytes: Bytes,
+    },
     /// The client looks whether it can acknowledge the last revocation of a file's bits.
     Check {
         file: Ino,
@@ -56,8 +64,8 @@ pub enum Event {
 }
 
 impl Event {
-    /// A copy, equal to the event. It meets no want of memory as long as no event holds a list.
-    pub fn copy(&self, _alloc: Global) -> Result<Event, Memory>
+    /// A copy, equal to the event.
+    pub fn copy(&self, alloc: Global) -> Result<Event, Memory>
         ensures { IfOk result (λ e. e ≡ self.now) }
     {
         // The proof of the match needs the type of the name named.
@@ -84,6 +92,19 @@ impl Event {
                 caller: *caller,
                 name: *name,
             },
+            Event::Write {
+                caller,
+                name,
+                off,
+                bytes,
+            } => {
+                Event::Write {
+                    caller: *caller,
+                    name: *name,
+                    off: *off,
+                    bytes: Bytes::from_slice(alloc, bytes.as_slice())?,
+                }
+            }
             Event::Check { file } => Event::Check { file: *file },
             Event::ToClient => Event::ToClient,
             Event::Grant { file, bits, max } => {
@@ -108,11 +129,19 @@ impl Event {
         match self {
             Event::File { file, .. } => 2 <= file.get() && file.get() <= 9_999,
             Event::Begin { bits, end, .. } => is_built(*bits) && *end <= 1_048_576,
+            Event::Write { off, bytes, .. } => is_write(*off, bytes.as_slice()),
             Event::Grant { bits, max, .. } => is_built(*bits) && *max <= 1_048_576,
             Event::Revoke { bits, .. } => is_built(*bits),
             Event::End { .. } | Event::Check { .. } | Event::ToClient => true,
         }
     }
+}
+
+// Whether a script may write so many bytes at the offset.
+fn is_write(off: u32, bytes: &[u8]) -> bool
+    ensures { result ≡ is_write off bytes.now }
+{
+    1 <= bytes.len() && bytes.len() <= 1024 && off as usize + bytes.len() <= 1_048_576
 }
 
 /// Whether a script may name the set: each of its bits exists, and `Fb` and `Fc`, which come with

@@ -3,6 +3,7 @@ ghost use Rattle.std.specs.Prelude.{Some};
 ghost use Rattle.cs_laws.specs.Texts.{event_text, answer_text, why_text, name_text, kind_text};
 
 use crate::{Answer, Event, Kind, RefName, Why};
+use cs_text::HexText;
 use std::fmt;
 
 impl fmt::Display for RefName {
@@ -57,6 +58,15 @@ impl fmt::Display for Event {
                 end,
             } => { write!(f, "begin {} {} {bits} {end}", caller.get(), file.get()) }
             Event::End { caller, name } => write!(f, "end {} {name}", caller.get()),
+            Event::Write {
+                caller,
+                name,
+                off,
+                bytes,
+            } => {
+                let digits = HexText(bytes.as_slice());
+                write!(f, "write {} {name} {off} {digits}", caller.get())
+            }
             Event::Check { file } => write!(f, "check {}", file.get()),
             Event::ToClient => write!(f, "toclient"),
             Event::Grant { file, bits, max } => write!(f, "grant {} {bits} {max}", file.get()),
@@ -79,6 +89,9 @@ impl fmt::Display for Answer {
             Answer::Full => write!(f, "full"),
             Answer::Ref { number } => write!(f, "ref {}", number.get()),
             Answer::Ended => write!(f, "ended"),
+            Answer::NoBit => write!(f, "nobit"),
+            Answer::Past => write!(f, "past"),
+            Answer::Wrote => write!(f, "wrote"),
             Answer::Nothing => write!(f, "nothing"),
             Answer::Hold { bits } => write!(f, "hold {bits}"),
             Answer::Ack { seq, bits } => write!(f, "ack {} {bits}", seq.get()),

@@ -1,7 +1,8 @@
--- What a store does with an operation, and what it reads. Lists of operations have the newest first.
+-- What a store does with an operation, and what it reads. Lists of operations have the newest first, if nothing else is said.
 use Rattle.std.specs.Prelude.{◌≡◌, ℕ, ◌+◌, ◌==◌, Bool, true, false, List, ◌∷◌, Result, Ok, Err, slice_index, EachIndex}
 use Rattle.std.specs.List.{list_any}
 use Rattle.cs_ids.specs.declared.objects.Obj.{Obj}
+use Rattle.cs_faults.specs.Plans.{CallPlan}
 use Rattle.cs_laws.specs.declared.objects.At.{At}
 use Rattle.cs_laws.specs.declared.objects.ObjOp.{ObjOp}
 use Rattle.cs_laws.specs.Objects.{object_byte}
@@ -22,3 +23,8 @@ Applies old new op (Err fault) = new ≡ old
 -- these are the object's bytes from a place on
 abbrev pub ReadsObject : List ObjOp → Obj → At → ℕ → List ℕ → Type 0
 ReadsObject ops obj at off out = EachIndex out (λ i. slice_index out i ≡ object_byte at obj ops (off + i))
+
+-- a faulty store: the operations that were applied, the oldest first, and its calls
+pub record FaultyState : Type 0 where
+  pub ops : List ObjOp
+  pub plan : CallPlan

@@ -1,11 +1,11 @@
 // A store in memory of which chosen calls fail.
 ghost use Rattle.std.specs.Prelude.{◌≡◌, ◌+◌, ◌≤◌, ◌↔◌, [], length, reverse, true, IfOk, IsErrOf, is_err};
 ghost use Rattle.cs_ids.specs.Devices.{HasCause, Rose};
-ghost use Rattle.cs_objstore.specs.Plans.{first_call, after_call, is_listed};
+ghost use Rattle.cs_faults.specs.Plans.{first_call, after_call, is_listed};
 ghost use Rattle.cs_objstore.specs.Stores.{Applies, ReadsObject};
 
-use crate::plan::FaultPlan;
 use crate::{Applied, MemStore, ObjStore, StoreFault};
+use cs_faults::FaultPlan;
 use cs_ids::{Failed, Memory, Obj};
 use cs_laws::{At, ObjOp, ObjOps};
 use std::alloc::Global;
@@ -20,7 +20,7 @@ pub struct FaultyStore {
 }
 
 impl Model for FaultyStore {
-    ghost use Rattle.cs_objstore.specs.Plans.{FaultyState};
+    ghost use Rattle.cs_objstore.specs.Stores.{FaultyState};
 
     ghost Value = { FaultyState };
 
@@ -59,7 +59,7 @@ impl ObjStore for FaultyStore {
         ensures later { self.old.plan.faults ≤ self.new.plan.faults }
         ensures failed { IsErrOf result StoreFault.Failed → Rose self.old.plan.faults self.new.plan.faults }
         ensures listed { IsErrOf result StoreFault.Failed ↔ (is_listed self.old.plan ≡ true) }
-        ensures counted { self.new.plan ≡ after_call self.old.plan }
+        ensures counted { self.new.plan ≡ after_call (is_listed self.old.plan) self.old.plan }
     {
         self.plan.count_call()?;
         self.store.apply(op)
@@ -72,7 +72,7 @@ impl ObjStore for FaultyStore {
         ensures bytes { IfOk result (λ _. ReadsObject (reverse self.old.ops) obj at off out.new) }
         ensures cause { HasCause self.old.plan.faults self.new.plan.faults result }
         ensures listed { is_err result ≡ is_listed self.old.plan }
-        ensures counted { self.new.plan ≡ after_call self.old.plan }
+        ensures counted { self.new.plan ≡ after_call (is_listed self.old.plan) self.old.plan }
     {
         self.plan.count_call()?;
         self.store.read(obj, at, off, out)

@@ -6,7 +6,6 @@ mod answers;
 mod faulty;
 mod image;
 mod memory;
-mod plan;
 #[cfg(test)]
 mod tests;
 mod traits;

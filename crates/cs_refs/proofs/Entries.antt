@@ -6,9 +6,8 @@ use Rattle.std.proofs.lemmas.Grind.{common_steps}
 use Rattle.indexmap.specs.IndexMap.{IndexMap, insert_entry}
 use Rattle.indexmap.proofs.CallerLemmas.{insert_entry-new}
 use Rattle.cs_parts.specs.declared.references.Live.{Live}
-use Rattle.cs_parts.specs.References.{is_ref, has_ref, without_ref}
+use Rattle.cs_parts.specs.References.{is_ref, has_ref, ref_named, without_ref}
 use Rattle.cs_refs.specs.declared.table.Key.{Key}
-use Rattle.cs_refs.specs.Table.{ref_named}
 use Rattle.cs_refs.specs.Kept.{IsEntry}
 
 -- the key's own test

@@ -1,8 +1,7 @@
 -- What contracts see of the table of references.
-use Rattle.std.specs.Prelude.{◌≡◌, ℕ, ◌==◌, ◌&&◌, Bool, List, [], ◌∷◌, Option, Some, None, length, count_by, slice_index, if◌then◌else◌}
-use Rattle.cs_bits.specs.Bits.{covers, file_write}
+use Rattle.std.specs.Prelude.{◌≡◌, ℕ, List, length, count_by, slice_index}
 use Rattle.cs_parts.specs.declared.references.Live.{Live}
-use Rattle.cs_parts.specs.References.{is_ref}
+use Rattle.cs_parts.specs.References.{is_writer_of}
 use Rattle.cs_refs.specs.declared.fault.RefFault.{RefFault}
 use Rattle.cs_refs.specs.declared.fault.RefFault.TheVariants.{Full, Memory}
 
@@ -13,15 +12,6 @@ pub record RefTable : Type 0 where
 
 abbrev pub begun_of : ℕ → RefTable → ℕ
 begun_of caller t = slice_index t.begun caller
-
--- the reference of this name, where it lives
-abbrev pub ref_named : ℕ → ℕ → List Live → Option Live
-ref_named caller number [] = None
-ref_named caller number (r ∷ rs) = if is_ref caller number r then Some r else ref_named caller number rs
-
--- a live reference to the file with the right to write
-abbrev pub is_writer_of : ℕ → Live → Bool
-is_writer_of f r = (r.file == f) && covers r.bits file_write
 
 abbrev pub writers_of : ℕ → List Live → ℕ
 writers_of f rs = count_by (is_writer_of f) rs

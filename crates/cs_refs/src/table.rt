@@ -1,8 +1,8 @@
 // The table of live references.
 ghost use Rattle.std.specs.Prelude.{◌≡◌, ℕ, ◌+◌, ◌<◌, ◌≤◌, ◌==◌, ◌↔◌, ◌++◌, [], ◌∷◌, length, is_some, if◌then◌else◌, IfOk, IfErr, OnErr};
-ghost use Rattle.cs_parts.specs.References.{has_ref, without_ref, used_in};
+ghost use Rattle.cs_parts.specs.References.{has_ref, ref_named, without_ref, used_in};
 ghost use Rattle.cs_refs.specs.declared.fault.RefFault.TheVariants as faults;
-ghost use Rattle.cs_refs.specs.Table.{begun_of, ref_named, writers_of, IsCausedBy};
+ghost use Rattle.cs_refs.specs.Table.{begun_of, writers_of, IsCausedBy};
 
 use crate::RefFault;
 use crate::used::{used_by, writers_among};

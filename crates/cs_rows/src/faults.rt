@@ -24,6 +24,11 @@ pub fn leading_zero()
     ensures { script_of inputs.leading_zero ≡ Err (record { line = 2; kind = kinds.Number }) }
 {}
 
+/// A reference ends at the greatest size of a file, or before.
+pub fn end_too_far()
+    ensures { script_of inputs.end_too_far ≡ Err (record { line = 5; kind = kinds.Range }) }
+{}
+
 /// Files stand before all other events.
 pub fn late_file()
     ensures { script_of inputs.late_file ≡ Err (record { line = 4; kind = kinds.Late }) }

@@ -1,1 +1,9 @@
+pub mod FieldFacts
+pub mod Fitting
+pub mod FormFacts
 pub mod Linewise
+pub mod Spelt
+pub mod Scripts
+pub mod Told
+pub mod Visible
+pub mod Written

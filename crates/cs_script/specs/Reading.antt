@@ -5,6 +5,8 @@ use Rattle.cs_laws.specs.declared.events.Event.{Event}
 use Rattle.cs_laws.specs.declared.faults.Kind.{Kind}
 use Rattle.cs_laws.specs.declared.faults.ScriptFault.{ScriptFault}
 use Rattle.cs_laws.specs.Grammar.{is_setup}
+use Rattle.cs_script.specs.declared.line_fault.LineFault.{LineFault}
+use Rattle.cs_script.specs.declared.line_fault.LineFault.TheVariants as line_faults
 use Rattle.cs_script.specs.declared.lines.ParseFault.{ParseFault}
 use Rattle.cs_script.specs.declared.lines.ParseFault.TheVariants as faults
 
@@ -16,6 +18,21 @@ texts ws = map (λ w. w.now) ws
 abbrev pub Gives : {X Y : Type 0} → (X → Y) → Result X Kind → Result Y Kind → Type 0
 Gives view (Ok x) read = read ≡ Ok (view x)
 Gives view (Err k) read = read ≡ Err k
+
+-- a line's fault is of the kind that reading gives, and want of memory says nothing
+abbrev pub IsKindOf : {X : Type 0} → LineFault → Result X Kind → Type 0
+IsKindOf line_faults.Memory read = Unit {0}
+IsKindOf (line_faults.Kind k) read = read ≡ Err k
+
+-- what a function returned is what reading gives, unless memory ran out
+abbrev pub Spells : {X : Type 0} → Result X LineFault → Result X Kind → Type 0
+Spells (Ok x) read = read ≡ Ok x
+Spells (Err f) read = IsKindOf f read
+
+-- a script's fault, where the line of this number isn't read
+abbrev pub fault_at : ℕ → LineFault → ParseFault
+fault_at n (line_faults.Kind k) = faults.Fault (record { line = n; kind = k })
+fault_at n line_faults.Memory = faults.Memory
 
 -- a fault is that of reading, and want of memory says nothing
 abbrev pub IsFaultOf : {Y : Type 0} → ParseFault → Result Y ScriptFault → Type 0

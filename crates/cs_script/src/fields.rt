@@ -1,13 +1,15 @@
 // The fields of a line, each at its place among the words.
-ghost use Rattle.std.specs.Prelude.{◌≡◌, ◌≤◌};
+ghost use Rattle.std.specs.Prelude.{◌≡◌, ◌≤◌, Some};
 ghost use Rattle.cs_laws.specs.Fits.{greatest_end};
-ghost use Rattle.cs_laws.specs.Grammar.{number_in, number_at, set_at, name_at, name_of, only};
-ghost use Rattle.cs_script.specs.Reading.{Gives, texts};
+ghost use Rattle.cs_laws.specs.Grammar.{number_in, number_at, set_at, name_at, name_of, bytes_of, bytes_at, only, ends_in_file};
+ghost use Rattle.cs_script.specs.Reading.{Gives, Spells, texts};
 
+use crate::line_fault::LineFault;
 use cs_bits::Caps;
-use cs_ids::{Caller, Ino, RefNo};
+use cs_ids::{Bytes, Caller, Ino, RefNo};
 use cs_laws::{Event, Kind, RefName, is_built};
-use cs_text::{Dec, read_dec};
+use cs_text::{Dec, read_dec, read_hex};
+use std::alloc::Global;
 
 fn number_of(word: &[u8], low: u64, high: u64) -> Result<u64, Kind>
     ensures { result ≡ number_in low high word.now }
@@ -50,6 +52,13 @@ pub fn end_at(words: &[&[u8]], i: usize) -> Result<u32, Kind>
     Ok(value as u32)
 }
 
+pub fn off_at(words: &[&[u8]], i: usize) -> Result<u32, Kind>
+    ensures { Gives (λ x. x) result (number_at i 0 1048575 (texts words.now)) }
+{
+    let value = number_at(words, i, 0, 1_048_575)?;
+    Ok(value as u32)
+}
+
 pub fn set_at(words: &[&[u8]], i: usize) -> Result<Caps, Kind>
     ensures { Gives (λ x. x) result (set_at i (texts words.now)) }
 {
@@ -87,14 +96,47 @@ pub fn name_at(words: &[&[u8]], i: usize) -> Result<RefName, Kind>
     }
 }
 
+// The bytes, where they are some and not too many for one write.
+#[tactic(auto, using(crate::proofs::Written::few_bytes, crate::proofs::Written::many_bytes))]
+fn written(bytes: Bytes) -> Result<Bytes, Kind>
+    ensures { Gives (λ b. b) result (bytes_of (Some bytes)) }
+{
+    match bytes.as_slice().len() {
+        0 => Err(Kind::Word),
+        1..=1024 => Ok(bytes),
+        _ => Err(Kind::Range),
+    }
+}
+
+/// The bytes of one write, two digits each.
+pub fn bytes_at(alloc: Global, words: &[&[u8]], i: usize) -> Result<Bytes, LineFault>
+    ensures { Spells result (bytes_at i (texts words.now)) }
+{
+    let word = words.get(i).ok_or(Kind::Word)?;
+    let bytes = read_hex(alloc, word)?.ok_or(Kind::Word)?;
+    Ok(written(bytes)?)
+}
+
 /// The event, unless there are more than `count` words.
-pub fn only(count: usize, event: Event, words: &[&[u8]]) -> Result<Event, Kind>
-    ensures { Gives (λ e. e) result (only count event (texts words.now)) }
+pub fn only(count: usize, event: Event, words: &[&[u8]]) -> Result<Event, LineFault>
+    ensures { Spells result (only count event (texts words.now)) }
 {
     let _told: Option<RefName> = None;
     if words.len() <= count {
         Ok(event)
     } else {
-        Err(Kind::Extra)
+        Err(LineFault::Kind(Kind::Extra))
+    }
+}
+
+/// The event, unless it writes past where a file may end.
+pub fn ends_in_file(off: u32, count: usize, event: Event) -> Result<Event, LineFault>
+    ensures { Spells result (ends_in_file off count event) }
+{
+    let _told: Option<RefName> = None;
+    if count.saturating_add(off as usize) <= 1_048_576 {
+        Ok(event)
+    } else {
+        Err(LineFault::Kind(Kind::Range))
     }
 }

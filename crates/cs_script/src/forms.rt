@@ -1,14 +1,18 @@
 // The forms of events, each by the fields behind its first word.
 ghost use Rattle.std.specs.Prelude.{◌≡◌};
-ghost use Rattle.cs_laws.specs.Grammar.{event_by, file_of, begin_of, end_of, check_of, grant_of, revoke_of, event_of, is_later_word, is_later_caller_word, is_later_client_word, is_later_server_word};
-ghost use Rattle.cs_script.specs.Reading.{Gives, texts};
+ghost use Rattle.cs_laws.specs.Grammar.{event_by, file_of, begin_of, end_of, write_of, check_of, grant_of, revoke_of, event_of, is_later_word, is_later_caller_word, is_later_client_word, is_later_server_word};
+ghost use Rattle.cs_script.specs.Reading.{Spells, texts};
 
-use crate::fields::{caller_at, end_at, ino_at, name_at, only, set_at};
-use cs_laws::{Event, Kind};
+use crate::fields::{
+    bytes_at, caller_at, end_at, ends_in_file, ino_at, name_at, off_at, only, set_at,
+};
+use crate::line_fault::LineFault;
+use cs_laws::{Event, Kind, RefName};
+use std::alloc::Global;
 
 #[tactic(auto, unfolding(cs_laws::specs::Grammar::file_of))]
-fn file_from(words: &[&[u8]]) -> Result<Event, Kind>
-    ensures { Gives (λ e. e) result (file_of (texts words.now)) }
+fn file_from(words: &[&[u8]]) -> Result<Event, LineFault>
+    ensures { Spells result (file_of (texts words.now)) }
 {
     let file = ino_at(words, 1, 2, 9_999)?;
     let parent = ino_at(words, 2, 1, 99_999)?;
@@ -16,8 +20,8 @@ fn file_from(words: &[&[u8]]) -> Result<Event, Kind>
 }
 
 #[tactic(auto, unfolding(cs_laws::specs::Grammar::begin_of))]
-fn begin_from(words: &[&[u8]]) -> Result<Event, Kind>
-    ensures { Gives (λ e. e) result (begin_of (texts words.now)) }
+fn begin_from(words: &[&[u8]]) -> Result<Event, LineFault>
+    ensures { Spells result (begin_of (texts words.now)) }
 {
     let caller = caller_at(words, 1)?;
     let file = ino_at(words, 2, 1, 99_999)?;
@@ -36,25 +40,48 @@ fn begin_from(words: &[&[u8]]) -> Result<Event, Kind>
 }
 
 #[tactic(auto, unfolding(cs_laws::specs::Grammar::end_of))]
-fn end_from(words: &[&[u8]]) -> Result<Event, Kind>
-    ensures { Gives (λ e. e) result (end_of (texts words.now)) }
+fn end_from(words: &[&[u8]]) -> Result<Event, LineFault>
+    ensures { Spells result (end_of (texts words.now)) }
 {
     let caller = caller_at(words, 1)?;
     let name = name_at(words, 2)?;
     only(3, Event::End { caller, name }, words)
 }
 
+#[tactic(auto, unfolding(cs_laws::specs::Grammar::write_of))]
+fn write_from(alloc: Global, words: &[&[u8]]) -> Result<Event, LineFault>
+    ensures { Spells result (write_of (texts words.now)) }
+{
+    let _told: Option<RefName> = None;
+    let caller = caller_at(words, 1)?;
+    let name = name_at(words, 2)?;
+    let off = off_at(words, 3)?;
+    let bytes = bytes_at(alloc, words, 4)?;
+    let count = bytes.as_slice().len();
+    let event = only(
+        5,
+        Event::Write {
+            caller,
+            name,
+            off,
+            bytes,
+        },
+        words,
+    )?;
+    ends_in_file(off, count, event)
+}
+
 #[tactic(auto, unfolding(cs_laws::specs::Grammar::check_of))]
-fn check_from(words: &[&[u8]]) -> Result<Event, Kind>
-    ensures { Gives (λ e. e) result (check_of (texts words.now)) }
+fn check_from(words: &[&[u8]]) -> Result<Event, LineFault>
+    ensures { Spells result (check_of (texts words.now)) }
 {
     let file = ino_at(words, 1, 1, 99_999)?;
     only(2, Event::Check { file }, words)
 }
 
 #[tactic(auto, unfolding(cs_laws::specs::Grammar::grant_of))]
-fn grant_from(words: &[&[u8]]) -> Result<Event, Kind>
-    ensures { Gives (λ e. e) result (grant_of (texts words.now)) }
+fn grant_from(words: &[&[u8]]) -> Result<Event, LineFault>
+    ensures { Spells result (grant_of (texts words.now)) }
 {
     let file = ino_at(words, 1, 1, 99_999)?;
     let bits = set_at(words, 2)?;
@@ -63,8 +90,8 @@ fn grant_from(words: &[&[u8]]) -> Result<Event, Kind>
 }
 
 #[tactic(auto, unfolding(cs_laws::specs::Grammar::revoke_of))]
-fn revoke_from(words: &[&[u8]]) -> Result<Event, Kind>
-    ensures { Gives (λ e. e) result (revoke_of (texts words.now)) }
+fn revoke_from(words: &[&[u8]]) -> Result<Event, LineFault>
+    ensures { Spells result (revoke_of (texts words.now)) }
 {
     let file = ino_at(words, 1, 1, 99_999)?;
     let bits = set_at(words, 2)?;
@@ -74,8 +101,7 @@ fn revoke_from(words: &[&[u8]]) -> Result<Event, Kind>
 fn is_later_caller_word(word: &[u8]) -> bool
     ensures { result ≡ is_later_caller_word word.now }
 {
-    word == b"write".as_slice()
-        || word == b"read".as_slice()
+    word == b"read".as_slice()
         || word == b"chmod".as_slice()
         || word == b"lookup".as_slice()
         || word == b"req".as_slice()
@@ -118,8 +144,8 @@ fn is_later_word(word: &[u8]) -> bool
 }
 
 #[tactic(auto, unfolding(cs_laws::specs::Grammar::event_by))]
-fn event_by(word: &[u8], words: &[&[u8]]) -> Result<Event, Kind>
-    ensures { Gives (λ e. e) result (event_by word.now (texts words.now)) }
+fn event_by(alloc: Global, word: &[u8], words: &[&[u8]]) -> Result<Event, LineFault>
+    ensures { Spells result (event_by word.now (texts words.now)) }
 {
     if word == b"file".as_slice() {
         file_from(words)
@@ -127,6 +153,8 @@ fn event_by(word: &[u8], words: &[&[u8]]) -> Result<Event, Kind>
         begin_from(words)
     } else if word == b"end".as_slice() {
         end_from(words)
+    } else if word == b"write".as_slice() {
+        write_from(alloc, words)
     } else if word == b"check".as_slice() {
         check_from(words)
     } else if word == b"toclient".as_slice() {
@@ -136,19 +164,19 @@ fn event_by(word: &[u8], words: &[&[u8]]) -> Result<Event, Kind>
     } else if word == b"revoke".as_slice() {
         revoke_from(words)
     } else if is_later_word(word) {
-        Err(Kind::NotBuilt)
+        Err(LineFault::Kind(Kind::NotBuilt))
     } else {
-        Err(Kind::Word)
+        Err(LineFault::Kind(Kind::Word))
     }
 }
 
 /// The event that the words of a line spell, or what is wrong with them.
 #[tactic(auto, unfolding(cs_laws::specs::Grammar::event_of))]
-pub fn event_from(words: &[&[u8]]) -> Result<Event, Kind>
-    ensures { Gives (λ e. e) result (event_of (texts words.now)) }
+pub fn event_from(alloc: Global, words: &[&[u8]]) -> Result<Event, LineFault>
+    ensures { Spells result (event_of (texts words.now)) }
 {
     match words.first() {
-        Some(word) => event_by(word, words),
-        None => Err(Kind::Word),
+        Some(word) => event_by(alloc, word, words),
+        None => Err(LineFault::Kind(Kind::Word)),
     }
 }

@@ -4,6 +4,8 @@
 
 mod fields;
 mod forms;
+pub mod laws;
+mod line_fault;
 mod lines;
 mod printing;
 mod script;

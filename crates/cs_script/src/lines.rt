@@ -1,10 +1,13 @@
 // Reads a script, line by line.
-ghost use Rattle.std.specs.Prelude.{◌≡◌, ◌∷◌, IfOk, true};
+ghost use Rattle.std.specs.Prelude.{◌≡◌, ◌∷◌, IfOk, OnOk, true};
+ghost use Rattle.std.specs.List.{AllPass};
+ghost use Rattle.cs_laws.specs.Fits.{fits};
 ghost use Rattle.cs_laws.specs.Grammar.{in_time, is_setup, line_event, is_skipped, events_from, script_of, words_in, at_line};
-ghost use Rattle.cs_script.specs.Reading.{Gives, Reads, Pushes, texts};
+ghost use Rattle.cs_script.specs.Reading.{Gives, Spells, Reads, Pushes, texts};
 
 use crate::Script;
 use crate::forms::event_from;
+use crate::line_fault::LineFault;
 use cs_laws::{Event, Kind, RefName, ScriptFault};
 use cs_text::{Line, Lines};
 use std::alloc::{AllocError, Global};
@@ -48,20 +51,15 @@ fn words_of(alloc: Global, line: &[u8]) -> Result<Vec<&[u8]>, AllocError>
 
 // The event of a line, where setup says whether lines that begin a script may still come.
 #[tactic(auto, unfolding(cs_laws::specs::Grammar::line_event))]
-fn event_of_line(alloc: Global, number: u32, setup: bool, line: &[u8]) -> Result<Event, ParseFault>
-    ensures { Reads (λ e. e) result (at_line number (line_event setup line.now)) }
+fn line_event(alloc: Global, setup: bool, line: &[u8]) -> Result<Event, LineFault>
+    ensures { Spells result (line_event setup line.now) }
 {
     let _told: Option<RefName> = None;
     let Ok(words) = words_of(alloc, line) else {
-        return Err(ParseFault::Memory);
+        return Err(LineFault::Memory);
     };
-    match event_from(words.as_slice()) {
-        Err(kind) => Err(fault(number, kind)),
-        Ok(event) => match in_time(setup, event) {
-            Err(kind) => Err(fault(number, kind)),
-            Ok(event) => Ok(event),
-        },
-    }
+    let event = event_from(alloc, words.as_slice())?;
+    Ok(in_time(setup, event)?)
 }
 
 fn fault(line: u32, kind: Kind) -> ParseFault
@@ -84,20 +82,22 @@ fn push_line(
     setup: bool,
     line: &[u8],
 ) -> Result<bool, ParseFault>
-    ensures { Pushes events.old.items events.new.items setup result (at_line number (line_event setup line.now)) }
+    ensures pushes { Pushes events.old.items events.new.items setup result (at_line number (line_event setup line.now)) }
+    ensures fitting { AllPass fits events.old.items → OnOk result (AllPass fits events.new.items) }
 {
-    let event = event_of_line(alloc, number, setup, line)?;
-    let is_setup = is_setup(&event);
     let _told: Option<RefName> = None;
+    let event = line_event(alloc, setup, line).map_err(|fault| fault.at_line(number))?;
+    let next = setup && is_setup(&event);
     match events.push(event) {
-        Ok(()) => Ok(setup && is_setup),
+        Ok(()) => Ok(next),
         Err(_) => Err(ParseFault::Memory),
     }
 }
 
 // The events of the lines behind the header.
 fn events_behind(alloc: Global, mut lines: Lines<'_>) -> Result<Vec<Event>, ParseFault>
-    ensures { Reads (λ v. v.items) result (events_from 2 true lines.entry) }
+    ensures reads { Reads (λ v. v.items) result (events_from 2 true lines.entry) }
+    ensures fitting { IfOk result (λ v. AllPass fits v.items) }
 {
     let mut events = Vec::new(alloc);
     let mut setup = true;

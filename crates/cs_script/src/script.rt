@@ -1,10 +1,12 @@
 // A script that was read.
-ghost use Rattle.std.specs.Prelude.{◌≡◌, ◌==◌, length, option_copied, slice_get};
+ghost use Rattle.std.specs.Prelude.{◌≡◌, ◌==◌, length, option_copied, slice_get, true, IfSome};
+ghost use Rattle.std.specs.List.{AllPass};
+ghost use Rattle.cs_laws.specs.Fits.{fits};
 
 use cs_laws::Event;
 use std::marker::Model;
 
-/// The events of a script, in order.
+/// The events of a script, in order. Each of them fits a script.
 #[derive(Drop)]
 pub struct Script {
     events: Vec<Event>,
@@ -12,16 +14,21 @@ pub struct Script {
 
 impl Model for Script {
     ghost use Rattle.std.specs.Prelude.{List};
+    ghost use Rattle.std.specs.List.{AllPass};
+    ghost use Rattle.cs_laws.specs.Fits.{fits};
     ghost use Rattle.cs_laws.specs.declared.events.Event.{Event};
 
     ghost Value = { List Event };
 
     ghost view = { λ s. s.events.items };
+
+    ghost invariant = { λ s. AllPass fits s.events.items };
 }
 
 impl Script {
-    /// The script of these events. It takes no memory.
-    pub fn from_events(events: Vec<Event>) -> Self
+    // The script of these events, each of which fits one. It takes no memory.
+    pub(crate) fn from_events(events: Vec<Event>) -> Self
+        requires { AllPass fits events.items }
         ensures { result ≡ events.items }
     {
         Script { events }
@@ -43,14 +50,16 @@ impl Script {
 
     /// The event at a place, counted from 0, or None exactly past the end.
     pub fn event(&self, i: usize) -> Option<&Event>
-        ensures { option_copied result ≡ slice_get self.now i }
+        ensures event { option_copied result ≡ slice_get self.now i }
+        ensures fitting { IfSome result (λ e. fits e.now ≡ true) }
     {
         self.events.get(i)
     }
 
     /// All events.
     pub fn events(&self) -> &[Event]
-        ensures { result.now ≡ self.now }
+        ensures events { result.now ≡ self.now }
+        ensures fitting { AllPass fits result.now }
     {
         self.events.as_slice()
     }

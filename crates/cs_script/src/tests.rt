@@ -1,20 +1,28 @@
+// What no clause shows: that calls succeed with ample memory, and that the grammar's kinds are the ones
+// meant.
 use crate::{Kind, ParseFault, parse, print_entry, print_event};
-use cs_ids::Bytes;
+use cs_ids::{Bytes, Memory};
 use cs_laws::{Answer, Entry, Event};
 use std::alloc::Global;
 use std::test::Fail;
 
 const SCRIPT: &[u8] =
-    b"ceph-script 1\n# both ends\nfile 100 1\n\ngrant 100 pAsFrw 1048576\ntoclient";
+    b"ceph-script 1\n# both ends\nfile 100 1\n\ngrant 100 pAsFrw 1048576\nwrite 32 g7 1048573 005aff";
 
 #[test]
 fn a_script_is_read_and_printed(rt: HostRuntime) -> Result<(), Fail> {
     let script = parse(rt.alloc(), SCRIPT)?;
     assert_eq!(rt; script.len(), 3);
-    let event = script.event(1).ok_or("the second event")?;
+    let grant = script.event(1).ok_or("the second event")?;
+    let write = script.event(2).ok_or("the third event")?;
     let mut out = Bytes::new(rt.alloc());
-    print_event(event, &mut out)?;
-    assert_eq!(rt; out.as_slice(), b"grant 100 pAsFrw 1048576".as_slice());
+    print_event(grant, &mut out)?;
+    out.append(b"\n")?;
+    print_event(write, &mut out)?;
+    assert_eq!(rt;
+        out.as_slice(),
+        b"grant 100 pAsFrw 1048576\nwrite 32 g7 1048573 005aff".as_slice()
+    );
     let entry = Entry {
         event: Event::ToClient,
         answer: Answer::Idle,
@@ -25,35 +33,57 @@ fn a_script_is_read_and_printed(rt: HostRuntime) -> Result<(), Fail> {
     Ok(())
 }
 
-fn fault(alloc: Global, line: &[u8]) -> Option<(u32, Kind)> {
-    match parse(alloc, line) {
+fn fault(alloc: Global, script: &[u8]) -> Option<(u32, Kind)> {
+    match parse(alloc, script) {
         Err(ParseFault::Fault(fault)) => Some((fault.line, fault.kind)),
         _ => None,
     }
 }
 
+// What is wrong with the one line behind the header.
+fn kind_of(alloc: Global, line: &[u8]) -> Result<Option<Kind>, Memory> {
+    let mut script = Bytes::from_slice(alloc, b"ceph-script 1\n")?;
+    script.append(line)?;
+    Ok(fault(alloc, script.as_slice()).map(|(_, kind)| kind))
+}
+
 #[test]
-fn a_bad_line_is_told_with_its_kind(rt: HostRuntime) {
-    let alloc = rt.alloc();
-    assert_eq!(rt; fault(alloc, b""), Some((1, Kind::Header)));
+fn a_bad_line_is_told_with_its_kind(rt: HostRuntime) -> Result<(), Fail> {
+    assert_eq!(rt; fault(rt.alloc(), b""), Some((1, Kind::Header)));
     assert_eq!(rt;
-        fault(alloc, b"ceph-script 1\nfile 100"),
-        Some((2, Kind::Word))
-    );
-    assert_eq!(rt;
-        fault(alloc, b"ceph-script 1\nfile 1 1 1"),
-        Some((2, Kind::Range))
-    );
-    assert_eq!(rt;
-        fault(alloc, b"ceph-script 1\ngrant 100 Fwr 0"),
-        Some((2, Kind::Word))
-    );
-    assert_eq!(rt;
-        fault(alloc, b"ceph-script 1\ngrant 100 Fb 0"),
-        Some((2, Kind::NotBuilt))
-    );
-    assert_eq!(rt;
-        fault(alloc, b"ceph-script 1\n\ntoclient 1"),
+        fault(rt.alloc(), b"ceph-script 1\n\ntoclient 1"),
         Some((3, Kind::Extra))
     );
+    for (line, kind) in [
+        ("file 100", Kind::Word),
+        ("file 1 1 1", Kind::Range),
+        ("grant 100 Fwr 0", Kind::Word),
+        ("grant 100 Fb 0", Kind::NotBuilt),
+        ("write 1 1 0", Kind::Word),
+        ("write 1 1 0 ", Kind::Word),
+        ("write 1 1 0 616", Kind::Word),
+        ("write 1 1 0 6A", Kind::Word),
+        ("write 1 g 0 61", Kind::Number),
+        ("write 1 1 1048576 61", Kind::Range),
+        ("write 1 1 1048575 6161", Kind::Range),
+        ("write 1 1 1048575 6161 9", Kind::Extra),
+    ] {
+        assert_eq!(rt; kind_of(rt.alloc(), line.as_bytes())?, Some(kind), "{line}");
+    }
+    Ok(())
+}
+
+#[test]
+fn a_write_has_1_to_1_024_bytes(rt: HostRuntime) -> Result<(), Fail> {
+    let digits = [b'6'; 2_050];
+    for (count, kind) in [
+        (2_048, None),
+        (2_049, Some(Kind::Word)),
+        (2_050, Some(Kind::Range)),
+    ] {
+        let mut line = Bytes::from_slice(rt.alloc(), b"write 0 99999 0 ")?;
+        line.append(&digits[..count])?;
+        assert_eq!(rt; kind_of(rt.alloc(), line.as_slice())?, kind);
+    }
+    Ok(())
 }

@@ -1,7 +1,9 @@
 -- Pairs of hex digits, read and written.
-use Rattle.std.proofs.Common.{◌≡◌, ◌∙◌, sym, ap, refl, ℕ, zero, suc, ◌+◌, ◌*◌, ◌/◌, ◌%◌, ◌<◌, ◌==◌, Bool, true, false, ◌&&◌, List, [], ◌∷◌, length, slice_index, cond, Option, Some, None, Result, Ok, Err, arith, ◌⊎◌, inl, inr}
+use Rattle.std.proofs.Common.{◌≡◌, ◌∙◌, sym, ap, refl, ℕ, zero, suc, ◌+◌, ◌*◌, ◌/◌, ◌%◌, ◌<◌, ◌==◌, Bool, true, false, ◌&&◌, List, [], ◌∷◌, ◌++◌, length, slice_index, get_or, take, add-one, cond, Option, Some, None, Result, Ok, Err, arith, ◌⊎◌, inl, inr}
 use Rattle.std.specs.Prelude.{All, option_map}
 use Rattle.std.specs.List.{list_all}
+use Rattle.std.specs.Fmt.{digits}
+use Rattle.std.proofs.Math.Seq.{take-suc}
 use Rattle.std.proofs.lemmas.Bool.{and_parts, cases_eq, cases_lt, eqb-true}
 use Rattle.std.proofs.lemmas.Bool.Decides.{nat_tests}
 use Rattle.std.proofs.lemmas.List.Elements.{All-head, All-tail}
@@ -204,3 +206,24 @@ hex_text-bytes (c ∷ d ∷ cs) bs h =
     let second : hex_digit (pair c d % 16) ≡ d = ap hex_digit low ∙ hex_digit-value d digits.1 in
     rw spelt.1.2 (ap (λ x. x ∷ hex_digit (pair c d % 16) ∷ hex_text spelt.1.0) first
     ∙ (ap (λ x. c ∷ x ∷ hex_text spelt.1.0) second ∙ ap (λ x. c ∷ d ∷ x) rest))
+
+-- ---- printing
+
+-- a number below 16 prints as one digit
+pub digits_one : (n : ℕ) → n < 16 → digits 16 false n ≡ hex_digit n ∷ []
+unfolding digits
+digits_one n h =
+    let none : n / 16 ≡ 0 = omega arith in
+    let same : n % 16 ≡ n = omega arith in
+    rw (none, same) refl
+
+hex_text-append : (bs cs : List ℕ) → hex_text (bs ++ cs) ≡ hex_text bs ++ hex_text cs
+hex_text-append [] cs = refl
+hex_text-append (b ∷ bs) cs = ap (λ ds. hex_digit (b / 16) ∷ hex_digit (b % 16) ∷ ds) (hex_text-append bs cs)
+
+-- the text of the first bytes, and of one more
+pub hex_text-more : (bs : List ℕ) (i b : ℕ) → i < length bs → b ≡ get_or bs i 0
+    → hex_text (take i bs) ++ hex_text (b ∷ []) ≡ hex_text (take (i + 1) bs)
+hex_text-more bs i b h e =
+    let grown : take (i + 1) bs ≡ take i bs ++ b ∷ [] = rw (add-one, e) (take-suc bs i 0 h) in
+    sym (ap hex_text grown ∙ hex_text-append (take i bs) (b ∷ []))

@@ -1,11 +1,35 @@
 // Bytes as pairs of lower-case hex digits.
-ghost use Rattle.std.specs.Prelude.{◌≡◌, ◌<◌, ◌++◌, ℕ, List, Some, All, OnOk, OnErr, IfOk};
+ghost use Rattle.std.specs.Prelude.{◌≡◌, ◌<◌, [], ◌∷◌, ◌++◌, ℕ, List, Some, All, OnOk, OnErr, IfOk};
+ghost use Rattle.std.specs.Fmt.{DisplaysOnOk};
 ghost use Rattle.std.specs.List.{list_all};
 ghost use Rattle.cs_text.specs.Hex.{hex_text, bytes_of_hex, is_hex_digit};
 
 use cs_ids::{Bytes, Memory};
 use hex::FromHexError;
 use std::alloc::Global;
+use std::fmt;
+
+/// Bytes that print as two lower-case hex digits each.
+#[derive(Clone, Copy)]
+pub struct HexText<'a>(pub &'a [u8]);
+
+impl fmt::Display for HexText<'_> {
+    ghost output = { λ t. Some (hex_text t.0.now) };
+
+    fn fmt<W: fmt::Write>(&self, f: &mut fmt::Formatter<W>) -> fmt::Result {
+        for byte in self.0 {
+            write_pair(*byte, f)?;
+        }
+        Ok(())
+    }
+}
+
+#[tactic(auto, using(crate::proofs::HexPairs::digits_one))]
+fn write_pair<W: fmt::Write>(byte: u8, f: &mut fmt::Formatter<W>) -> fmt::Result
+    ensures { DisplaysOnOk W.write_str_gives f.old result (Some (hex_text (byte ∷ []))) f.new }
+{
+    write!(f, "{:x}{:x}", byte / 16, byte % 16)
+}
 
 /// Adds two lower-case hex digits for each byte. After `Memory` the bytes of `out` are as before.
 pub fn put_hex(out: &mut Bytes, b: &[u8]) -> Result<(), Memory>

@@ -7,6 +7,6 @@ mod numbers;
 #[cfg(test)]
 mod tests;
 
-pub use hexadecimal::{each_hex_text_is_read, put_hex, read_hex};
+pub use hexadecimal::{HexText, each_hex_text_is_read, put_hex, read_hex};
 pub use lines::{Line, Lines, MAX_LINE};
 pub use numbers::{Dec, each_number_is_read, put_dec, read_dec};

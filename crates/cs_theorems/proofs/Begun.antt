@@ -29,7 +29,7 @@ member_without : (c n : ℕ) (rs : List Live) (r : Live) → Member r (without_r
 member_without c n [] r m = m
 member_without c n (y ∷ ys) r m = left_of (is_ref c n y) r y ys (without_ref c n ys) (member_without c n ys r) m
 
-member_without_named : (c : ℕ) (name : RefName) (rs : List Live) (r : Live) → Member r (without_named c name rs) → Member r rs
+pub member_without_named : (c : ℕ) (name : RefName) (rs : List Live) (r : Live) → Member r (without_named c name rs) → Member r rs
 member_without_named c (names.Own n) rs r m = member_without c n rs r m
 member_without_named c (names.Kept n) rs r m = m
 
@@ -41,7 +41,7 @@ issued_begin h c f b n x begin_unknown i = λ r m. inr (i r m)
 issued_begin h c f b n x begin_caps i = λ r m. inr (i r m)
 issued_begin h c f b n x begin_max i = λ r m. inr (i r m)
 issued_begin h c f b n x begin_full i = λ r m. inr (i r m)
-issued_begin h c f b n x (begun_ref issued) i =
+issued_begin h c f b n x (begun_ref known issued) i =
     each_end (λ r. WasIssued (record { event = e.Begin c f b n; answer = x } ∷ h) r) (live h) _ (λ r m. inr (i r m)) (inl (refl, issued))
 
 issued_end : (h : List Entry) (c : ℕ) (name : RefName) (x : Answer) → EndIs h c name x → LiveWereIssued h
@@ -49,7 +49,7 @@ issued_end : (h : List Entry) (c : ℕ) (name : RefName) (x : Answer) → EndIs 
 issued_end h c name x end_unknown i = λ r m. inr (i r m)
 issued_end h c name x (ended there) i = λ r m. inr (i r (member_without_named c name (live h) r m))
 
-issued_step : (p : ℕ) (h : List Entry) (x : Event) → LiveWereIssued h → LiveWereIssued (entry p h x ∷ h)
+pub issued_step : (p : ℕ) (h : List Entry) (x : Event) → LiveWereIssued h → LiveWereIssued (entry p h x ∷ h)
 issued_step p h (e.Begin c f b n) i = issued_begin h c f b n _ (begin_is h c f b n) i
 issued_step p h (e.End c name) i = issued_end h c name _ (end_is h c name) i
 issued_step p h _ i = λ r m. inr (i r m)
@@ -58,8 +58,11 @@ issued_steps : (p : ℕ) (es : List Event) (h : List Entry) → LiveWereIssued h
 issued_steps p [] h i = i
 issued_steps p (x ∷ es) h i = issued_steps p es (entry p h x ∷ h) (issued_step p h x i)
 
+pub nothing_issued : LiveWereIssued []
+nothing_issued = each_nil (WasIssued [])
+
 pub live_were_issued : (p : ℕ) (es : List Event) → LiveWereIssued (journal p es)
-live_were_issued p es = issued_steps p es [] (each_nil (WasIssued []))
+live_were_issued p es = issued_steps p es [] nothing_issued
 
 -- Numbers
 
@@ -87,7 +90,7 @@ drawn_begin h c f b n x begin_unknown i = i
 drawn_begin h c f b n x begin_caps i = i
 drawn_begin h c f b n x begin_max i = i
 drawn_begin h c f b n x begin_full i = i
-drawn_begin h c f b n x (begun_ref issued) i =
+drawn_begin h c f b n x (begun_ref known issued) i =
     λ d. draws_for (c == d) c d (begun h d) (begun h c) (drawn h d) refl (λ same. ap (λ k. begun h k) same) (i d)
 
 drawn_step : (p : ℕ) (h : List Entry) (x : Event) → AllDrawn h → AllDrawn (entry p h x ∷ h)

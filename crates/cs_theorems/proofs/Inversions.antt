@@ -1,9 +1,10 @@
 -- What the answer to each event can be, with the tests that led there where a law wants them.
-use Rattle.std.proofs.Common.{◌≡◌, refl, ℕ, ◌+◌, true, List, [], ◌∷◌, ◌&&◌, length, nat_lt, nat_le}
+use Rattle.std.proofs.Common.{◌≡◌, refl, ℕ, ◌+◌, true, List, [], ◌∷◌, ◌&&◌, Option, Some, None, length, nat_lt, nat_le}
 use Rattle.std.proofs.lemmas.Bool.{cond_both}
 use Rattle.cs_bits.specs.declared.Caps.{Caps}
 use Rattle.cs_bits.specs.Bits.{covers, is_empty}
 use Rattle.cs_parts.specs.declared.capabilities.ServerCaps.{ServerCaps}
+use Rattle.cs_parts.specs.declared.references.Live.{Live}
 use Rattle.cs_parts.specs.Capabilities.{granted, revoked, held_back, is_complete}
 use Rattle.cs_laws.specs.declared.events.RefName.{RefName}
 use Rattle.cs_laws.specs.declared.answers.Answer.{Answer}
@@ -14,23 +15,23 @@ use Rattle.cs_laws.specs.declared.messages.Message.{Message}
 use Rattle.cs_laws.specs.declared.messages.Message.TheVariants as messages
 use Rattle.cs_laws.specs.Events.{client_knows, server_knows, begun}
 use Rattle.cs_laws.specs.History.{client, server, to_client, live, used}
-use Rattle.cs_laws.specs.References.{can_end}
-use Rattle.cs_laws.specs.Answers.{answer_begin, answer_end, answer_check, answer_first, answer_to_client, answer_grant, answer_revoke, writes}
+use Rattle.cs_laws.specs.References.{can_end, named}
+use Rattle.cs_laws.specs.Answers.{answer_begin, answer_end, answer_check, answer_first, answer_to_client, answer_grant, answer_revoke, answer_write, answer_write_on, may_write}
 
 pub data BeginIs (h : List Entry) (c f : ℕ) (b : Caps) : Answer → Type 0 where
   begin_unknown : BeginIs h c f b a.Unknown
   begin_caps : BeginIs h c f b (a.Again why.Caps)
   begin_max : BeginIs h c f b (a.Again why.Max)
   begin_full : BeginIs h c f b a.Full
-  begun_ref : covers (client h f).issued b ≡ true → BeginIs h c f b (a.Ref (begun h c + 1))
+  begun_ref : client_knows h f ≡ true → covers (client h f).issued b ≡ true → BeginIs h c f b (a.Ref (begun h c + 1))
 
 pub begin_is : (h : List Entry) (c f : ℕ) (b : Caps) (n : ℕ) → BeginIs h c f b (answer_begin h c f b n)
 begin_is h c f b n =
     cond_both (client_knows h f) _ _ (BeginIs h c f b)
-    (λ _. cond_both (covers (client h f).issued b) _ _ (BeginIs h c f b)
-    (λ issued. cond_both (writes b && nat_lt (client h f).max n) _ _ (BeginIs h c f b)
+    (λ known. cond_both (covers (client h f).issued b) _ _ (BeginIs h c f b)
+    (λ issued. cond_both (may_write b && nat_lt (client h f).max n) _ _ (BeginIs h c f b)
     (λ _. begin_max)
-    (λ _. cond_both (nat_le 256 (length (live h))) _ _ (BeginIs h c f b) (λ _. begin_full) (λ _. begun_ref issued)))
+    (λ _. cond_both (nat_le 256 (length (live h))) _ _ (BeginIs h c f b) (λ _. begin_full) (λ _. begun_ref known issued)))
     (λ _. begin_caps))
     (λ _. begin_unknown)
 
@@ -40,6 +41,23 @@ pub data EndIs (h : List Entry) (c : ℕ) (name : RefName) : Answer → Type 0 w
 
 pub end_is : (h : List Entry) (c : ℕ) (name : RefName) → EndIs h c name (answer_end h c name)
 end_is h c name = cond_both (can_end c name (live h)) _ _ (EndIs h c name) (λ t. ended t) (λ _. end_unknown)
+
+pub data WriteIs (h : List Entry) (c : ℕ) (name : RefName) : Answer → Type 0 where
+  write_unknown : WriteIs h c name a.Unknown
+  write_no_bit : WriteIs h c name a.NoBit
+  write_past : WriteIs h c name a.Past
+  wrote : (r : Live) → named c name (live h) ≡ Some r → may_write r.bits ≡ true → WriteIs h c name a.Wrote
+
+write_is_of : (h : List Entry) (c : ℕ) (name : RefName) (off count : ℕ) (found : Option Live) → named c name (live h) ≡ found
+    → WriteIs h c name (answer_write_on found off count)
+write_is_of h c name off count None is = write_unknown
+write_is_of h c name off count (Some r) is =
+    cond_both (may_write r.bits) _ _ (WriteIs h c name)
+    (λ may. cond_both (nat_lt r.end (off + count)) _ _ (WriteIs h c name) (λ _. write_past) (λ _. wrote r is may))
+    (λ _. write_no_bit)
+
+pub write_is : (h : List Entry) (c : ℕ) (name : RefName) (off : ℕ) (bytes : List ℕ) → WriteIs h c name (answer_write h c name off bytes)
+write_is h c name off bytes = write_is_of h c name off (length bytes) (named c name (live h)) refl
 
 pub data CheckIs (h : List Entry) (f : ℕ) : Answer → Type 0 where
   check_unknown : CheckIs h f a.Unknown

@@ -1,5 +1,7 @@
 -- A refused event changes the journal alone.
-use Rattle.std.proofs.Common.{◌≡◌, refl, ℕ, Bool, true, List, ◌∷◌}
+use Rattle.std.proofs.Common.{◌≡◌, refl, ap, ℕ, Bool, true, List, [], ◌∷◌, ◌++◌, reverse}
+use Rattle.cs_bits.specs.declared.Caps.{Caps}
+use Rattle.cs_snapctx.specs.Context.{Context}
 use Rattle.cs_parts.specs.declared.capabilities.ClientCaps.{ClientCaps}
 use Rattle.cs_parts.specs.declared.capabilities.ServerCaps.{ServerCaps}
 use Rattle.cs_parts.specs.declared.references.Live.{Live}
@@ -10,10 +12,13 @@ use Rattle.cs_laws.specs.declared.answers.Answer.TheVariants as a
 use Rattle.cs_laws.specs.declared.answers.Entry.{Entry}
 use Rattle.cs_laws.specs.declared.messages.Message.{Message}
 use Rattle.cs_laws.specs.Capabilities.{client_then, server_then}
-use Rattle.cs_laws.specs.Events.{setup_file, setup_file_then, begun, begun_then}
+use Rattle.cs_laws.specs.Events.{setup_file, setup_file_then, begun, begun_then, clock}
 use Rattle.cs_laws.specs.Flight.{to_client_then, to_server_then}
-use Rattle.cs_laws.specs.History.{client, server, to_client, to_server, context_seq, live}
-use Rattle.cs_laws.specs.References.{live_then}
+use Rattle.cs_laws.specs.History.{client, server, to_client, to_server, context, live, writes, dirty}
+use Rattle.cs_laws.specs.Image.{Write}
+use Rattle.cs_laws.specs.Operations.{begun_under, begun_under_then, brought, drawn_then, operations_drawn, applied}
+use Rattle.cs_laws.specs.References.{live_then, dirty_then}
+use Rattle.cs_laws.specs.Writes.{writes_then}
 use Rattle.cs_laws.specs.Refusals.{is_refusal}
 use Rattle.cs_theorems.specs.Refusals.{IsAsBefore}
 
@@ -50,6 +55,26 @@ counts : (x : Event) (y : Answer) (c n : ℕ) → is_refusal x y ≡ true → be
 counts (e.Begin caller f bits end) (a.Ref number) c n r = cc
 counts _ _ c n r = refl
 
+under : (x : Event) (y : Answer) (context : ℕ → Context) (c n : ℕ) (was : Context) → is_refusal x y ≡ true → begun_under_then x y context c n was ≡ was
+under (e.Begin caller f bits end) (a.Ref number) context c n was r = cc
+under _ _ context c n was r = refl
+
+written : (x : Event) (y : Answer) (rs : List Live) (time f : ℕ) (ws : List Write) → is_refusal x y ≡ true → writes_then x y rs time f ws ≡ ws
+written (e.Write c name off bytes) a.Wrote rs time f ws r = cc
+written _ _ rs time f ws r = refl
+
+dirtied : (x : Event) (y : Answer) (rs : List Live) (f : ℕ) (d : Caps) → is_refusal x y ≡ true → dirty_then x y rs f d ≡ d
+dirtied (e.Write c name off bytes) a.Wrote rs f d r = cc
+dirtied _ _ rs f d r = refl
+
+none_brought : (x : Event) (y : Answer) (h : List Entry) (n : ℕ) → is_refusal x y ≡ true → brought x y h n ≡ []
+none_brought (e.Write c name off bytes) a.Wrote h n r = cc
+none_brought _ _ h n r = refl
+
+none_drawn : (x : Event) (y : Answer) (h : List Entry) (n : ℕ) → is_refusal x y ≡ true → drawn_then x y h n ≡ n
+none_drawn (e.Write c name off bytes) a.Wrote h n r = cc
+none_drawn _ _ h n r = refl
+
 pub as_before : (h : List Entry) (x : Entry) → is_refusal x.event x.answer ≡ true → IsAsBefore h (x ∷ h)
 as_before h x r = record {
   files = λ f. files x.event x.answer f (setup_file h f) r;
@@ -57,7 +82,13 @@ as_before h x r = record {
   server = λ f. servers x.event x.answer f (server h f) r;
   to_client = clients_way x.event x.answer (λ f. server h f) (to_client h) r;
   to_server = servers_way x.event x.answer (to_server h) r;
+  clock = refl;
   contexts = λ f. refl;
-  references = references x.event x.answer (λ f. context_seq h f) (live h) r;
+  references = references x.event x.answer (λ f. (context h f).seq) (live h) r;
   begun = λ c. counts x.event x.answer c (begun h c) r;
+  begun_under = λ c n. under x.event x.answer (λ f. context h f) c n (begun_under h c n) r;
+  writes = λ f. written x.event x.answer (live h) (clock h) f (writes h f) r;
+  dirty = λ f. dirtied x.event x.answer (live h) f (dirty h f) r;
+  operations = ap (λ os. reverse os ++ applied h) (none_brought x.event x.answer h (operations_drawn h) r);
+  drawn = none_drawn x.event x.answer h (operations_drawn h) r;
 }

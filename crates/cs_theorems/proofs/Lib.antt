@@ -4,5 +4,9 @@ pub mod Growth
 pub mod HeldCovers
 pub mod Inversions
 pub mod Kept
+pub mod Known
 pub mod Listed
+pub mod Operations
+pub mod Runs
 pub mod Together
+pub mod Uses

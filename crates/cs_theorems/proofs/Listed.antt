@@ -1,5 +1,6 @@
 -- What holds of each member of a list.
-use Rattle.std.proofs.Common.{refl, List, [], ◌∷◌, ◌++◌, inl, inr, subst}
+use Rattle.std.proofs.Common.{refl, sym, List, [], ◌∷◌, ◌++◌, inl, inr, subst, reverse}
+use Rattle.std.proofs.lemmas.List.{reverse-append}
 pub use Rattle.cs_theorems.specs.Lists.{Member, Each}
 
 pub each_nil : {A : Type 0} (P : A → Type 0) → Each P []
@@ -15,3 +16,12 @@ each_append P (x ∷ xs) ys ps qs = each_cons P x (xs ++ ys) (ps x (inl refl)) (
 
 pub each_end : {A : Type 0} (P : A → Type 0) (xs : List A) (y : A) → Each P xs → P y → Each P (xs ++ y ∷ [])
 each_end P xs y ps p = each_append P xs (y ∷ []) ps (each_cons P y [] p (each_nil P))
+
+pub each_tail : {A : Type 0} (P : A → Type 0) (y : A) (ys : List A) → Each P (y ∷ ys) → Each P ys
+each_tail P y ys ps x m = ps x (inr m)
+
+pub each_reverse : {A : Type 0} (P : A → Type 0) (xs : List A) → Each P xs → Each P (reverse xs)
+each_reverse P [] ps = ps
+each_reverse P (x ∷ xs) ps =
+    subst (λ ys. Each P ys) (sym (reverse-append (x ∷ []) xs))
+    (each_end P (reverse xs) x (each_reverse P xs (each_tail P x xs ps)) (ps x (inl refl)))

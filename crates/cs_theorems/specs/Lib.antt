@@ -3,3 +3,5 @@ pub mod Lawful
 pub mod Lists
 pub mod References
 pub mod Refusals
+pub mod Runs
+pub mod Uses

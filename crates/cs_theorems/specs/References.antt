@@ -7,13 +7,13 @@ use Rattle.cs_laws.specs.declared.events.Event.TheVariants as events
 use Rattle.cs_laws.specs.declared.answers.Answer.{Answer}
 use Rattle.cs_laws.specs.declared.answers.Answer.TheVariants as answers
 use Rattle.cs_laws.specs.declared.answers.Entry.{Entry}
-use Rattle.cs_laws.specs.History.{client, context_seq, live}
+use Rattle.cs_laws.specs.History.{client, context, live}
 use Rattle.cs_theorems.specs.Lists.{Each, Member}
 
 -- the entry began the reference, and its bits were issued then
 abbrev pub BeganHere : Live → Event → Answer → List Entry → Type 0
 BeganHere r (events.Begin caller file bits end) (answers.Ref number) h =
-    (r ≡ record { caller = caller; number = number; file = file; bits = bits; end = end; tag = context_seq h file })
+    (r ≡ record { caller = caller; number = number; file = file; bits = bits; end = end; tag = (context h file).seq })
     × (covers (client h file).issued bits ≡ true)
 BeganHere r _ _ h = ⊥
 

@@ -1,8 +1,9 @@
 -- Two histories that say the same of all but the journal.
 use Rattle.std.specs.Prelude.{◌≡◌, ℕ, List}
 use Rattle.cs_laws.specs.declared.answers.Entry.{Entry}
-use Rattle.cs_laws.specs.Events.{setup_file, begun}
-use Rattle.cs_laws.specs.History.{client, server, to_client, to_server, context_seq, live}
+use Rattle.cs_laws.specs.Events.{setup_file, begun, clock}
+use Rattle.cs_laws.specs.History.{client, server, to_client, to_server, context, live, writes, dirty}
+use Rattle.cs_laws.specs.Operations.{begun_under, operations_drawn, applied}
 
 pub record IsAsBefore (h new : List Entry) : Type 0 where
   pub files : (f : ℕ) → setup_file new f ≡ setup_file h f
@@ -10,6 +11,12 @@ pub record IsAsBefore (h new : List Entry) : Type 0 where
   pub server : (f : ℕ) → server new f ≡ server h f
   pub to_client : to_client new ≡ to_client h
   pub to_server : to_server new ≡ to_server h
-  pub contexts : (f : ℕ) → context_seq new f ≡ context_seq h f
+  pub clock : clock new ≡ clock h
+  pub contexts : (f : ℕ) → context new f ≡ context h f
   pub references : live new ≡ live h
   pub begun : (c : ℕ) → begun new c ≡ begun h c
+  pub begun_under : (c n : ℕ) → begun_under new c n ≡ begun_under h c n
+  pub writes : (f : ℕ) → writes new f ≡ writes h f
+  pub dirty : (f : ℕ) → dirty new f ≡ dirty h f
+  pub operations : applied new ≡ applied h
+  pub drawn : operations_drawn new ≡ operations_drawn h

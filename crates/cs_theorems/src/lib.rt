@@ -8,5 +8,5 @@ mod references;
 mod refusals;
 
 pub use capabilities::{acks_are_free, held_covers_implemented, lawful_journals};
-pub use references::{live_references_were_issued, numbers_are_drawn_once};
+pub use references::{live_references_were_issued, numbers_are_drawn_once, uses_are_issued};
 pub use refusals::refused_events_change_the_journal_alone;

@@ -4,31 +4,32 @@ use Rattle.std.proofs.lemmas.Bool.{eqb-true}
 use Rattle.std.specs.Ordering.{nat_cmp}
 use Rattle.std.specs.BTreeMap.{get}
 use Rattle.cs_bits.specs.declared.Caps.{Caps}
+use Rattle.cs_bits.specs.Bits.{union}
 use Rattle.cs_parts.specs.declared.capabilities.ClientCaps.{ClientCaps}
 use Rattle.cs_caps.specs.declared.client.Done.{Done}
 use Rattle.cs_caps.specs.declared.client.Done.TheVariants as done
 use Rattle.cs_caps.specs.Client.{completion, completed}
-use Rattle.cs_world.specs.declared.state.FileCaps.{FileCaps}
+use Rattle.cs_world.specs.declared.state.FileState.{FileState}
 use Rattle.cs_world.specs.Tables.{Files, PutsRow, SameRows, CompletesBy, CompletesIn}
 
-put_same : (b : Bool) (f g : ℕ) (old : Files) (r : FileCaps) → (f == g) ≡ b → get nat_cmp old f ≡ Some r → cond b (Some r) (get nat_cmp old g) ≡ get nat_cmp old g
+put_same : (b : Bool) (f g : ℕ) (old : Files) (r : FileState) → (f == g) ≡ b → get nat_cmp old f ≡ Some r → cond b (Some r) (get nat_cmp old g) ≡ get nat_cmp old g
 put_same true f g old r t has = sym has ∙ ap (λ k. get nat_cmp old k) (eqb-true f g t)
 put_same false f g old r t has = refl
 
 -- a table in which a row was put that it has is as before
-same_rows : (old new : Files) (f : ℕ) (r : FileCaps) → get nat_cmp old f ≡ Some r → PutsRow old new f r → SameRows old new
+same_rows : (old new : Files) (f : ℕ) (r : FileState) → get nat_cmp old f ≡ Some r → PutsRow old new f r → SameRows old new
 same_rows old new f r has put = λ g. put g ∙ put_same (f == g) f g old r refl has
 
-completes_by : (old new : Files) (f : ℕ) (r : FileCaps) (d : Done) → get nat_cmp old f ≡ Some r
-    → PutsRow old new f (record { client = completed r.client d; server = r.server }) → CompletesBy old new f r d
+completes_by : (old new : Files) (f : ℕ) (r : FileState) (d : Done) → get nat_cmp old f ≡ Some r
+    → PutsRow old new f (record r { client = completed r.client d }) → CompletesBy old new f r d
 completes_by old new f r (done.Ack seq bits) has put = put
 completes_by old new f r (done.Hold bits) has put = same_rows old new f r has put
 completes_by old new f r done.Nothing has put = same_rows old new f r has put
 
-pub completes : (old new : Files) (f : ℕ) (used : Caps) (r : FileCaps) (d : Done) (client : ClientCaps) → get nat_cmp old f ≡ Some r
-    → d ≡ completion r.client used → client ≡ completed r.client d → PutsRow old new f (record { client = client; server = r.server })
+pub completes : (old new : Files) (f : ℕ) (used : Caps) (r : FileState) (d : Done) (client : ClientCaps) → get nat_cmp old f ≡ Some r
+    → d ≡ completion r.client (union used r.dirty) → client ≡ completed r.client d → PutsRow old new f (record r { client = client })
     → CompletesIn old new f used (Some d) (get nat_cmp old f)
 completes old new f used r d client has is after put =
-    let P : ClientCaps → Type 0 = λ c. PutsRow old new f (record { client = c; server = r.server }) in
-    let Q : Option FileCaps → Type 0 = λ o. CompletesIn old new f used (Some d) o in
+    let P : ClientCaps → Type 0 = λ c. PutsRow old new f (record r { client = c }) in
+    let Q : Option FileState → Type 0 = λ o. CompletesIn old new f used (Some d) o in
     subst Q (sym has) (sym is, completes_by old new f r d has (subst P after put))

@@ -1,5 +1,9 @@
 pub mod Absent
 pub mod Checks
 pub mod Completes
+pub mod Contexts
+pub mod Fronts
 pub mod Kept
+pub mod Pieces
 pub mod Rows
+pub mod Written

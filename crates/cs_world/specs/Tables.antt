@@ -1,9 +1,11 @@
 -- How the tables of a world stand for its history.
-use Rattle.std.specs.Prelude.{◌≡◌, ℕ, ◌<◌, true, false, List, ◌∷◌, if◌then◌else◌, Option, Some, None, reverse, length, ◌==◌}
+use Rattle.std.specs.Prelude.{◌≡◌, ℕ, ◌<◌, true, false, List, ◌∷◌, if◌then◌else◌, Option, Some, None, reverse, length, ◌==◌, max}
 use Rattle.std.specs.Ordering.{nat_cmp}
 use Rattle.std.specs.BTreeMap.{get, BTreeMap}
 use Rattle.std.specs.List.{AllByRecursion}
+use Rattle.cs_ids.specs.declared.objects.FileMeta.{FileMeta}
 use Rattle.cs_bits.specs.declared.Caps.{Caps}
+use Rattle.cs_bits.specs.Bits.{no_caps, union, file_write}
 use Rattle.cs_parts.specs.Capabilities.{no_client_caps, no_server_caps, delivered, acknowledged}
 use Rattle.cs_caps.specs.declared.client.Done.{Done}
 use Rattle.cs_caps.specs.declared.client.Done.TheVariants as done
@@ -15,25 +17,33 @@ use Rattle.cs_laws.specs.declared.answers.Entry.{Entry}
 use Rattle.cs_laws.specs.declared.messages.Message.{Message}
 use Rattle.cs_laws.specs.declared.messages.Message.TheVariants as messages
 use Rattle.cs_laws.specs.Answers.{answer}
-use Rattle.cs_laws.specs.Events.{setup_file, begun}
-use Rattle.cs_laws.specs.History.{client, server, to_client, to_server, context_seq, live}
+use Rattle.cs_laws.specs.Events.{setup_file, begun, clock}
+use Rattle.cs_laws.specs.Context.{root_context}
+use Rattle.cs_laws.specs.History.{client, server, to_client, to_server, root, live, writes, dirty}
+use Rattle.cs_laws.specs.Image.{size, mtime}
+use Rattle.cs_laws.specs.Operations.{operations_drawn}
 use Rattle.cs_refs.specs.Table.{begun_of}
+use Rattle.cs_theorems.specs.Runs.{IsRun}
 use Rattle.cs_world.specs.declared.state.State.{State}
-use Rattle.cs_world.specs.declared.state.FileCaps.{FileCaps}
+use Rattle.cs_world.specs.declared.state.FileState.{FileState}
 
 -- the history so far, the newest entry first
 abbrev pub past : State → List Entry
 past s = reverse s.entries.items
 
-abbrev pub row : List Entry → ℕ → FileCaps
-row h f = record { client = client h f; server = server h f }
+-- the metadata of a file as the client has written it
+abbrev pub meta : List Entry → ℕ → FileMeta
+meta h f = record { size = size (writes h f); mtime = mtime (writes h f); mode = 420 }
 
--- the row of a file of which nothing was granted yet
-abbrev pub new_row : FileCaps
-new_row = record { client = no_client_caps; server = no_server_caps }
+abbrev pub row : List Entry → ℕ → FileState
+row h f = record { client = client h f; server = server h f; meta = meta h f; dirty = dirty h f }
+
+-- the row of a file of which nothing was granted, and to which nothing was written
+abbrev pub new_row : FileState
+new_row = record { client = no_client_caps; server = no_server_caps; meta = record { size = 0; mtime = 0; mode = 420 }; dirty = no_caps }
 
 -- what the table of files has at a file
-abbrev pub row_of : List Entry → ℕ → Option FileCaps
+abbrev pub row_of : List Entry → ℕ → Option FileState
 row_of h f = if setup_file h f then Some (row h f) else None
 
 -- the message is a capability message of a known file
@@ -46,16 +56,24 @@ pub record Refines (h : List Entry) (s : State) : Type 0 where
   pub files : (f : ℕ) → get nat_cmp s.files f ≡ row_of h f
   pub sent_to_client : s.to_client.items ≡ to_client h
   pub sent_to_server : s.to_server.items ≡ to_server h
+  pub clock : s.clock ≡ clock h
+  pub context : s.context ≡ root_context (root h)
   pub live : s.refs.live ≡ live h
-  pub contexts : (f : ℕ) → context_seq h f ≡ 0
+  pub operations : s.operations ≡ operations_drawn h
   pub begun : (c : ℕ) → begun_of c s.refs ≡ begun h c
   -- the client is told of the capabilities of known files alone
   pub told : AllByRecursion (IsToldCap h) (to_client h)
   pub fresh : (f : ℕ) → setup_file h f ≡ false → row h f ≡ new_row
 
--- the tables are those of the history, and there is room for one more entry
+-- the tables are those of the history, which is one of a run
+pub record IsKept (s : State) : Type 0 where
+  pub tables : Refines (past s) s
+  pub run : IsRun s.pages (past s)
+
+-- and there is room for one more entry
 pub record IsReady (s : State) : Type 0 where
   pub tables : Refines (past s) s
+  pub run : IsRun s.pages (past s)
   pub room : length s.entries.items < 10000
 
 -- the journal is as before
@@ -71,17 +89,17 @@ pub record Steps (old new : State) (e : Event) (a : Answer) : Type 0 where
   pub tables : Refines (record { event = e; answer = a } ∷ past old) new
 
 abbrev pub Files : Type 0
-Files = BTreeMap ℕ FileCaps
+Files = BTreeMap ℕ FileState
 
 -- the table has the row at the file, and is else as before
-abbrev pub PutsRow : Files → Files → ℕ → FileCaps → Type 0
+abbrev pub PutsRow : Files → Files → ℕ → FileState → Type 0
 PutsRow old new f r = (g : ℕ) → get nat_cmp new g ≡ (if f == g then Some r else get nat_cmp old g)
 
 -- what a delivered capability message does to the table, if it has the file
-abbrev pub DeliversTo : Files → Files → ℕ → ℕ → Caps → ℕ → Answer → Option FileCaps → Type 0
+abbrev pub DeliversTo : Files → Files → ℕ → ℕ → Caps → ℕ → Answer → Option FileState → Type 0
 DeliversTo old new f seq bits end a None = Unit {0}
 DeliversTo old new f seq bits end a (Some r) =
-    (a ≡ answers.Cap f seq bits end) × PutsRow old new f (record { client = delivered r.client bits seq end; server = r.server })
+    (a ≡ answers.Cap f seq bits end) × PutsRow old new f (record r { client = delivered r.client bits seq end })
 
 abbrev pub Delivers : Files → Files → Message → Answer → Type 0
 Delivers old new (messages.Cap f seq bits end) a = DeliversTo old new f seq bits end a (get nat_cmp old f)
@@ -92,14 +110,24 @@ abbrev pub SameRows : Files → Files → Type 0
 SameRows old new = (g : ℕ) → get nat_cmp new g ≡ get nat_cmp old g
 
 -- only an acknowledgement changes the table
-abbrev pub CompletesBy : Files → Files → ℕ → FileCaps → Done → Type 0
-CompletesBy old new f r (done.Ack seq bits) = PutsRow old new f (record { client = acknowledged r.client bits seq; server = r.server })
+abbrev pub CompletesBy : Files → Files → ℕ → FileState → Done → Type 0
+CompletesBy old new f r (done.Ack seq bits) = PutsRow old new f (record r { client = acknowledged r.client bits seq })
 CompletesBy old new f r (done.Hold bits) = SameRows old new
 CompletesBy old new f r done.Nothing = SameRows old new
 
--- what the client does about a file that the table has, by the bits in use
-abbrev pub CompletesIn : Files → Files → ℕ → Caps → Option Done → Option FileCaps → Type 0
+-- what the client does about a file that the table has, by the bits of its live references
+abbrev pub CompletesIn : Files → Files → ℕ → Caps → Option Done → Option FileState → Type 0
 CompletesIn old new f used None None = SameRows old new
-CompletesIn old new f used (Some d) (Some r) = (completion r.client used ≡ d) × CompletesBy old new f r d
+CompletesIn old new f used (Some d) (Some r) = (completion r.client (union used r.dirty) ≡ d) × CompletesBy old new f r d
 CompletesIn old new f used None (Some r) = ⊥
 CompletesIn old new f used (Some d) None = ⊥
+
+-- a row after a write up to an end, at a time
+abbrev pub written_row : FileState → ℕ → ℕ → FileState
+written_row r end time =
+    record r { meta = record { size = max end r.meta.size; mtime = time; mode = r.meta.mode }; dirty = union r.dirty file_write }
+
+-- what a write does to the table, if it has the file
+abbrev pub Marks : Files → Files → ℕ → ℕ → ℕ → Option FileState → Type 0
+Marks old new f end time None = SameRows old new
+Marks old new f end time (Some r) = PutsRow old new f (written_row r end time)

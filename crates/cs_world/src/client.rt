@@ -5,7 +5,7 @@ ghost use Rattle.cs_world.specs.Tables.{Steps, KeepsJournal, IsReady, Delivers, 
 ghost use Rattle.std.specs.Ordering.{nat_cmp};
 ghost use Rattle.std.specs.BTreeMap.{get};
 
-use crate::state::{FileCaps, State};
+use crate::state::{FileState, State};
 use cs_bits::Caps;
 use cs_caps::Done;
 use cs_ids::{Ino, Memory};
@@ -25,7 +25,7 @@ pub fn to_client(state: &mut State) -> Result<Answer, Memory>
 
 // A message of the other way is never on its way to the client, nor is one of an unknown file: the
 // tables say so, and the answers for both are never given.
-fn deliver(files: &mut BTreeMap<Ino, FileCaps>, message: &Message) -> Answer
+fn deliver(files: &mut BTreeMap<Ino, FileState>, message: &Message) -> Answer
     ensures { Delivers files.old files.new message.now result }
 {
     let Message::Cap {
@@ -37,10 +37,10 @@ fn deliver(files: &mut BTreeMap<Ino, FileCaps>, message: &Message) -> Answer
     else {
         return Answer::Idle;
     };
-    let Some(caps) = files.get_mut(file) else {
+    let Some(state) = files.get_mut(file) else {
         return Answer::Idle;
     };
-    caps.client.deliver(*bits, *seq, *max);
+    state.client.deliver(*bits, *seq, *max);
     Answer::Cap {
         file: *file,
         seq: *seq,
@@ -71,10 +71,11 @@ pub fn check(state: &mut State, file: Ino) -> Result<Answer, Memory>
     }
 }
 
-// Acknowledges what a file's client end was told, as far as the bits in use allow it.
-fn complete(files: &mut BTreeMap<Ino, FileCaps>, file: Ino, used: Caps) -> Option<Done>
+// Acknowledges what a file's client end was told, as far as the bits in use allow it: those of its
+// live references, and those that its dirty metadata needs.
+fn complete(files: &mut BTreeMap<Ino, FileState>, file: Ino, used: Caps) -> Option<Done>
     ensures { CompletesIn files.old files.new file used result (get nat_cmp files.old file) }
 {
-    let caps = files.get_mut(&file)?;
-    Some(caps.client.complete(used))
+    let state = files.get_mut(&file)?;
+    Some(state.client.complete(used.union(state.dirty)))
 }

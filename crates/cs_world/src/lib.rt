@@ -11,5 +11,6 @@ mod step;
 #[cfg(test)]
 mod tests;
 mod world;
+mod writes;
 
 pub use world::{MakeFault, World};

@@ -1,13 +1,13 @@
 // The callers' events: references begin and end.
 ghost use Rattle.std.specs.Prelude.{◌≡◌, ◌&&◌, nat_lt, IfOk, OnErr};
 ghost use Rattle.cs_laws.specs.declared.events.Event.TheVariants as events;
-ghost use Rattle.cs_laws.specs.Answers.{writes};
+ghost use Rattle.cs_laws.specs.Answers.{may_write};
 ghost use Rattle.cs_world.specs.Tables.{Steps, KeepsJournal, IsReady};
 
 use crate::state::State;
 use cs_bits::Caps;
 use cs_caps::Cap;
-use cs_ids::{Caller, Ino, Memory, Seq};
+use cs_ids::{Caller, Ino, Memory};
 use cs_laws::{Answer, RefName, Why};
 use cs_refs::RefFault;
 
@@ -31,7 +31,8 @@ pub fn begin(
     if is_beyond(&caps.client, bits, end) {
         return Ok(Answer::Again(Why::Max));
     }
-    match state.refs.begin(caller, file, bits, end, Seq::zero()) {
+    let tag = state.context.seq();
+    match state.refs.begin(caller, file, bits, end, tag) {
         Ok(number) => Ok(Answer::Ref { number }),
         Err(fault) => match fault {
             RefFault::Full { .. } => Ok(Answer::Full),
@@ -42,7 +43,7 @@ pub fn begin(
 
 // Whether a reference with the right to write would end beyond the file's greatest end.
 fn is_beyond(client: &Cap, bits: Caps, end: u32) -> bool
-    ensures { result ≡ (writes bits && nat_lt client.now.max end) }
+    ensures { result ≡ (may_write bits && nat_lt client.now.max end) }
 {
     bits.has_write() && client.max() < end
 }

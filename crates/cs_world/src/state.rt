@@ -4,18 +4,29 @@ ghost use Rattle.cs_laws.specs.Answers.{sent_cap};
 ghost use Rattle.cs_laws.specs.Flight.{cap_message};
 ghost use Rattle.cs_world.specs.Tables.{Refines, PutsRow, new_row};
 
+use cs_bits::Caps;
 use cs_caps::{Cap, Held};
-use cs_ids::{Ino, Memory};
+use cs_ids::{FileMeta, Ino, Memory};
 use cs_laws::{Answer, Entry, Message};
 use cs_refs::Refs;
+use cs_snapctx::SnapContext;
 use std::alloc::Global;
 use std::collections::{BTreeMap, VecDeque};
 
-/// Both ends of a file's capabilities.
+/// The mode of a file that was made and not changed since.
+const FIRST_MODE: u16 = 0o644;
+
+/// What is kept of a file.
 #[derive(Drop)]
-pub struct FileCaps {
+pub struct FileState {
+    /// The client's end of its capabilities.
     pub client: Cap,
+    /// The server's end.
     pub server: Held,
+    /// Its metadata, as the client has written it.
+    pub meta: FileMeta,
+    /// Which of it was changed and not sent in a flush.
+    pub dirty: Caps,
 }
 
 /// The entries of the journal, the oldest first, and what each event reads and writes of them.
@@ -24,10 +35,16 @@ pub struct State {
     pub alloc: Global,
     pub pages: u32,
     pub entries: Vec<Entry>,
-    pub files: BTreeMap<Ino, FileCaps>,
+    /// The script's time.
+    pub clock: u64,
+    /// The snapshot context of all files: the root is the one realm.
+    pub context: SnapContext,
+    pub files: BTreeMap<Ino, FileState>,
     pub to_client: VecDeque<Message>,
     pub to_server: VecDeque<Message>,
     pub refs: Refs,
+    /// How many operations were drawn.
+    pub operations: u64,
 }
 
 pub fn start(alloc: Global, pages: u32) -> State
@@ -39,22 +56,31 @@ pub fn start(alloc: Global, pages: u32) -> State
         alloc,
         pages,
         entries: Vec::new(alloc),
+        clock: 0,
+        context: SnapContext::empty(alloc),
         files: BTreeMap::new(alloc),
         to_client: VecDeque::new(alloc),
         to_server: VecDeque::new(alloc),
         refs: Refs::new(alloc),
+        operations: 0,
     }
 }
 
-/// Adds a file, of which nothing was granted yet.
-pub fn add_file(files: &mut BTreeMap<Ino, FileCaps>, file: Ino) -> Result<(), Memory>
+/// Adds a file, of which nothing was granted and to which nothing was written yet.
+pub fn add_file(files: &mut BTreeMap<Ino, FileState>, file: Ino) -> Result<(), Memory>
     ensures { OnOk result (PutsRow files.old files.new file new_row) }
 {
-    let caps = FileCaps {
+    let state = FileState {
         client: Cap::new(),
         server: Held::new(),
+        meta: FileMeta {
+            size: 0,
+            mtime: 0,
+            mode: FIRST_MODE,
+        },
+        dirty: Caps::none(),
     };
-    files.insert(file, caps)?;
+    files.insert(file, state)?;
     Ok(())
 }
 

@@ -1,37 +1,62 @@
 // One step: the answer to an event, and its entry.
-ghost use Rattle.std.specs.Prelude.{◌≡◌, ◌∷◌, [], ◌++◌, ◌<◌, IfOk, OnOk, OnErr, vec_len, vec_capacity};
+ghost use Rattle.std.specs.Prelude.{◌≡◌, ◌∷◌, [], ◌++◌, ◌<◌, ◌≤◌, true, IfOk, OnOk, OnErr, IsErrOf, vec_len, vec_capacity};
+ghost use Rattle.cs_ids.specs.Devices.{Rose};
 ghost use Rattle.cs_laws.specs.Answers.{answer};
+ghost use Rattle.cs_laws.specs.Fits.{fits};
 ghost use Rattle.cs_laws.specs.Journal.{entry};
-ghost use Rattle.cs_world.specs.Tables.{Steps, IsReady, KeepsJournal, Refines, past};
+ghost use Rattle.cs_laws.specs.Operations.{applied};
+ghost use Rattle.cs_world.specs.Storing.{AppliesFront, brings, calls_store};
+ghost use Rattle.cs_world.specs.Tables.{Steps, IsReady, IsKept, KeepsJournal, past};
 
 use crate::client::{check, to_client};
 use crate::references::{begin, end};
 use crate::server::{grant, revoke};
 use crate::setup::file;
 use crate::state::State;
+use crate::writes::write;
 use cs_ids::Memory;
-use cs_laws::{Answer, Entry, Event, RefName};
+use cs_laws::{Answer, Entry, Event, RefName, StepFault};
+use cs_objstore::ObjStore;
 
-pub fn answer(state: &mut State, event: &Event) -> Result<Answer, Memory>
-    requires { IsReady state.old }
+#[tactic(auto, using(crate::proofs::Fronts::front_none))]
+pub fn answer<O: ObjStore>(
+    state: &mut State,
+    store: &mut O,
+    event: &Event,
+) -> Result<Answer, StepFault>
+    requires ready { IsReady state.old }
+    requires fits { fits event.now ≡ true }
+    requires listed { O.ops store.old ≡ applied (past state.old) }
     ensures ok { IfOk result (λ a. Steps state.old state.new event.now a) }
+    ensures listed { IfOk result (λ a. O.ops store.new ≡ applied (record { event = event.now; answer = a } ∷ past state.old)) }
     ensures err { OnErr result (KeepsJournal state.old state.new) }
+    ensures front { OnErr result (AppliesFront (brings state.old.pages (past state.old) event.now) (O.ops store.old) (O.ops store.new)) }
+    ensures later { O.faults store.old ≤ O.faults store.new }
+    ensures cause { IsErrOf result StepFault.Store → Rose (O.faults store.old) (O.faults store.new) }
+    ensures called { IsErrOf result StepFault.Store → calls_store event.now (answer state.old.pages (past state.old) event.now) ≡ true }
+    ensures unlogged { IsErrOf result StepFault.Log → ⊥ }
 {
     // The proof of a move of an event needs the type of a reference's name named, here and below.
     let _told: Option<RefName> = None;
     match event {
-        Event::File { file: made, parent } => file(state, *made, *parent),
+        Event::File { file: made, parent } => Ok(file(state, *made, *parent)?),
         Event::Begin {
             caller,
             file,
             bits,
             end,
-        } => begin(state, *caller, *file, *bits, *end),
-        Event::End { caller, name } => end(state, *caller, *name),
-        Event::Check { file } => check(state, *file),
-        Event::ToClient => to_client(state),
-        Event::Grant { file, bits, max } => grant(state, *file, *bits, *max),
-        Event::Revoke { file, bits } => revoke(state, *file, *bits),
+        } => Ok(begin(state, *caller, *file, *bits, *end)?),
+        Event::End { caller, name } => Ok(end(state, *caller, *name)?),
+        Event::Write {
+            caller,
+            name,
+            off,
+            bytes,
+        } => write(state, store, *caller, *name, *off, bytes),
+        Event::Check { file } => Ok(check(state, *file)?),
+        Event::ToClient => Ok(to_client(state)?),
+        Event::Grant { file, bits, max } => Ok(grant(state, *file, *bits, *max)?),
+        Event::Revoke { file, bits } => Ok(revoke(state, *file, *bits)?),
     }
 }
 
@@ -55,18 +80,31 @@ fn enter(entries: &mut Vec<Entry>, event: Event, answer: Answer)
 }
 
 /// Does an event, and enters it with its answer. The room for the entry is taken first.
-pub fn step(state: &mut State, event: &Event) -> Result<Answer, Memory>
-    requires { IsReady state.old }
+#[tactic(auto, using(crate::proofs::Fronts::front_none))]
+pub fn step<O: ObjStore>(
+    state: &mut State,
+    store: &mut O,
+    event: &Event,
+) -> Result<Answer, StepFault>
+    requires ready { IsReady state.old }
+    requires fits { fits event.now ≡ true }
+    requires listed { O.ops store.old ≡ applied (past state.old) }
     ensures answer { IfOk result (λ a. a ≡ answer state.old.pages (past state.old) event.now) }
     ensures history { OnOk result (past state.new ≡ entry state.old.pages (past state.old) event.now ∷ past state.old) }
-    ensures tables { OnOk result (Refines (past state.new) state.new) }
+    ensures kept { OnOk result (IsKept state.new) }
+    ensures listed { OnOk result (O.ops store.new ≡ applied (past state.new)) }
     ensures pages { state.new.pages ≡ state.old.pages }
     ensures err { OnErr result (past state.new ≡ past state.old) }
+    ensures front { OnErr result (AppliesFront (brings state.old.pages (past state.old) event.now) (O.ops store.old) (O.ops store.new)) }
+    ensures later { O.faults store.old ≤ O.faults store.new }
+    ensures cause { IsErrOf result StepFault.Store → Rose (O.faults store.old) (O.faults store.new) }
+    ensures called { IsErrOf result StepFault.Store → calls_store event.now (answer state.old.pages (past state.old) event.now) ≡ true }
+    ensures unlogged { IsErrOf result StepFault.Log → ⊥ }
 {
     let _told: Option<RefName> = None;
     reserve(&mut state.entries)?;
     let entered = event.copy(state.alloc)?;
-    let answer = answer(state, event)?;
+    let answer = answer(state, store, event)?;
     let told = answer.copy(state.alloc)?;
     enter(&mut state.entries, entered, told);
     Ok(answer)

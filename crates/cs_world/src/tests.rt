@@ -2,6 +2,7 @@ use crate::World;
 use cs_bits::Caps;
 use cs_ids::Ino;
 use cs_laws::Event;
+use cs_objstore::{MemStore, ObjStore};
 use std::test::Fail;
 
 #[test]
@@ -17,7 +18,9 @@ fn a_grant_is_sent_and_delivered(rt: HostRuntime) -> Result<(), Fail> {
         },
         Event::ToClient,
     ];
-    let mut world = World::make(rt.alloc(), 256, (), ()).ok().ok_or("memory")?;
+    let mut world = World::make(rt.alloc(), 256, MemStore::new(rt.alloc()), ())
+        .ok()
+        .ok_or("memory")?;
     for event in &events {
         let is_ready = world.is_live() && world.entries().len() < 10_000;
         assert!(rt; is_ready);
@@ -27,21 +30,23 @@ fn a_grant_is_sent_and_delivered(rt: HostRuntime) -> Result<(), Fail> {
     let answer = &newest.answer;
     let text = format!(in rt.alloc(); "{answer}")?;
     assert_eq!(rt; text.as_str(), "cap 100 1 Fr 0");
-    let ((), ()) = world.finish();
+    let (_, ()) = world.finish();
     Ok(())
 }
 
 fn crosses_threads<T: Send>(_: &T) {}
 
 // A world is `Send` where its store and its log are.
-fn worlds_cross_threads<O: Send, L: Send>(world: &World<O, L>) {
+fn worlds_cross_threads<O: ObjStore, L: Send>(world: &World<O, L>) {
     crosses_threads(world)
 }
 
 #[test]
 fn a_world_crosses_threads(rt: HostRuntime) -> Result<(), Fail> {
-    let world = World::make(rt.alloc(), 1, (), ()).ok().ok_or("memory")?;
+    let world = World::make(rt.alloc(), 1, MemStore::new(rt.alloc()), ())
+        .ok()
+        .ok_or("memory")?;
     worlds_cross_threads(&world);
-    let ((), ()) = world.finish();
+    let (_, ()) = world.finish();
     Ok(())
 }

@@ -1,13 +1,18 @@
 // The world, as the layer above sees it.
-ghost use Rattle.std.specs.Prelude.{◌≡◌, ◌<◌, ◌≤◌, [], ◌∷◌, true, false, reverse, length, IfOk, OnOk, IfErr, OnErr};
+ghost use Rattle.std.specs.Prelude.{◌≡◌, ◌<◌, ◌≤◌, [], ◌∷◌, true, false, reverse, length, IfOk, OnOk, IfErr, OnErr, IsErrOf};
+ghost use Rattle.cs_ids.specs.Devices.{Rose};
 ghost use Rattle.cs_laws.specs.Answers.{answer};
+ghost use Rattle.cs_laws.specs.Fits.{fits};
 ghost use Rattle.cs_laws.specs.Journal.{entry};
+ghost use Rattle.cs_laws.specs.Operations.{applied};
 ghost use Rattle.cs_laws.specs.Refusals.{is_refusal};
 ghost use Rattle.cs_theorems.specs.Refusals.{IsAsBefore};
+ghost use Rattle.cs_world.specs.Storing.{AppliesFront, brings, calls_store};
 
 use crate::state::{State, start};
 use crate::step::step;
 use cs_laws::{Answer, Entry, Event, StepFault};
+use cs_objstore::ObjStore;
 use std::alloc::Global;
 use std::marker::Model;
 
@@ -23,29 +28,32 @@ pub struct MakeFault<O, L> {
 /// Contracts see of it the history of its entries, the newest first, whether it is live, how many
 /// pages may be cached, and its store and log.
 #[derive(Drop)]
-pub struct World<O, L> {
+pub struct World<O: ObjStore, L> {
     state: State,
     is_live: bool,
     store: O,
     log: L,
 }
 
-impl<O, L> Model for World<O, L> {
+impl<O: ObjStore, L> Model for World<O, L> {
     ghost use Rattle.std.specs.Prelude.{◌≡◌, true};
+    ghost use Rattle.cs_laws.specs.Operations.{applied};
     ghost use Rattle.cs_world.specs.Seen.{Seen};
-    ghost use Rattle.cs_world.specs.Tables.{past, Refines};
+    ghost use Rattle.cs_world.specs.Tables.{past, IsKept};
 
     ghost Value = { Seen O L };
 
     ghost view = { λ w. record { pages = w.state.pages; history = past w.state; live = w.is_live; store = w.store; log = w.log } };
 
-    ghost invariant = { λ w. w.is_live ≡ true → Refines (past w.state) w.state };
+    ghost invariant = { λ w. w.is_live ≡ true → IsKept w.state × (O.ops w.store ≡ applied (past w.state)) };
 }
 
-impl<O, L> World<O, L> {
-    /// A world before its first event, in which 1 to 1,024 pages may be cached.
+impl<O: ObjStore, L> World<O, L> {
+    /// A world before its first event, in which 1 to 1,024 pages may be cached, over a store to which
+    /// nothing was applied.
     pub fn make(alloc: Global, pages: u32, store: O, log: L) -> Result<World<O, L>, MakeFault<O, L>>
-        requires { (1 ≤ pages) × (pages ≤ 1024) }
+        requires pages { (1 ≤ pages) × (pages ≤ 1024) }
+        requires empty { O.ops store ≡ [] }
         ensures ok { IfOk result (λ w. w ≡ record { pages = pages; history = []; live = true; store = store; log = log }) }
         ensures err { IfErr result (λ f. f ≡ record { store = store; log = log }) }
     {
@@ -57,20 +65,31 @@ impl<O, L> World<O, L> {
         })
     }
 
-    /// Does one event, and enters it with its answer. `Memory` is its one fault; the history, the
-    /// store and the log are then as before, and the world is no longer live. The room for the entry
-    /// is taken first, so that a refused event meets `Memory` only there.
+    /// Does one event, and enters it with its answer. A line of a script has to spell the event. The
+    /// store then has the operations that the journal implies.
+    ///
+    /// `Store` comes only where the store's count of faults rose in this step, and only at a write
+    /// that would be answered `wrote`; `Log` never comes. After a fault the history and the log are
+    /// as before, the store has a front of the event's operations behind those before, and the world
+    /// is no longer live. The room for the entry is taken first, so that a refused event meets
+    /// `Memory` only there.
     pub fn step(&mut self, event: &Event) -> Result<Answer, StepFault>
         requires live { self.old.live ≡ true }
         requires room { length self.old.history < 10000 }
+        requires fits { fits event.now ≡ true }
         ensures answer { IfOk result (λ a. a ≡ answer self.old.pages self.old.history event.now) }
-        ensures history { OnOk result (self.new ≡ record self.old { history = entry self.old.pages self.old.history event.now ∷ self.old.history }) }
+        ensures history { OnOk result (self.new ≡ record self.old { history = entry self.old.pages self.old.history event.now ∷ self.old.history; store = self.new.store }) }
+        ensures listed { OnOk result (O.ops self.new.store ≡ applied self.new.history) }
         ensures refused { IfOk result (λ a. is_refusal event.now a ≡ true → IsAsBefore self.old.history self.new.history) }
-        ensures fault { IfErr result (λ f. f ≡ StepFault.Memory) }
-        ensures err { OnErr result (self.new ≡ record self.old { live = false }) }
+        ensures err { OnErr result (self.new ≡ record self.old { live = false; store = self.new.store }) }
+        ensures front { OnErr result (AppliesFront (brings self.old.pages self.old.history event.now) (applied self.old.history) (O.ops self.new.store)) }
+        ensures later { O.faults self.old.store ≤ O.faults self.new.store }
+        ensures cause { IsErrOf result StepFault.Store → Rose (O.faults self.old.store) (O.faults self.new.store) }
+        ensures called { IsErrOf result StepFault.Store → calls_store event.now (answer self.old.pages self.old.history event.now) ≡ true }
+        ensures unlogged { IsErrOf result StepFault.Log → ⊥ }
     {
         self.is_live = false;
-        let answer = step(&mut self.state, event)?;
+        let answer = step(&mut self.state, &mut self.store, event)?;
         self.is_live = true;
         Ok(answer)
     }

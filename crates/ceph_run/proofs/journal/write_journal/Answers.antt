@@ -1,12 +1,22 @@
-use Rattle.std.proofs.Common.{◌≡◌, ◌∙◌, ◌∷◌, ap, refl, length, add-one, arith}
+use Rattle.std.proofs.Common.{◌≡◌, ◌∙◌, ◌∷◌, sym, ap, refl, length, add-one, arith, Result, Err}
 use Rattle.std.proofs.lemmas.List.{length-reverse}
+use Rattle.cs_laws.specs.declared.answers.Answer.{Answer}
+use Rattle.cs_laws.specs.declared.answers.Entry.{Entry}
+use Rattle.cs_laws.specs.declared.faults.StepFault.{StepFault}
+use Rattle.cs_laws.specs.declared.faults.StepFault.TheVariants as stepping
 use Rattle.cs_laws.specs.Journal.{journal, entry}
-use Rattle.ceph_run.proofs.Journals.{line_step, text_step, on_ok, on_err, any_err}
-use Rattle.ceph_run.proofs.Stopping.{journal_step, journal_all, stops_in_header, stops_before, stops_in_line, stops_in_end}
+use Rattle.cs_laws.specs.Operations.{applied}
+use Rattle.ceph_run.specs.declared.run_fault.RunFault.TheVariants as faults
+use Rattle.ceph_run.specs.declared.write_fault.WriteFault.{WriteFault}
+use Rattle.ceph_run.specs.Statuses.{of_step, of_write}
+use Rattle.ceph_run.proofs.Journals.{line_step, text_step}
+use Rattle.ceph_run.proofs.Stopping.{journal_step, journal_all, stops_in_header, stops_in_event, stops_in_line, stops_in_end, stops_of_write, stops_of_step, if_err_is}
 use Rattle.ceph_run.proofs.journal.write_journal.Goals as goal
 
 pub returns-in_err-write_all-clause-err : goal.returns-in_err-write_all-clause-err
-returns-in_err-write_all-clause-err g c = any_err c.from_residual.result (stops_in_header c.args.world.now.pages c.args.events.now _ _ c.in_err-write_all.ensures.err)
+returns-in_err-write_all-clause-err g c =
+    let stopped = stops_in_header c.args.world.now.pages c.args.events.now _ _ (g.O.ObjStore.ops c.args.world.now.store) c.requires.empty c.in_err-write_all.ensures.err in
+    if_err_is _ c.from_residual.result faults.Sink c.from_residual.ensures.1 stopped
 
 pub loop-event-init : goal.loop-event-init
 loop-event-init g c = record {
@@ -14,60 +24,82 @@ loop-event-init g c = record {
   pages = refl;
   count = ap length c.requires.fresh;
   done = c.requires.fresh;
-  store = refl;
+  listed = c.requires.empty ∙ ap (λ h. applied h) (sym c.requires.fresh);
   log = refl;
   written = rw c.requires.fresh c.in_ok-write_all.ensures.ok;
   later = c.in_ok-write_all.ensures.cause.later;
+  stored = omega arith;
 }
 
-pub returns-in_default-clause-err : goal.returns-in_default-clause-err
-returns-in_default-clause-err g c =
-    stops_before c.args.world.now.pages c.args.events.now c.loop-event.event-index c.loop-event.world.history _ _
-    (omega (arith, c.loop-event-test.true)) c.loop-event.invariant.done c.loop-event.invariant.written
+pub returns-in_err-step-clause-err : goal.returns-in_err-step-clause-err
+returns-in_err-step-clause-err g c =
+    let i = c.loop-event.invariant in
+    let w = c.loop-event.world in
+    let stopped =
+    stops_in_event c.args.world.now.pages w.pages c.args.events.now c.loop-event.event-index c.event-item.result w.history _ _ (applied w.history)
+    (g.O.ObjStore.ops c.step.new.self.store) c.loop-event-test.true c.event-item.is i.pages i.done i.written refl c.in_err-step.ensures.front in
+    let fault : StepFault = c.in_err-step.field-0.0 in
+    let unlogged : fault ≡ stepping.Log → ⊥ = λ is. c.in_err-step.ensures.unlogged (ap (λ f. let r : Result Answer StepFault = Err f in r) is) in
+    if_err_is _ c.from_residual-in_err-step.result (of_step fault) c.from_residual-in_err-step.ensures.1 (stops_of_step fault _ _ _ _ _ unlogged stopped)
 
 pub returns-in_err-write_newest-clause-err : goal.returns-in_err-write_newest-clause-err
 returns-in_err-write_newest-clause-err g c =
+    let i = c.loop-event.invariant in
     let w = c.loop-event.world in
-    let grown : c.step.new.self.history ≡ entry w.pages w.history c.event-item.result ∷ w.history = ap (λ s. s.history) c.in-Ok.ensures.history in
+    let x : Entry = entry w.pages w.history c.event-item.result in
+    let grown : c.step.new.self.history ≡ x ∷ w.history = ap (λ s. s.history) c.in_ok-step.ensures.history in
     let stepped = journal_step c.args.world.now.pages w.pages w.history c.step.new.self.history c.args.events.now c.loop-event.event-index c.event-item.result
-    c.loop-event-test.true c.event-item.is c.loop-event.invariant.pages grown c.loop-event.invariant.done in
-    any_err c.from_residual-in_err-write_newest.result
-    (stops_in_line c.args.world.now.pages c.args.events.now c.loop-event.event-index w.history c.step.new.self.history
-    (entry w.pages w.history c.event-item.result) _ _ _ c.loop-event-test.true c.loop-event.invariant.done grown stepped
-    c.loop-event.invariant.written c.in_err-write_newest.ensures.err)
+    c.loop-event-test.true c.event-item.is i.pages grown i.done in
+    let stopped =
+    stops_in_line c.args.world.now.pages c.args.events.now c.loop-event.event-index w.history c.step.new.self.history x _ _ _
+    (g.O.ObjStore.ops c.step.new.self.store) c.loop-event-test.true c.in_ok-step.ensures.listed i.done grown stepped i.written
+    c.in_err-write_newest.ensures.err in
+    let fault : WriteFault = c.in_err-write_newest.field-0.0 in
+    if_err_is _ c.from_residual-in_err-write_newest.result (of_write fault) c.from_residual-in_err-write_newest.ensures.1 (stops_of_write fault _ _ _ _ _ stopped)
 
 pub loop-event-preserved : goal.loop-event-preserved
 loop-event-preserved g c =
+    let i = c.loop-event.invariant in
     let w = c.loop-event.world in
-    let stepped = c.in-Ok.ensures.history in
-    let grown : c.step.new.self.history ≡ entry w.pages w.history c.event-item.result ∷ w.history = ap (λ s. s.history) stepped in
+    let x : Entry = entry w.pages w.history c.event-item.result in
+    let stepped = c.in_ok-step.ensures.history in
+    let grown : c.step.new.self.history ≡ x ∷ w.history = ap (λ s. s.history) stepped in
     record {
-      live = ap (λ s. s.live) stepped ∙ c.loop-event.invariant.live;
-      pages = ap (λ s. s.pages) stepped ∙ c.loop-event.invariant.pages;
-      count = omega (arith, ap length grown, c.loop-event.invariant.count);
+      live = ap (λ s. s.live) stepped ∙ i.live;
+      pages = ap (λ s. s.pages) stepped ∙ i.pages;
+      count = omega (arith, ap length grown, i.count);
       done = rw add-one
           (journal_step c.args.world.now.pages w.pages w.history c.step.new.self.history c.args.events.now c.loop-event.event-index c.event-item.result
-          c.loop-event-test.true c.event-item.is c.loop-event.invariant.pages grown c.loop-event.invariant.done);
-      store = ap (λ s. s.store) stepped ∙ c.loop-event.invariant.store;
-      log = ap (λ s. s.log) stepped ∙ c.loop-event.invariant.log;
-      written = line_step _ _ _ w.history _ (entry w.pages w.history c.event-item.result) grown c.loop-event.invariant.written c.in_ok-write_newest.ensures.ok;
-      later = omega (arith, c.in_ok-write_newest.ensures.later, c.loop-event.invariant.later);
+          c.loop-event-test.true c.event-item.is i.pages grown i.done);
+      listed = c.in_ok-step.ensures.listed;
+      log = ap (λ s. s.log) stepped ∙ i.log;
+      written = line_step _ _ _ w.history _ x grown i.written c.in_ok-write_newest.ensures.ok;
+      later = omega (arith, c.in_ok-write_newest.ensures.later, i.later);
+      stored = omega (arith, c.in_ok-step.ensures.later, i.stored);
     }
+
+pub returns-in_err-write_end-clause-err : goal.returns-in_err-write_end-clause-err
+returns-in_err-write_end-clause-err g c =
+    let i = c.loop-event.invariant in
+    let w = c.loop-event.world in
+    let count : length c.entries-count.result.now ≡ length w.history = ap length c.entries-count.ensures ∙ length-reverse w.history in
+    let stopped =
+    stops_in_end c.args.world.now.pages c.args.events.now c.loop-event.event-index (length c.entries-count.result.now) w.history _ _ _
+    (g.O.ObjStore.ops w.store) (omega (arith, c.loop-event-test.false, c.loop-event.auto.event-index-end)) i.listed i.done count i.written c.in_err-write_end.ensures.err in
+    let fault : WriteFault = c.in_err-write_end.field-0.0 in
+    if_err_is _ c.from_residual-in_err-write_end.result (of_write fault) c.from_residual-in_err-write_end.ensures.1 (stops_of_write fault _ _ _ _ _ stopped)
 
 pub returns-clause-ok : goal.returns-clause-ok
 returns-clause-ok g c =
+    let i = c.loop-event.invariant in
     let w = c.loop-event.world in
-    let same = journal_all c.args.world.now.pages w.history c.args.events.now c.loop-event.event-index c.loop-event-test.false c.loop-event.invariant.done in
+    let same = journal_all c.args.world.now.pages w.history c.args.events.now c.loop-event.event-index c.loop-event-test.false i.done in
     let count : length c.entries-count.result.now ≡ length w.history = ap length c.entries-count.ensures ∙ length-reverse w.history in
-    on_ok c.write_end.result
-    (λ now. text_step _ _ _ w.history (journal c.args.world.now.pages c.args.events.now) (length c.entries-count.result.now) same count c.loop-event.invariant.written now)
-    c.write_end.ensures.ok
+    text_step _ _ _ w.history (journal c.args.world.now.pages c.args.events.now) (length c.entries-count.result.now) same count i.written c.in_ok-write_end.ensures.ok
 
-pub returns-clause-err : goal.returns-clause-err
-returns-clause-err g c =
-    let w = c.loop-event.world in
-    let count : length c.entries-count.result.now ≡ length w.history = ap length c.entries-count.ensures ∙ length-reverse w.history in
-    on_err c.write_end.result
-    (λ now. stops_in_end c.args.world.now.pages c.args.events.now c.loop-event.event-index (length c.entries-count.result.now) w.history _ _ _
-    (omega (arith, c.loop-event-test.false, c.loop-event.auto.event-index-end)) c.loop-event.invariant.done count c.loop-event.invariant.written now)
-    c.write_end.ensures.err
+pub returns-clause-listed : goal.returns-clause-listed
+returns-clause-listed g c =
+    let i = c.loop-event.invariant in
+    i.listed
+    ∙ ap (λ h. applied h)
+    (journal_all c.args.world.now.pages c.loop-event.world.history c.args.events.now c.loop-event.event-index c.loop-event-test.false i.done)

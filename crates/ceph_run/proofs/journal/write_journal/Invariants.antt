@@ -1,6 +1,7 @@
 use Rattle.std.proofs.Common.{◌≡◌, ◌≤◌, ◌++◌, true, take, length}
 use Rattle.std.specs.Io.KnownBytes.{Appends}
 use Rattle.cs_laws.specs.Journal.{journal, header, lines}
+use Rattle.cs_laws.specs.Operations.{applied}
 use Rattle.ceph_run.proofs.journal.write_journal.Given as goal
 
 abbrev pub invariant-loop-event : goal.invariant-loop-event
@@ -9,8 +10,9 @@ invariant-loop-event g l = record {
   pages : l.world.pages ≡ l.fn.world.pages;
   count : length l.world.history ≡ l.event-index;
   done : l.world.history ≡ journal l.fn.world.pages (take l.event-index l.events);
-  store : l.world.store ≡ l.fn.world.store;
+  listed : g.O.ObjStore.ops l.world.store ≡ applied l.world.history;
   log : l.world.log ≡ l.fn.world.log;
   written : Appends (g.K.Sink.taken l.fn.sink) (g.K.Sink.taken l.sink) (header ++ lines l.world.history);
   later : g.K.Sink.faults l.fn.sink ≤ g.K.Sink.faults l.sink;
+  stored : g.O.ObjStore.faults l.fn.world.store ≤ g.O.ObjStore.faults l.world.store;
 }

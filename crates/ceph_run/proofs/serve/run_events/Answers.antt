@@ -1,25 +1,18 @@
-use Rattle.std.proofs.Common.{◌≡◌, ap, arith}
-use Rattle.ceph_run.proofs.Journals.{on_err}
-use Rattle.ceph_run.proofs.Stopping.{front_of_text, stops_at_once}
-use Rattle.ceph_run.proofs.Writing.{unwritten, writes, stops}
+use Rattle.std.proofs.Common.{◌≡◌, ap}
+use Rattle.ceph_run.proofs.Serving.{ran, unmade}
 use Rattle.ceph_run.proofs.serve.run_events.Goals as goal
 
-pub returns-in-Err-clause-writes : goal.returns-in-Err-clause-writes
-returns-in-Err-clause-writes g c = unwritten 0 _ _ _ (omega arith)
+pub returns-in-Err-clause-ends : goal.returns-in-Err-clause-ends
+returns-in-Err-clause-ends g c =
+    let same : c.in-Err.field-0.store ≡ c.args.store = ap (λ f. f.store) c.in-Err.ensures.err in
+    rw same (unmade c.args.pages c.args.events.now _ _ (g.O.ObjStore.ops c.args.store) _ c.requires.empty)
 
-pub returns-in-Err-clause-stopped : goal.returns-in-Err-clause-stopped
-returns-in-Err-clause-stopped g c = λ e. stops_at_once c.args.pages c.args.events.now _
-
-pub returns-in-Ok-clause-writes : goal.returns-in-Ok-clause-writes
-returns-in-Ok-clause-writes g c =
-    let pages : c.in-Ok.world.pages ≡ c.args.pages = ap (λ w. w.pages) c.in-Ok.ensures.ok in
-    let whole = rw pages at c.write_journal-written.ensures.ok in
-    let cut = rw pages at c.write_journal-written.ensures.err in
-    rw c.write_status.ensures
-    (writes 0 c.write_journal-written.result _ _ _ _ _ (omega arith) whole
-    (on_err c.write_journal-written.result (λ stopped. front_of_text c.args.pages c.args.events.now _ _ stopped) cut) c.write_journal-written.ensures.cause)
-
-pub returns-in-Ok-clause-stopped : goal.returns-in-Ok-clause-stopped
-returns-in-Ok-clause-stopped g c =
-    let pages : c.in-Ok.world.pages ≡ c.args.pages = ap (λ w. w.pages) c.in-Ok.ensures.ok in
-    stops c.write_status.result 0 c.write_journal-written.result c.write_status.ensures (omega arith) (rw pages at c.write_journal-written.ensures.err)
+pub returns-in-Ok-clause-ends : goal.returns-in-Ok-clause-ends
+returns-in-Ok-clause-ends g c =
+    let made = c.in-Ok.ensures.ok in
+    let pages : c.in-Ok.world.pages ≡ c.args.pages = ap (λ w. w.pages) made in
+    let store : c.in-Ok.world.store ≡ c.args.store = ap (λ w. w.store) made in
+    let wrote = c.write_journal-ran.ensures in
+    rw (c.run_status.ensures, c.finish-store.ensures.store)
+    (ran c.args.pages c.args.events.now c.write_journal-ran.result _ _ _ _ (g.O.ObjStore.ops c.write_journal-ran.new.world.store) _ _
+    (rw pages at wrote.ok) (rw pages at wrote.listed) (rw pages at wrote.err) wrote.sink (rw store at wrote.store))

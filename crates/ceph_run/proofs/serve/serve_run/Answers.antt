@@ -1,13 +1,13 @@
 use Rattle.std.proofs.Common.{ap, Result, Err}
 use Rattle.cs_io.specs.declared.whole.ReadFault.{ReadFault}
 use Rattle.ceph_run.specs.declared.input.Input.{Input}
-use Rattle.ceph_run.proofs.Serving.{unread, judged_and_written}
+use Rattle.ceph_run.proofs.Serving.{unread, judged_and_ended}
 use Rattle.ceph_run.proofs.serve.serve_run.Goals as goal
 
 pub returns-in-Err-clause-served : goal.returns-in-Err-clause-served
 returns-in-Err-clause-served g c =
     rw c.read_status.ensures
-    (unread c.args.pages c.in-Err.fault _ _ _ _ _ _ (λ is. c.in-Err.ensures.failed (ap (λ f. let r : Result Input ReadFault = Err f in r) is)))
+    (unread c.args.pages c.in-Err.fault _ _ _ _ _ _ _ _ (λ is. c.in-Err.ensures.failed (ap (λ f. let r : Result Input ReadFault = Err f in r) is)) c.requires.empty)
 
 pub returns-in-Ok-clause-served : goal.returns-in-Ok-clause-served
-returns-in-Ok-clause-served g c = judged_and_written c.args.pages _ c.in-Ok.input _ _ _ _ _ _ _ _ c.in-Ok.ensures.ok c.serve_input.ensures.writes c.serve_input.ensures.stopped
+returns-in-Ok-clause-served g c = judged_and_ended c.args.pages _ c.in-Ok.input _ _ _ _ _ _ _ _ _ _ _ _ c.in-Ok.ensures.ok c.serve_input.ensures.ends

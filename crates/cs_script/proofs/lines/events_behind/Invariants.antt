@@ -1,10 +1,15 @@
 use Rattle.std.proofs.Common.{◌≡◌, true, length}
+use Rattle.std.specs.List.{AllPass}
+use Rattle.cs_laws.specs.Fits.{fits}
 use Rattle.cs_laws.specs.Grammar.{events_from}
 use Rattle.cs_script.proofs.Linewise.{with_front}
 use Rattle.cs_script.proofs.lines.events_behind.Given as goal
 
 abbrev pub invariant-loop-events : goal.invariant-loop-events
-invariant-loop-events l = with_front l.events.items (events_from l.number l.setup l.lines) ≡ events_from 2 true l.fn.lines
+invariant-loop-events l = record {
+  read : with_front l.events.items (events_from l.number l.setup l.lines) ≡ events_from 2 true l.fn.lines;
+  fitting : AllPass fits l.events.items;
+}
 
 abbrev pub decreases-loop-events : goal.decreases-loop-events
 decreases-loop-events l = length l.lines

@@ -1,9 +1,20 @@
-use Rattle.std.proofs.Common.{◌∙◌, ap}
-use Rattle.cs_world.proofs.Kept.{after_entry}
+use Rattle.std.proofs.Common.{◌≡◌, ap, reverse}
+use Rattle.cs_theorems.specs.Runs.{IsRun}
+use Rattle.cs_world.proofs.Kept.{after_entry, after_run}
 use Rattle.cs_world.proofs.step.step.Goals as goal
 
-pub returns-clause-tables : goal.returns-clause-tables
-returns-clause-tables c =
+pub returns-clause-kept : goal.returns-clause-kept
+returns-clause-kept g c =
     let step = c.in_ok-answer.ensures.ok in
-    after_entry c.answer.new.state c.enter.new.entries _ c.args.event.now _ c.in_ok-answer.answer _
-    c.enter.ensures c.in_ok-entered.ensures c.in_ok-told.ensures (ap (λ v. v.items) step.entries) step.tables
+    let entries : c.answer.new.state.entries.items ≡ c.reserve.new.entries.items = ap (λ v. v.items) step.entries in
+    let before : IsRun c.args.state.now.pages (reverse c.reserve.new.entries.items) = rw c.reserve.ensures.entries c.requires.ready.run in
+    record {
+      tables =
+          after_entry c.answer.new.state c.enter.new.entries _ c.args.event.now _ c.in_ok-answer.answer _
+          c.enter.ensures c.in_ok-entered.ensures c.in_ok-told.ensures entries step.tables;
+      run =
+          rw step.pages
+          (after_run c.args.state.now.pages c.enter.new.entries.items c.reserve.new.entries.items c.args.event.now c.in_ok-entered.entered
+          c.in_ok-answer.answer c.in_ok-told.told (rw entries at c.enter.ensures) c.in_ok-entered.ensures c.in_ok-told.ensures
+          c.requires.fits step.answer before);
+    }

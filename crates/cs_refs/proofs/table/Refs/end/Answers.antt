@@ -1,6 +1,6 @@
 use Rattle.std.proofs.Common.{◌≡◌, ◌∙◌, ap, is_some, arith}
 use Rattle.std.specs.Map.{values_of}
-use Rattle.cs_refs.specs.Table.{ref_named}
+use Rattle.cs_parts.specs.References.{ref_named}
 use Rattle.cs_refs.proofs.Entries.{lookup-named, values_of-without, each-without, is_some-ref_named}
 use Rattle.cs_refs.proofs.table.Refs.end.Goals as goal
 

@@ -1,5 +1,5 @@
 use Rattle.std.proofs.Common.{◌≡◌, ◌∙◌, ap, is_some}
-use Rattle.cs_refs.specs.Table.{ref_named}
+use Rattle.cs_parts.specs.References.{ref_named}
 use Rattle.cs_refs.proofs.Entries.{lookup-named, is_some-ref_named}
 use Rattle.cs_refs.proofs.table.Refs.find.Goals as goal
 

@@ -1,0 +1,3 @@
+pub mod CapSnaps
+pub mod Example
+pub mod Order

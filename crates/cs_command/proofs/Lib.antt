@@ -1,0 +1,3 @@
+pub mod OptionFound
+pub mod PagesRead
+pub mod RunLine

@@ -1,0 +1,11 @@
+//! Faults of devices: how often a device has failed, and for the faulty forms of tests which of its
+//! calls fail.
+#![tactic(auto)]
+
+mod count;
+mod plan;
+#[cfg(test)]
+mod tests;
+
+pub use count::FaultCount;
+pub use plan::FaultPlan;

@@ -1,0 +1,3 @@
+pub mod Example
+pub mod Flushes
+pub mod Life

@@ -1,0 +1,11 @@
+-- What is kept beside the records.
+use Rattle.std.specs.Prelude.{◌≡◌, List}
+use Rattle.cs_snapctx.specs.declared.realm.RealmRecord.{RealmRecord}
+use Rattle.cs_snapctx.specs.Context.{Context}
+use Rattle.cs_realms.specs.Contexts.{all_contexts}
+use Rattle.cs_realms.specs.Records.{AreDistinct}
+
+-- each record's context stands at its place
+pub record IsKept (rs : List RealmRecord) (cs : List Context) : Type 0 where
+  pub distinct : AreDistinct rs
+  pub contexts : cs ≡ all_contexts rs

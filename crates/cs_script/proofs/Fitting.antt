@@ -1,0 +1,84 @@
+-- Each event that a line spells fits a script.
+use Rattle.std.proofs.Common.{◌≡◌, ◌+◌, ℕ, Bool, true, false, ◌&&◌, nat_le, List, length, Result, Ok, Err, refl, if◌then◌else◌, codes, slice_get, not}
+use Rattle.std.specs.Str.{bytes_eq}
+use Rattle.cs_laws.specs.declared.events.Event.{Event}
+use Rattle.cs_laws.specs.declared.events.Event.TheVariants as events
+use Rattle.cs_laws.specs.declared.faults.Kind.{Kind}
+use Rattle.cs_laws.specs.declared.faults.Kind.TheVariants as kinds
+use Rattle.cs_laws.specs.Fits.{fits, is_built, greatest_end, most_written}
+use Rattle.cs_laws.specs.Grammar.{Words, file_of, begin_of, end_of, write_of, check_of, grant_of, revoke_of, is_later_word, event_by, event_of, words_in, in_time, is_setup, line_event}
+use Rattle.cs_script.proofs.FieldFacts.{word_is, number_range, number_below, set_built, bytes_count, only_is}
+use Rattle.cs_script.proofs.FormFacts.{binds, file_is, begin_is, end_is, write_is, check_is, grant_is, revoke_is}
+
+both : (a b : Bool) → a ≡ true → b ≡ true → (a && b) ≡ true
+both true true p q = refl
+both true false p q = q
+both false b p q = p
+
+file_fits : (ws : Words) (e : Event) → file_of ws ≡ Ok e → fits e ≡ true
+file_fits ws e h =
+    let i = file_is ws e h in
+    rw i.is (number_range 1 2 9999 ws i.f i.file)
+
+begin_fits : (ws : Words) (e : Event) → begin_of ws ≡ Ok e → fits e ≡ true
+begin_fits ws e h =
+    let i = begin_is ws e h in
+    rw i.is (both (is_built i.b) (nat_le i.n greatest_end) (set_built 3 ws i.b i.bits) (number_below 4 0 greatest_end ws i.n i.end))
+
+end_fits : (ws : Words) (e : Event) → end_of ws ≡ Ok e → fits e ≡ true
+end_fits ws e h = rw (end_is ws e h).is refl
+
+write_fits : (ws : Words) (e : Event) → write_of ws ≡ Ok e → fits e ≡ true
+write_fits ws e h =
+    let i = write_is ws e h in
+    rw i.is (both (nat_le 1 (length i.b) && nat_le (length i.b) most_written) (nat_le (i.o + length i.b) greatest_end) (bytes_count 4 ws i.b i.bytes) i.ends)
+
+check_fits : (ws : Words) (e : Event) → check_of ws ≡ Ok e → fits e ≡ true
+check_fits ws e h = rw (check_is ws e h).is refl
+
+grant_fits : (ws : Words) (e : Event) → grant_of ws ≡ Ok e → fits e ≡ true
+grant_fits ws e h =
+    let i = grant_is ws e h in
+    rw i.is (both (is_built i.b) (nat_le i.n greatest_end) (set_built 2 ws i.b i.bits) (number_below 3 0 greatest_end ws i.n i.end))
+
+revoke_fits : (ws : Words) (e : Event) → revoke_of ws ≡ Ok e → fits e ≡ true
+revoke_fits ws e h =
+    let i = revoke_is ws e h in
+    rw i.is (set_built 2 ws i.b i.bits)
+
+-- a reading that gives only what fits
+abbrev Fitting : Result Event Kind → Type 0
+Fitting r = (e : Event) → r ≡ Ok e → fits e ≡ true
+
+either : (b : Bool) (r s : Result Event Kind) → Fitting r → Fitting s → Fitting (if b then r else s)
+either true r s p q = p
+either false r s p q = q
+
+event_by_fits : (w : List ℕ) (ws : Words) → Fitting (event_by w ws)
+unfolding event_by
+event_by_fits w ws =
+    either (bytes_eq w (codes "file")) _ _ (file_fits ws)
+    (either (bytes_eq w (codes "begin")) _ _ (begin_fits ws)
+    (either (bytes_eq w (codes "end")) _ _ (end_fits ws)
+    (either (bytes_eq w (codes "write")) _ _ (write_fits ws)
+    (either (bytes_eq w (codes "check")) _ _ (check_fits ws)
+    (either (bytes_eq w (codes "toclient")) _ _ (λ e h. rw (only_is 1 events.ToClient e ws h).same refl)
+    (either (bytes_eq w (codes "grant")) _ _ (grant_fits ws)
+    (either (bytes_eq w (codes "revoke")) _ _ (revoke_fits ws)
+    (either (is_later_word w) _ _ (λ e h. cc h) (λ e h. cc h)))))))))
+
+pub event_fits : (ws : Words) (e : Event) → event_of ws ≡ Ok e → fits e ≡ true
+unfolding event_of
+event_fits ws e h =
+    let w = word_is (λ w. event_by w ws) (slice_get ws 0) e h in
+    event_by_fits w.word ws e w.reads
+
+let_pass : (b : Bool) (e d : Event) → (if b then Err kinds.Late else Ok e) ≡ Ok d → d ≡ e
+let_pass true e d h = cc h
+let_pass false e d h = cc h
+
+pub line_fits : (setup : Bool) (l : List ℕ) (e : Event) → line_event setup l ≡ Ok e → fits e ≡ true
+unfolding line_event
+line_fits setup l e h =
+    let d = binds (event_of (words_in l)) (in_time setup) e h in
+    rw (let_pass (is_setup d.value && not setup) d.value e d.rest) (event_fits (words_in l) d.value d.is)

@@ -1,0 +1,147 @@
+-- What a line that is read tells of its fields, form by form.
+use Rattle.std.proofs.Common.{◌≡◌, ◌+◌, ℕ, true, nat_le, List, length, Result, Ok, Err, refl, ◌∙◌}
+use Rattle.cs_bits.specs.declared.Caps.{Caps}
+use Rattle.cs_laws.specs.declared.events.Event.{Event}
+use Rattle.cs_laws.specs.declared.events.Event.TheVariants as events
+use Rattle.cs_laws.specs.declared.events.RefName.{RefName}
+use Rattle.cs_laws.specs.declared.faults.Kind.{Kind}
+use Rattle.cs_laws.specs.Fits.{greatest_end}
+use Rattle.cs_laws.specs.Grammar.{Words, ◌>>=◌, number_at, set_at, name_at, bytes_at, only, ends_in_file, file_of, begin_of, end_of, write_of, check_of, grant_of, revoke_of}
+use Rattle.cs_script.proofs.FieldFacts.{only_is, ends_is}
+
+-- a value that was read, and what follows
+pub record Binds {A B : Type 0} (r : Result A Kind) (next : A → Result B Kind) (y : B) : Type 0 where
+  pub value : A
+  pub is : r ≡ Ok value
+  pub rest : next value ≡ Ok y
+
+pub binds : {A B : Type 0} (r : Result A Kind) (next : A → Result B Kind) (y : B) → (r >>= next) ≡ Ok y → Binds r next y
+binds (Ok x) next y h = record { value = x; is = refl; rest = h }
+binds (Err k) next y h = cc h
+
+pub record IsFile (ws : Words) (e : Event) : Type 0 where
+  pub f : ℕ
+  pub p : ℕ
+  pub file : number_at 1 2 9999 ws ≡ Ok f
+  pub parent : number_at 2 1 99999 ws ≡ Ok p
+  pub few : nat_le (length ws) 3 ≡ true
+  pub is : e ≡ events.File f p
+
+pub file_is : (ws : Words) (e : Event) → file_of ws ≡ Ok e → IsFile ws e
+unfolding file_of
+file_is ws e h =
+    let f = binds (number_at 1 2 9999 ws) (λ (f : ℕ). number_at 2 1 99999 ws >>= λ (p : ℕ). only 3 (events.File f p) ws) e h in
+    let p = binds (number_at 2 1 99999 ws) (λ (p : ℕ). only 3 (events.File f.value p) ws) e f.rest in
+    let o = only_is 3 (events.File f.value p.value) e ws p.rest in
+    record { f = f.value; p = p.value; file = f.is; parent = p.is; few = o.test; is = o.same }
+
+pub record IsBegin (ws : Words) (e : Event) : Type 0 where
+  pub c : ℕ
+  pub f : ℕ
+  pub b : Caps
+  pub n : ℕ
+  pub caller : number_at 1 0 32 ws ≡ Ok c
+  pub file : number_at 2 1 99999 ws ≡ Ok f
+  pub bits : set_at 3 ws ≡ Ok b
+  pub end : number_at 4 0 greatest_end ws ≡ Ok n
+  pub few : nat_le (length ws) 5 ≡ true
+  pub is : e ≡ events.Begin c f b n
+
+pub begin_is : (ws : Words) (e : Event) → begin_of ws ≡ Ok e → IsBegin ws e
+unfolding begin_of
+begin_is ws e h =
+    let c = binds (number_at 1 0 32 ws) (λ (c : ℕ). number_at 2 1 99999 ws >>= λ (f : ℕ). set_at 3 ws >>= λ (b : Caps). number_at 4 0 greatest_end ws >>= λ (n : ℕ). only 5 (events.Begin c f b n) ws) e h in
+    let f = binds (number_at 2 1 99999 ws) (λ (f : ℕ). set_at 3 ws >>= λ (b : Caps). number_at 4 0 greatest_end ws >>= λ (n : ℕ). only 5 (events.Begin c.value f b n) ws) e c.rest in
+    let b = binds (set_at 3 ws) (λ (b : Caps). number_at 4 0 greatest_end ws >>= λ (n : ℕ). only 5 (events.Begin c.value f.value b n) ws) e f.rest in
+    let n = binds (number_at 4 0 greatest_end ws) (λ (n : ℕ). only 5 (events.Begin c.value f.value b.value n) ws) e b.rest in
+    let u = only_is 5 (events.Begin c.value f.value b.value n.value) e ws n.rest in
+    record { c = c.value; f = f.value; b = b.value; n = n.value; caller = c.is; file = f.is; bits = b.is; end = n.is; few = u.test; is = u.same }
+
+pub record IsEnd (ws : Words) (e : Event) : Type 0 where
+  pub c : ℕ
+  pub r : RefName
+  pub caller : number_at 1 0 32 ws ≡ Ok c
+  pub name : name_at 2 ws ≡ Ok r
+  pub few : nat_le (length ws) 3 ≡ true
+  pub is : e ≡ events.End c r
+
+pub end_is : (ws : Words) (e : Event) → end_of ws ≡ Ok e → IsEnd ws e
+unfolding end_of
+end_is ws e h =
+    let c = binds (number_at 1 0 32 ws) (λ (c : ℕ). name_at 2 ws >>= λ (r : RefName). only 3 (events.End c r) ws) e h in
+    let r = binds (name_at 2 ws) (λ (r : RefName). only 3 (events.End c.value r) ws) e c.rest in
+    let u = only_is 3 (events.End c.value r.value) e ws r.rest in
+    record { c = c.value; r = r.value; caller = c.is; name = r.is; few = u.test; is = u.same }
+
+pub record IsCheck (ws : Words) (e : Event) : Type 0 where
+  pub f : ℕ
+  pub file : number_at 1 1 99999 ws ≡ Ok f
+  pub few : nat_le (length ws) 2 ≡ true
+  pub is : e ≡ events.Check f
+
+pub check_is : (ws : Words) (e : Event) → check_of ws ≡ Ok e → IsCheck ws e
+unfolding check_of
+check_is ws e h =
+    let f = binds (number_at 1 1 99999 ws) (λ (f : ℕ). only 2 (events.Check f) ws) e h in
+    let u = only_is 2 (events.Check f.value) e ws f.rest in
+    record { f = f.value; file = f.is; few = u.test; is = u.same }
+
+pub record IsGrant (ws : Words) (e : Event) : Type 0 where
+  pub f : ℕ
+  pub b : Caps
+  pub n : ℕ
+  pub file : number_at 1 1 99999 ws ≡ Ok f
+  pub bits : set_at 2 ws ≡ Ok b
+  pub end : number_at 3 0 greatest_end ws ≡ Ok n
+  pub few : nat_le (length ws) 4 ≡ true
+  pub is : e ≡ events.Grant f b n
+
+pub grant_is : (ws : Words) (e : Event) → grant_of ws ≡ Ok e → IsGrant ws e
+unfolding grant_of
+grant_is ws e h =
+    let f = binds (number_at 1 1 99999 ws) (λ (f : ℕ). set_at 2 ws >>= λ (b : Caps). number_at 3 0 greatest_end ws >>= λ (n : ℕ). only 4 (events.Grant f b n) ws) e h in
+    let b = binds (set_at 2 ws) (λ (b : Caps). number_at 3 0 greatest_end ws >>= λ (n : ℕ). only 4 (events.Grant f.value b n) ws) e f.rest in
+    let n = binds (number_at 3 0 greatest_end ws) (λ (n : ℕ). only 4 (events.Grant f.value b.value n) ws) e b.rest in
+    let u = only_is 4 (events.Grant f.value b.value n.value) e ws n.rest in
+    record { f = f.value; b = b.value; n = n.value; file = f.is; bits = b.is; end = n.is; few = u.test; is = u.same }
+
+pub record IsRevoke (ws : Words) (e : Event) : Type 0 where
+  pub f : ℕ
+  pub b : Caps
+  pub file : number_at 1 1 99999 ws ≡ Ok f
+  pub bits : set_at 2 ws ≡ Ok b
+  pub few : nat_le (length ws) 3 ≡ true
+  pub is : e ≡ events.Revoke f b
+
+pub revoke_is : (ws : Words) (e : Event) → revoke_of ws ≡ Ok e → IsRevoke ws e
+unfolding revoke_of
+revoke_is ws e h =
+    let f = binds (number_at 1 1 99999 ws) (λ (f : ℕ). set_at 2 ws >>= λ (b : Caps). only 3 (events.Revoke f b) ws) e h in
+    let b = binds (set_at 2 ws) (λ (b : Caps). only 3 (events.Revoke f.value b) ws) e f.rest in
+    let u = only_is 3 (events.Revoke f.value b.value) e ws b.rest in
+    record { f = f.value; b = b.value; file = f.is; bits = b.is; few = u.test; is = u.same }
+
+pub record IsWrite (ws : Words) (e : Event) : Type 0 where
+  pub c : ℕ
+  pub r : RefName
+  pub o : ℕ
+  pub b : List ℕ
+  pub caller : number_at 1 0 32 ws ≡ Ok c
+  pub name : name_at 2 ws ≡ Ok r
+  pub off : number_at 3 0 1048575 ws ≡ Ok o
+  pub bytes : bytes_at 4 ws ≡ Ok b
+  pub few : nat_le (length ws) 5 ≡ true
+  pub ends : nat_le (o + length b) greatest_end ≡ true
+  pub is : e ≡ events.Write c r o b
+
+pub write_is : (ws : Words) (e : Event) → write_of ws ≡ Ok e → IsWrite ws e
+unfolding write_of
+write_is ws e h =
+    let c = binds (number_at 1 0 32 ws) (λ (c : ℕ). name_at 2 ws >>= λ (r : RefName). number_at 3 0 1048575 ws >>= λ (o : ℕ). bytes_at 4 ws >>= λ (b : List ℕ). only 5 (events.Write c r o b) ws >>= λ (e : Event). ends_in_file o (length b) e) e h in
+    let r = binds (name_at 2 ws) (λ (r : RefName). number_at 3 0 1048575 ws >>= λ (o : ℕ). bytes_at 4 ws >>= λ (b : List ℕ). only 5 (events.Write c.value r o b) ws >>= λ (e : Event). ends_in_file o (length b) e) e c.rest in
+    let o = binds (number_at 3 0 1048575 ws) (λ (o : ℕ). bytes_at 4 ws >>= λ (b : List ℕ). only 5 (events.Write c.value r.value o b) ws >>= λ (e : Event). ends_in_file o (length b) e) e r.rest in
+    let b = binds (bytes_at 4 ws) (λ (b : List ℕ). only 5 (events.Write c.value r.value o.value b) ws >>= λ (e : Event). ends_in_file o.value (length b) e) e o.rest in
+    let d = binds (only 5 (events.Write c.value r.value o.value b.value) ws) (λ (e : Event). ends_in_file o.value (length b.value) e) e b.rest in
+    let u = only_is 5 (events.Write c.value r.value o.value b.value) d.value ws d.is in
+    let t = ends_is o.value (length b.value) d.value e d.rest in
+    record { c = c.value; r = r.value; o = o.value; b = b.value; caller = c.is; name = r.is; off = o.is; bytes = b.is; few = u.test; ends = t.test; is = ◌∙◌ {b = d.value} t.same u.same }

@@ -1,0 +1,46 @@
+-- Which events there are, and the scripts that are written of them.
+use Rattle.std.specs.Prelude.{◌≡◌, ℕ, ◌<◌, ◌&&◌, Bool, All, List, [], ◌∷◌, ◌++◌, Ok}
+use Rattle.cs_ids.specs.Ranges.{IsIn}
+use Rattle.cs_laws.specs.declared.events.Event.{Event}
+use Rattle.cs_laws.specs.declared.events.Event.TheVariants as events
+use Rattle.cs_laws.specs.declared.events.RefName.{RefName}
+use Rattle.cs_laws.specs.declared.events.RefName.TheVariants as names
+use Rattle.cs_laws.specs.Grammar.{in_time, is_setup, script_header}
+use Rattle.cs_laws.specs.Texts.{event_text}
+
+abbrev pub IsIno : ℕ → Type 0
+IsIno n = IsIn 1 99999 n
+
+abbrev pub IsCaller : ℕ → Type 0
+IsCaller n = IsIn 0 32 n
+
+abbrev pub IsName : RefName → Type 0
+IsName (names.Own n) = IsIn 0 99999 n
+IsName (names.Kept n) = IsIn 0 99999 n
+
+abbrev pub IsBytes : List ℕ → Type 0
+IsBytes bs = All (λ b. b < 256) bs
+
+-- each field is in the range of its type
+abbrev pub IsEvent : Event → Type 0
+IsEvent (events.File f p) = IsIno f × IsIno p
+IsEvent (events.Begin c f bits end) = IsCaller c × IsIno f
+IsEvent (events.End c name) = IsCaller c × IsName name
+IsEvent (events.Write c name off bytes) = IsCaller c × IsName name × IsBytes bytes
+IsEvent (events.Check f) = IsIno f
+IsEvent events.ToClient = Unit {0}
+IsEvent (events.Grant f bits max) = IsIno f
+IsEvent (events.Revoke f bits) = IsIno f
+
+-- a line for each event, with its newline
+abbrev pub lines_of : List Event → List ℕ
+lines_of [] = []
+lines_of (e ∷ es) = event_text e ++ 10 ∷ lines_of es
+
+abbrev pub script_text : List Event → List ℕ
+script_text es = script_header ++ 10 ∷ lines_of es
+
+-- no event stands too late, where setup says whether events that begin a script may still come
+abbrev pub InTime : Bool → List Event → Type 0
+InTime setup [] = Unit {0}
+InTime setup (e ∷ es) = (in_time setup e ≡ Ok e) × InTime (setup && is_setup e) es

@@ -1,0 +1,65 @@
+-- Each write is on a live reference that had its bits issued.
+use Rattle.std.proofs.Common.{◌≡◌, refl, subst, ℕ, ◌==◌, Bool, true, false, cond, List, [], ◌∷◌, Option, Some, inl, inr}
+use Rattle.std.proofs.lemmas.Bool.{and_parts, eqb-true}
+use Rattle.cs_parts.specs.declared.references.Live.{Live}
+use Rattle.cs_parts.specs.References.{is_ref, ref_named}
+use Rattle.cs_laws.specs.declared.events.Event.{Event}
+use Rattle.cs_laws.specs.declared.events.Event.TheVariants as e
+use Rattle.cs_laws.specs.declared.events.RefName.{RefName}
+use Rattle.cs_laws.specs.declared.events.RefName.TheVariants as names
+use Rattle.cs_laws.specs.declared.answers.Answer.{Answer}
+use Rattle.cs_laws.specs.declared.answers.Entry.{Entry}
+use Rattle.cs_laws.specs.Answers.{answer}
+use Rattle.cs_laws.specs.History.{live}
+use Rattle.cs_laws.specs.Journal.{history, journal, entry}
+use Rattle.cs_laws.specs.References.{named}
+use Rattle.cs_theorems.specs.Lists.{Member}
+use Rattle.cs_theorems.specs.References.{LiveWereIssued}
+use Rattle.cs_theorems.specs.Uses.{IsNamed, UseIsIssued, UsesAreIssued}
+use Rattle.cs_theorems.proofs.Begun.{issued_step, nothing_issued}
+use Rattle.cs_theorems.proofs.Inversions.{WriteIs, write_unknown, write_no_bit, write_past, wrote, write_is}
+
+-- what a caller and a number find
+pub record Finds (c n : ℕ) (r : Live) (rs : List Live) : Type 0 where
+  pub caller : r.caller ≡ c
+  pub number : r.number ≡ n
+  pub lives : Member r rs
+
+more : (c n : ℕ) (r y : Live) (ys : List Live) → Finds c n r ys → Finds c n r (y ∷ ys)
+more c n r y ys f = record { caller = f.caller; number = f.number; lives = inr f.lives }
+
+found_first : (c n : ℕ) (r y : Live) (ys : List Live) (rest : Option Live) (b : Bool) → is_ref c n y ≡ b → (rest ≡ Some r → Finds c n r ys)
+    → cond b (Some y) rest ≡ Some r → Finds c n r (y ∷ ys)
+found_first c n r y ys rest true t others is =
+    let same : y ≡ r = cc in
+    let parts = and_parts (y.caller == c) (y.number == n) t in
+    subst (λ z. Finds c n z (y ∷ ys)) same (record { caller = eqb-true y.caller c parts.0; number = eqb-true y.number n parts.1; lives = inl refl })
+found_first c n r y ys rest false t others is = more c n r y ys (others is)
+
+pub finds : (c n : ℕ) (r : Live) (rs : List Live) → ref_named c n rs ≡ Some r → Finds c n r rs
+finds c n r [] is = absurd (cc)
+finds c n r (y ∷ ys) is = found_first c n r y ys (ref_named c n ys) (is_ref c n y) refl (finds c n r ys) is
+
+pub named_is : (c : ℕ) (name : RefName) (r : Live) (rs : List Live) → named c name rs ≡ Some r → IsNamed c name r × Member r rs
+named_is c (names.Own n) r rs is = let f = finds c n r rs is in ((f.caller, f.number), f.lives)
+named_is c (names.Kept n) r rs is = let f = finds 0 n r rs is in ((f.caller, f.number), f.lives)
+
+write_issued : (h : List Entry) (c : ℕ) (name : RefName) (off : ℕ) (bytes : List ℕ) (x : Answer) → WriteIs h c name x → LiveWereIssued h
+    → UseIsIssued (e.Write c name off bytes) x h
+write_issued h c name off bytes x write_unknown i = tt
+write_issued h c name off bytes x write_no_bit i = tt
+write_issued h c name off bytes x write_past i = tt
+write_issued h c name off bytes x (wrote r is may) i =
+    let found = named_is c name r (live h) is in
+    record { reference = r; named = found.0; lives = found.1; writes = may; issued = i r found.1 }
+
+use_issued : (p : ℕ) (h : List Entry) (x : Event) → LiveWereIssued h → UseIsIssued x (answer p h x) h
+use_issued p h (e.Write c name off bytes) i = write_issued h c name off bytes _ (write_is h c name off bytes) i
+use_issued p h _ i = tt
+
+steps : (p : ℕ) (es : List Event) (h : List Entry) → LiveWereIssued h → UsesAreIssued h → UsesAreIssued (history p h es)
+steps p [] h i u = u
+steps p (x ∷ es) h i u = steps p es (entry p h x ∷ h) (issued_step p h x i) (use_issued p h x i, u)
+
+pub uses_issued : (p : ℕ) (es : List Event) → UsesAreIssued (journal p es)
+uses_issued p es = steps p es [] nothing_issued tt

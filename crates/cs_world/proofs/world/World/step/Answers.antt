@@ -1,0 +1,10 @@
+use Rattle.cs_laws.specs.Journal.{entry}
+use Rattle.cs_theorems.proofs.Kept.{as_before}
+use Rattle.cs_world.specs.Tables.{past}
+use Rattle.cs_world.proofs.world.World.step.Goals as goal
+
+pub returns-clause-refused : goal.returns-clause-refused
+returns-clause-refused g c = λ refused.
+    let s = c.self.inside.state in
+    rw (c.in_ok-answer.ensures.history, ← c.self.view_is)
+    (as_before (past s) (entry s.pages (past s) c.args.event.now) (rw c.in_ok-answer.ensures.answer at refused))

@@ -1,0 +1,26 @@
+-- What a step does to the object store. Lists of operations have the newest first, but for those that an entry brings.
+use Rattle.std.specs.Prelude.{◌≡◌, ℕ, Bool, true, false, List, ◌++◌, reverse}
+use Rattle.cs_laws.specs.declared.events.Event.{Event}
+use Rattle.cs_laws.specs.declared.events.Event.TheVariants as events
+use Rattle.cs_laws.specs.declared.answers.Answer.{Answer}
+use Rattle.cs_laws.specs.declared.answers.Answer.TheVariants as answers
+use Rattle.cs_laws.specs.declared.answers.Entry.{Entry}
+use Rattle.cs_laws.specs.declared.objects.ObjOp.{ObjOp}
+use Rattle.cs_laws.specs.Answers.{answer}
+use Rattle.cs_laws.specs.Operations.{brought, operations_drawn}
+
+-- the operations that an event brings after a history
+abbrev pub brings : ℕ → List Entry → Event → List ObjOp
+brings pages h e = brought e (answer pages h e) h (operations_drawn h)
+
+-- a front of these operations was applied
+pub record AppliesFront (ops old new : List ObjOp) : Type 0 where
+  pub front : List ObjOp
+  pub rest : List ObjOp
+  pub whole : ops ≡ front ++ rest
+  pub applied : new ≡ reverse front ++ old
+
+-- an event that is answered so calls the store
+abbrev pub calls_store : Event → Answer → Bool
+calls_store (events.Write caller name off bytes) answers.Wrote = true
+calls_store _ _ = false
