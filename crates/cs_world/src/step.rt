@@ -1,5 +1,5 @@
 // One step: the answer to an event, and its entry.
-ghost use Rattle.std.specs.Prelude.{◌≡◌, ◌∷◌, [], ◌++◌, ◌<◌, ◌≤◌, true, IfOk, OnOk, OnErr, IsErrOf, vec_len, vec_capacity};
+ghost use Rattle.std.specs.Prelude.{◌≡◌, ◌∷◌, [], ◌++◌, ◌<◌, ◌≤◌, true, false, IfOk, OnOk, OnErr, IsErrOf, vec_len, vec_capacity};
 ghost use Rattle.cs_ids.specs.Devices.{Rose};
 ghost use Rattle.cs_laws.specs.Answers.{answer};
 ghost use Rattle.cs_laws.specs.Fits.{fits};
@@ -29,6 +29,7 @@ pub fn answer<O: ObjStore>(
     requires listed { O.ops store.old ≡ applied (past state.old) }
     ensures ok { IfOk result (λ a. Steps state.old state.new event.now a) }
     ensures listed { IfOk result (λ a. O.ops store.new ≡ applied (record { event = event.now; answer = a } ∷ past state.old)) }
+    ensures quiet { IfOk result (λ a. calls_store event.now a ≡ false → store.new ≡ store.old) }
     ensures err { OnErr result (KeepsJournal state.old state.new) }
     ensures front { OnErr result (AppliesFront (brings state.old.pages (past state.old) event.now) (O.ops store.old) (O.ops store.new)) }
     ensures later { O.faults store.old ≤ O.faults store.new }
@@ -93,6 +94,7 @@ pub fn step<O: ObjStore>(
     ensures history { OnOk result (past state.new ≡ entry state.old.pages (past state.old) event.now ∷ past state.old) }
     ensures kept { OnOk result (IsKept state.new) }
     ensures listed { OnOk result (O.ops store.new ≡ applied (past state.new)) }
+    ensures quiet { IfOk result (λ a. calls_store event.now a ≡ false → store.new ≡ store.old) }
     ensures pages { state.new.pages ≡ state.old.pages }
     ensures err { OnErr result (past state.new ≡ past state.old) }
     ensures front { OnErr result (AppliesFront (brings state.old.pages (past state.old) event.now) (O.ops store.old) (O.ops store.new)) }

@@ -66,7 +66,8 @@ impl<O: ObjStore, L> World<O, L> {
     }
 
     /// Does one event, and enters it with its answer. A line of a script has to spell the event. The
-    /// store then has the operations that the journal implies.
+    /// store then has the operations that the journal implies; it is called only at a write that is
+    /// answered `wrote`.
     ///
     /// `Store` comes only where the store's count of faults rose in this step, and only at a write
     /// that would be answered `wrote`; `Log` never comes. After a fault the history and the log are
@@ -80,6 +81,7 @@ impl<O: ObjStore, L> World<O, L> {
         ensures answer { IfOk result (λ a. a ≡ answer self.old.pages self.old.history event.now) }
         ensures history { OnOk result (self.new ≡ record self.old { history = entry self.old.pages self.old.history event.now ∷ self.old.history; store = self.new.store }) }
         ensures listed { OnOk result (O.ops self.new.store ≡ applied self.new.history) }
+        ensures quiet { IfOk result (λ a. calls_store event.now a ≡ false → self.new.store ≡ self.old.store) }
         ensures refused { IfOk result (λ a. is_refusal event.now a ≡ true → IsAsBefore self.old.history self.new.history) }
         ensures err { OnErr result (self.new ≡ record self.old { live = false; store = self.new.store }) }
         ensures front { OnErr result (AppliesFront (brings self.old.pages self.old.history event.now) (applied self.old.history) (O.ops self.new.store)) }

@@ -12,7 +12,7 @@ ghost use Rattle.cs_laws.specs.Fits.{is_write};
 ghost use Rattle.cs_laws.specs.Operations.{operation, operations, brought, applied, operations_drawn};
 ghost use Rattle.cs_laws.specs.References.{named};
 ghost use Rattle.cs_objstore.specs.Stores.{has_tid};
-ghost use Rattle.cs_world.specs.Storing.{AppliesFront};
+ghost use Rattle.cs_world.specs.Storing.{AppliesFront, calls_store};
 ghost use Rattle.cs_world.specs.Tables.{Steps, KeepsJournal, IsReady, Marks, past};
 
 use crate::state::{FileState, State};
@@ -41,6 +41,7 @@ pub fn write<O: ObjStore>(
     requires listed { O.ops store.old ≡ applied (past state.old) }
     ensures ok { IfOk result (λ a. Steps state.old state.new (events.Write caller name off bytes.now) a) }
     ensures listed { IfOk result (λ a. O.ops store.new ≡ applied (record { event = events.Write caller name off bytes.now; answer = a } ∷ past state.old)) }
+    ensures quiet { IfOk result (λ a. calls_store (events.Write caller name off bytes.now) a ≡ false → store.new ≡ store.old) }
     ensures err { OnErr result (KeepsJournal state.old state.new) }
     ensures written { OnErr result (answer_write (past state.old) caller name off bytes.now ≡ answers.Wrote) }
     ensures front { OnErr result (AppliesFront (brought (events.Write caller name off bytes.now) answers.Wrote (past state.old) (operations_drawn (past state.old))) (O.ops store.old) (O.ops store.new)) }
