@@ -1,17 +1,14 @@
 // What a run says of lines that no script has, and of scripts beyond its limits.
+use crate::snapshot_tests::UNDER_A_WRITER;
 use crate::test_runs::{repeated, run};
 use cs_ids::Bytes;
 use std::test::Fail;
 
 const HEADER: &[u8] = b"ceph-script 1\n";
 
-// A script of every kind of event of a snapshot under a writer.
-const UNDER_A_WRITER: &[u8] =
-    b"ceph-script 1\nfile 100 1\ngrant 100 Frw 4096\ntoclient\nbegin 1 100 Fw 4\nwrite 1 1 0 6161\nsnap 1 a\ncommit\ntoclient\nbegin 2 100 Fw 4\nwrite 1 1 2 6262\nshow 100 1 0 4\nend 1 1\nflushsnaps 100\ntomds\ncommit\ntoclient\nshow 100 1 0 4\n";
-
 #[test]
 fn a_faulty_line_is_told_with_its_kind(rt: HostRuntime) -> Result<(), Fail> {
-    let table: [(&[u8], &[u8]); 28] = [
+    let table: [(&[u8], &[u8]); 30] = [
         (b"begin 33 100 Fw 8", b"2 range"),
         (b"begin 1 100 wF 8", b"2 word"),
         (b"begin 01 100 Fw 8", b"2 number"),
@@ -40,6 +37,8 @@ fn a_faulty_line_is_told_with_its_kind(rt: HostRuntime) -> Result<(), Fail> {
         (b"check +1", b"2 number"),
         (b" check 100", b"2 word"),
         (b"toclient ", b"2 extra"),
+        (b"snap 1 .a", b"2 word"),
+        (b"snap 0 .a", b"2 range"),
     ];
     for (lines, wanted) in table.iter() {
         let script = repeated(rt.alloc(), HEADER, lines, 1, b"\n")?;

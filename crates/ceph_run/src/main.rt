@@ -11,6 +11,8 @@ mod journal;
 mod run_fault;
 mod serve;
 #[cfg(test)]
+mod snapshot_tests;
+#[cfg(test)]
 mod store_tests;
 #[cfg(test)]
 mod test_runs;

@@ -9,10 +9,10 @@ use std::alloc::Global;
 use std::test::Fail;
 
 const HOLD_THEN_ACK: &[u8] =
-    b"ceph-script 1\nfile 100 1\ngrant 100 Frw 4096\ntoclient\nbegin 1 100 Fw 8\nrevoke 100 Fw\ntoclient\ncheck 100\nend 1 1\ncheck 100\n";
+    b"ceph-script 1\nfile 100 1\ngrant 100 Frw 4096\ntoclient\nbegin 1 100 Fw 8\nrevoke 100 Fw\ntoclient\ncheck 100\nend 1 1\ncheck 100\ntomds\n";
 
 const HELD: &[u8] =
-    b"ceph-journal 1\n1 file 100 1 -> made\n2 grant 100 Frw 4096 -> sent 1 held Frw\n3 toclient -> cap 100 1 Frw 4096\n4 begin 1 100 Fw 8 -> ref 1\n5 revoke 100 Fw -> sent 2 held Frw\n6 toclient -> cap 100 2 Fr 4096\n7 check 100 -> hold Fw\n8 end 1 1 -> ended\n9 check 100 -> ack 2 Fr\nend 9\n";
+    b"ceph-journal 1\n1 file 100 1 -> made\n2 grant 100 Frw 4096 -> sent 1 held Frw\n3 toclient -> cap 100 1 Frw 4096\n4 begin 1 100 Fw 8 -> ref 1\n5 revoke 100 Fw -> sent 2 held Frw\n6 toclient -> cap 100 2 Fr 4096\n7 check 100 -> hold Fw\n8 end 1 1 -> ended\n9 check 100 -> ack 2 Fr\n10 tomds -> capack 100 2 held Fr\nend 10\n";
 
 fn status<S: Source, K: Sink>(alloc: Global, source: &mut S, sink: &mut K) -> u8 {
     let Finished {
@@ -128,13 +128,13 @@ fn a_fault_of_the_source_takes_nothing(rt: HostRuntime) -> Result<(), Fail> {
 
 #[test]
 fn a_fault_of_the_sink_leaves_whole_lines(rt: HostRuntime) -> Result<(), Fail> {
-    for call in 1..13u32 {
+    for call in 1..14u32 {
         let (status, sink) = run_faulty(rt.alloc(), &[], &[call])?;
         let taken = sink.bytes();
-        assert_eq!(rt; status, if call > 11 { 0 } else { 5 });
+        assert_eq!(rt; status, if call > 12 { 0 } else { 5 });
         assert!(rt; HELD.starts_with(taken));
         let lines = taken.iter().filter(|c| **c == b'\n').count();
-        assert_eq!(rt; lines as u32, call.min(12) - 1);
+        assert_eq!(rt; lines as u32, call.min(13) - 1);
     }
     Ok(())
 }

@@ -1,5 +1,5 @@
 -- The answer to each event, by tests in the order in which they are made.
-use Rattle.std.specs.Prelude.{ℕ, ◌+◌, ◌&&◌, Bool, List, [], ◌∷◌, Option, Some, None, if◌then◌else◌, nat_lt, nat_le, length}
+use Rattle.std.specs.Prelude.{ℕ, ◌+◌, ◌==◌, ◌&&◌, Bool, List, [], ◌∷◌, Option, Some, None, if◌then◌else◌, nat_lt, nat_le, length}
 use Rattle.cs_bits.specs.declared.Caps.{Caps}
 use Rattle.cs_bits.specs.Bits.{is_empty, covers, file_write}
 use Rattle.cs_parts.specs.declared.capabilities.ClientCaps.{ClientCaps}
@@ -15,9 +15,13 @@ use Rattle.cs_laws.specs.declared.answers.Entry.{Entry}
 use Rattle.cs_laws.specs.declared.answers.Why.TheVariants as why
 use Rattle.cs_laws.specs.declared.messages.Message.{Message}
 use Rattle.cs_laws.specs.declared.messages.Message.TheVariants as messages
-use Rattle.cs_laws.specs.Events.{setup_file, client_knows, server_knows, is_directory, begun}
-use Rattle.cs_laws.specs.History.{client, server, to_client, live, used}
+use Rattle.cs_snapctx.specs.Context.{Context}
+use Rattle.cs_laws.specs.CapSnaps.{CapSnap, is_open, is_writing, makes}
+use Rattle.cs_laws.specs.Context.{last_record, root_context}
+use Rattle.cs_laws.specs.Events.{setup_file, files, client_knows, server_knows, is_directory, begun}
+use Rattle.cs_laws.specs.History.{client, server, to_client, to_server, root, context, live, dirty, queued, fresh, stand, sent, used}
 use Rattle.cs_laws.specs.References.{can_end, named}
+use Rattle.cs_laws.specs.Standing.{greatest_snap, has_snap_named}
 
 abbrev pub answer_file : List Entry → ℕ → ℕ → Answer
 answer_file h f p = if setup_file h f then answers.Exists else if is_directory h p then answers.Made else answers.NoDir
@@ -30,7 +34,8 @@ abbrev pub answer_begin : List Entry → ℕ → ℕ → Caps → ℕ → Answer
 answer_begin h caller f bits end =
     if client_knows h f then
     (if covers (client h f).issued bits then
-    (if may_write bits && nat_lt (client h f).max end then answers.Again why.Max
+    (if may_write bits && is_writing (live h) (queued h f) then answers.Again why.Snap
+    else if may_write bits && nat_lt (client h f).max end then answers.Again why.Max
     else if nat_le 256 (length (live h)) then answers.Full
     else answers.Ref (begun h caller + 1))
     else answers.Again why.Caps)
@@ -60,14 +65,50 @@ answer_check_of c in_use =
 abbrev pub answer_check : List Entry → ℕ → Answer
 answer_check h f = if client_knows h f then answer_check_of (client h f) (used h f) else answers.Unknown
 
--- the line of a delivered message
-abbrev pub answer_first : List Message → Answer
-answer_first [] = answers.Idle
-answer_first (messages.Cap f seq bits end ∷ q) = answers.Cap f seq bits end
-answer_first (messages.CapAck f seq bits ∷ q) = answers.Idle
+-- the first unsent cap snap of a file; count: how many flushes were sent
+abbrev pub answer_flush_snaps_of : List Live → ℕ → List CapSnap → Answer
+answer_flush_snaps_of rs count [] = answers.NoneQueued
+answer_flush_snaps_of rs count (x ∷ xs) = if is_open rs x then answers.Writing else answers.FlushSnap (count + 1) x.follows
+
+abbrev pub answer_flush_snaps : List Entry → ℕ → Answer
+answer_flush_snaps h f = if client_knows h f then answer_flush_snaps_of (live h) (length (sent h)) (queued h f) else answers.Unknown
+
+-- how many of these files get a cap snap where the root's context becomes another one
+abbrev pub count_made : List Entry → Context → List ℕ → ℕ
+count_made h new [] = 0
+count_made h new (f ∷ fs) = (if makes f (context h f) new (live h) (dirty h f) (queued h f) then 1 else 0) + count_made h new fs
+
+-- the line of a message that is delivered to the client
+abbrev pub answer_told : List Entry → Message → Answer
+answer_told h (messages.Cap f seq bits end) = answers.Cap f seq bits end
+answer_told h (messages.FlushAck f tid) = answers.FlushAck f tid
+answer_told h (messages.Snap number realm realms) =
+    answers.SnapTold number realm (count_made h (root_context (last_record realms (root h))) (files h))
+answer_told h _ = answers.Idle
+
+abbrev pub answer_to_client_of : List Entry → List Message → Answer
+answer_to_client_of h [] = answers.Idle
+answer_to_client_of h (m ∷ q) = answer_told h m
 
 abbrev pub answer_to_client : List Entry → Answer
-answer_to_client h = answer_first (to_client h)
+answer_to_client h = answer_to_client_of h (to_client h)
+
+-- what the server takes for held once an acknowledgement of bits under a number is delivered
+abbrev pub held_after : ServerCaps → ℕ → Caps → Caps
+held_after s seq bits = if s.seq == seq then bits else s.held
+
+-- the line of a message that is delivered to the server
+abbrev pub answer_received : List Entry → Message → Answer
+answer_received h (messages.CapAck f seq bits) = answers.CapAck f seq (held_after (server h f) seq bits)
+answer_received h (messages.FlushSnap f tid follows meta) = answers.Flushed f tid
+answer_received h _ = answers.Idle
+
+abbrev pub answer_to_mds_of : List Entry → List Message → Answer
+answer_to_mds_of h [] = answers.Idle
+answer_to_mds_of h (m ∷ q) = answer_received h m
+
+abbrev pub answer_to_mds : List Entry → Answer
+answer_to_mds h = answer_to_mds_of h (to_server h)
 
 -- the server tells the client its new end
 abbrev pub sent_cap : ServerCaps → Answer
@@ -79,6 +120,13 @@ answer_grant h f bits end = if server_knows h f then sent_cap (granted (server h
 abbrev pub answer_revoke : List Entry → ℕ → Caps → Answer
 answer_revoke h f bits = if server_knows h f then sent_cap (revoked (server h f) bits) else answers.Unknown
 
+-- the number of a new snapshot of a directory
+abbrev pub answer_snap : List Entry → ℕ → List ℕ → Answer
+answer_snap h d name =
+    if is_directory h d then
+    (if has_snap_named d name (stand h) then answers.Exists else answers.Snap (greatest_snap (stand h) + 1))
+    else answers.Unknown
+
 -- the answer to an event after a history, where so many pages may be cached
 abbrev pub answer : ℕ → List Entry → Event → Answer
 answer pages h (events.File f p) = answer_file h f p
@@ -86,6 +134,10 @@ answer pages h (events.Begin caller f bits end) = answer_begin h caller f bits e
 answer pages h (events.End caller name) = answer_end h caller name
 answer pages h (events.Write caller name off bytes) = answer_write h caller name off bytes
 answer pages h (events.Check f) = answer_check h f
+answer pages h (events.FlushSnaps f) = answer_flush_snaps h f
 answer pages h events.ToClient = answer_to_client h
+answer pages h events.ToMds = answer_to_mds h
 answer pages h (events.Grant f bits end) = answer_grant h f bits end
 answer pages h (events.Revoke f bits) = answer_revoke h f bits
+answer pages h (events.Snap d name) = answer_snap h d name
+answer pages h events.Commit = answers.Commit (length (fresh h))

@@ -11,6 +11,7 @@ use Rattle.cs_laws.specs.declared.answers.Answer.TheVariants as answers
 abbrev pub server_then : Event → Answer → ℕ → ServerCaps → ServerCaps
 server_then (events.Grant g bits end) (answers.SentCap seq held) f s = if g == f then granted s bits end else s
 server_then (events.Revoke g bits) (answers.SentCap seq held) f s = if g == f then revoked s bits else s
+server_then events.ToMds (answers.CapAck g seq held) f s = if g == f then record s { held = held } else s
 server_then _ _ f s = s
 
 abbrev pub client_then : Event → Answer → ℕ → ClientCaps → ClientCaps

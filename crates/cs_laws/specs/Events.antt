@@ -17,6 +17,15 @@ abbrev pub setup_file : List Entry → ℕ → Bool
 setup_file [] f = false
 setup_file (x ∷ h) f = setup_file_then x.event x.answer f (setup_file h f)
 
+abbrev pub files_then : Event → Answer → List ℕ → List ℕ
+files_then (events.File g p) answers.Made fs = g ∷ fs
+files_then _ _ fs = fs
+
+-- the files that `file` lines made, the last one first
+abbrev pub files : List Entry → List ℕ
+files [] = []
+files (x ∷ h) = files_then x.event x.answer (files h)
+
 abbrev pub client_knows : List Entry → ℕ → Bool
 client_knows h f = setup_file h f
 
@@ -34,6 +43,14 @@ clock_then _ _ t = t
 abbrev pub clock : List Entry → ℕ
 clock [] = 0
 clock (x ∷ h) = clock_then x.event x.answer (clock h)
+
+-- the mode of every file: no event changes one yet
+abbrev pub mode_then : Event → Answer → ℕ → ℕ
+mode_then _ _ m = m
+
+abbrev pub mode : List Entry → ℕ → ℕ
+mode [] f = 420
+mode (x ∷ h) f = mode_then x.event x.answer (mode h f)
 
 abbrev pub begun_then : Event → Answer → ℕ → ℕ → ℕ
 begun_then (events.Begin caller f bits end) (answers.Ref number) c n = if caller == c then n + 1 else n

@@ -2,6 +2,7 @@
 use Rattle.std.specs.Prelude.{ℕ, ◌+◌, ◌==◌, ◌&&◌, ◌||◌, Bool, true, false, not, List, [], ◌∷◌, length, Option, Some, None, Result, Ok, Err, codes, if◌then◌else◌, nat_lt, nat_le, slice_get}
 use Rattle.std.specs.Str.{bytes_eq}
 use Rattle.std.specs.List.{slice_split}
+use Rattle.cs_ids.specs.Names.{is_name}
 use Rattle.cs_bits.specs.declared.Caps.{Caps}
 use Rattle.cs_bits.specs.Bits.{caps_of}
 use Rattle.cs_text.specs.Decimal.{is_decimal, value}
@@ -68,6 +69,13 @@ bytes_of (Some (b ∷ bs)) = if nat_le (length (b ∷ bs)) most_written then Ok 
 abbrev pub bytes_at : ℕ → Words → Result (List ℕ) Kind
 bytes_at i ws = word_in (λ w. bytes_of (bytes_of_hex w)) (slice_get ws i)
 
+-- the name of a snapshot, as it stands
+abbrev pub name_in : List ℕ → Result (List ℕ) Kind
+name_in w = if is_name w then Ok w else Err kinds.Word
+
+abbrev pub name_field : ℕ → Words → Result (List ℕ) Kind
+name_field i ws = word_in name_in (slice_get ws i)
+
 -- these are all the words
 abbrev pub only : ℕ → Event → Words → Result Event Kind
 only n e ws = if nat_le (length ws) n then Ok e else Err kinds.Extra
@@ -112,6 +120,11 @@ check_of ws = do
   f ← number_at 1 1 99999 ws
   only 2 (events.Check f) ws
 
+unfoldable pub flush_snaps_of : Words → Result Event Kind
+flush_snaps_of ws = do
+  f ← number_at 1 1 99999 ws
+  only 2 (events.FlushSnaps f) ws
+
 unfoldable pub grant_of : Words → Result Event Kind
 grant_of ws = do
   f ← number_at 1 1 99999 ws
@@ -125,6 +138,12 @@ revoke_of ws = do
   b ← set_at 2 ws
   only 3 (events.Revoke f b) ws
 
+unfoldable pub snap_of : Words → Result Event Kind
+snap_of ws = do
+  d ← number_at 1 1 99999 ws
+  n ← name_field 2 ws
+  only 3 (events.Snap d n) ws
+
 -- The first words of events that aren't built yet
 
 abbrev pub is_later_caller_word : List ℕ → Bool
@@ -135,15 +154,14 @@ is_later_caller_word w =
 
 abbrev pub is_later_client_word : List ℕ → Bool
 is_later_client_word w =
-    bytes_eq w (codes "flush") || (bytes_eq w (codes "flushsnaps") || (bytes_eq w (codes "writeback")
-    || (bytes_eq w (codes "invalidate") || (bytes_eq w (codes "osd") || (bytes_eq w (codes "osdack")
-    || (bytes_eq w (codes "osdlose") || bytes_eq w (codes "osdresend")))))))
+    bytes_eq w (codes "flush") || (bytes_eq w (codes "writeback") || (bytes_eq w (codes "invalidate")
+    || (bytes_eq w (codes "osd") || (bytes_eq w (codes "osdack") || (bytes_eq w (codes "osdlose")
+    || bytes_eq w (codes "osdresend"))))))
 
 abbrev pub is_later_server_word : List ℕ → Bool
 is_later_server_word w =
-    bytes_eq w (codes "dir") || (bytes_eq w (codes "tomds") || (bytes_eq w (codes "drop")
-    || (bytes_eq w (codes "reconnect") || (bytes_eq w (codes "snap") || (bytes_eq w (codes "rmsnap")
-    || (bytes_eq w (codes "unlease") || (bytes_eq w (codes "commit") || bytes_eq w (codes "failover"))))))))
+    bytes_eq w (codes "dir") || (bytes_eq w (codes "drop") || (bytes_eq w (codes "reconnect")
+    || (bytes_eq w (codes "rmsnap") || (bytes_eq w (codes "unlease") || bytes_eq w (codes "failover")))))
 
 abbrev pub is_later_word : List ℕ → Bool
 is_later_word w = is_later_caller_word w || (is_later_client_word w || is_later_server_word w)
@@ -155,9 +173,13 @@ event_by w ws =
     else if bytes_eq w (codes "end") then end_of ws
     else if bytes_eq w (codes "write") then write_of ws
     else if bytes_eq w (codes "check") then check_of ws
+    else if bytes_eq w (codes "flushsnaps") then flush_snaps_of ws
     else if bytes_eq w (codes "toclient") then only 1 events.ToClient ws
+    else if bytes_eq w (codes "tomds") then only 1 events.ToMds ws
     else if bytes_eq w (codes "grant") then grant_of ws
     else if bytes_eq w (codes "revoke") then revoke_of ws
+    else if bytes_eq w (codes "snap") then snap_of ws
+    else if bytes_eq w (codes "commit") then only 1 events.Commit ws
     else if is_later_word w then Err kinds.NotBuilt
     else Err kinds.Word
 

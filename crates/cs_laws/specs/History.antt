@@ -1,6 +1,6 @@
 -- The functions of a history that may need one another. Each goes down in the length of the history: what
 -- an entry does is a function of the entry and of the history before it.
-use Rattle.std.specs.Prelude.{ℕ, List, [], ◌∷◌}
+use Rattle.std.specs.Prelude.{ℕ, List, [], ◌∷◌, ◌++◌}
 use Rattle.cs_bits.specs.declared.Caps.{Caps}
 use Rattle.cs_bits.specs.Bits.{no_caps, union}
 use Rattle.cs_parts.specs.declared.capabilities.ClientCaps.{ClientCaps}
@@ -10,14 +10,18 @@ use Rattle.cs_parts.specs.Capabilities.{no_client_caps, no_server_caps}
 use Rattle.cs_parts.specs.References.{used_in}
 use Rattle.cs_laws.specs.declared.answers.Entry.{Entry}
 use Rattle.cs_laws.specs.declared.messages.Message.{Message}
+use Rattle.cs_laws.specs.declared.records.Record.{Record}
 use Rattle.cs_snapctx.specs.declared.realm.RealmRecord.{RealmRecord}
 use Rattle.cs_snapctx.specs.Context.{Context}
 use Rattle.cs_laws.specs.Capabilities.{client_then, server_then}
+use Rattle.cs_laws.specs.CapSnaps.{CapSnap, queued_then}
 use Rattle.cs_laws.specs.Context.{empty_root, root_then, root_context}
-use Rattle.cs_laws.specs.Events.{clock}
+use Rattle.cs_laws.specs.Events.{clock, mode}
 use Rattle.cs_laws.specs.Flight.{to_client_then, to_server_then}
+use Rattle.cs_laws.specs.Flushes.{Flush, sent_then}
 use Rattle.cs_laws.specs.Image.{Write}
 use Rattle.cs_laws.specs.References.{live_then, dirty_then}
+use Rattle.cs_laws.specs.Standing.{durable_then, fresh_then}
 use Rattle.cs_laws.specs.Writes.{writes_then}
 
 abbrev mutual
@@ -34,17 +38,27 @@ abbrev mutual
   -- the messages on their way to the client
   pub to_client : List Entry → List Message
   to_client [] = []
-  to_client (x ∷ h) = to_client_then x.event x.answer (λ f. server h f) (to_client h)
+  to_client (x ∷ h) = to_client_then x.event x.answer (λ f. server h f) (durable h) (fresh h) (to_client h)
 
   -- the messages on their way to the server
   pub to_server : List Entry → List Message
   to_server [] = []
-  to_server (x ∷ h) = to_server_then x.event x.answer (to_server h)
+  to_server (x ∷ h) = to_server_then x.event x.answer (λ f. writes h f) (λ f. queued h f) (to_server h)
 
   -- the root's last realm record that the client has
   pub root : List Entry → RealmRecord
   root [] = empty_root
-  root (x ∷ h) = root_then x.event x.answer (root h)
+  root (x ∷ h) = root_then x.event x.answer (to_client h) (root h)
+
+  -- the records of the server's log that are durable
+  pub durable : List Entry → List Record
+  durable [] = []
+  durable (x ∷ h) = durable_then x.event x.answer (fresh h) (durable h)
+
+  -- those behind them that aren't
+  pub fresh : List Entry → List Record
+  fresh [] = []
+  fresh (x ∷ h) = fresh_then x.event x.answer (to_server h) (fresh h)
 
   -- the references begun and not ended
   pub live : List Entry → List Live
@@ -61,6 +75,12 @@ abbrev mutual
   dirty [] f = no_caps
   dirty (x ∷ h) f = dirty_then x.event x.answer (live h) f (dirty h f)
 
+  -- the cap snaps of a file that aren't sent yet
+  pub queued : List Entry → ℕ → List CapSnap
+  queued [] f = []
+  queued (x ∷ h) f =
+      queued_then x.event x.answer f (root_context (root h)) (root_context (root_then x.event x.answer (to_client h) (root h))) (live h) (dirty h f) (mode h f) (queued h f)
+
 -- the snapshot context of a file, whose realm is the root
 abbrev pub context : List Entry → ℕ → Context
 context h f = root_context (root h)
@@ -68,3 +88,12 @@ context h f = root_context (root h)
 -- the bits of a file that are in use: those of its live references, and those that its dirty metadata needs
 abbrev pub used : List Entry → ℕ → Caps
 used h f = union (used_in f (live h)) (dirty h f)
+
+-- the standing records of the server's log
+abbrev pub stand : List Entry → List Record
+stand h = durable h ++ fresh h
+
+-- the flushes that were sent
+abbrev pub sent : List Entry → List Flush
+sent [] = []
+sent (x ∷ h) = sent_then x.event x.answer (λ f. writes h f) (λ f. queued h f) (sent h)

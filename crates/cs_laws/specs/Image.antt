@@ -1,5 +1,5 @@
 -- The image of a list of writes: what a file holds that was written so.
-use Rattle.std.specs.Prelude.{ℕ, ◌+◌, ◌-◌, ◌&&◌, max, List, [], ◌∷◌, length, slice_index, nat_lt, nat_le, if◌then◌else◌}
+use Rattle.std.specs.Prelude.{ℕ, ◌+◌, ◌-◌, ◌&&◌, max, List, [], ◌∷◌, length, filter, slice_index, nat_lt, nat_le, if◌then◌else◌}
 
 -- the byte at a place, where these bytes lie from an offset on over another byte there
 abbrev pub byte_over : ℕ → List ℕ → ℕ → ℕ → ℕ
@@ -28,3 +28,7 @@ size (w ∷ ws) = max (w.off + length w.bytes) (size ws)
 abbrev pub mtime : List Write → ℕ
 mtime [] = 0
 mtime (w ∷ ws) = w.time
+
+-- the writes with a tag of at most s
+abbrev pub upto : ℕ → List Write → List Write
+upto s ws = filter (λ w. nat_le w.tag s) ws

@@ -1,9 +1,11 @@
 pub mod Answers
+pub mod CapSnaps
 pub mod Capabilities
 pub mod Context
 pub mod Events
 pub mod Fits
 pub mod Flight
+pub mod Flushes
 pub mod Grammar
 pub mod History
 pub mod Image
@@ -13,5 +15,6 @@ pub mod Objects
 pub mod Operations
 pub mod References
 pub mod Refusals
+pub mod Standing
 pub mod Texts
 pub mod Writes

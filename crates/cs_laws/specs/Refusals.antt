@@ -9,6 +9,7 @@ abbrev pub not_yet : Answer → Bool
 not_yet (answers.Again w) = true
 not_yet (answers.Hold bits) = true
 not_yet answers.Idle = true
+not_yet answers.Writing = true
 not_yet _ = false
 
 -- the event is turned down
@@ -20,6 +21,7 @@ is_turned_down answers.Full = true
 is_turned_down answers.NoBit = true
 is_turned_down answers.Past = true
 is_turned_down answers.Nothing = true
+is_turned_down answers.NoneQueued = true
 is_turned_down _ = false
 
 abbrev pub is_refusal : Event → Answer → Bool

@@ -19,6 +19,7 @@ name_text (names.Kept n) = codes "g" ++ decimal n
 
 abbrev pub why_text : Why → List ℕ
 why_text why.Caps = codes "caps"
+why_text why.Snap = codes "snap"
 why_text why.Max = codes "max"
 
 abbrev pub event_text : Event → List ℕ
@@ -27,9 +28,13 @@ event_text (events.Begin c f bits end) = codes "begin " ++ decimal c ++ codes " 
 event_text (events.End c name) = codes "end " ++ decimal c ++ codes " " ++ name_text name
 event_text (events.Write c name off bytes) = codes "write " ++ decimal c ++ codes " " ++ name_text name ++ codes " " ++ decimal off ++ codes " " ++ hex_text bytes
 event_text (events.Check f) = codes "check " ++ decimal f
+event_text (events.FlushSnaps f) = codes "flushsnaps " ++ decimal f
 event_text events.ToClient = codes "toclient"
+event_text events.ToMds = codes "tomds"
 event_text (events.Grant f bits end) = codes "grant " ++ decimal f ++ codes " " ++ caps_text bits ++ codes " " ++ decimal end
 event_text (events.Revoke f bits) = codes "revoke " ++ decimal f ++ codes " " ++ caps_text bits
+event_text (events.Snap d name) = codes "snap " ++ decimal d ++ codes " " ++ name
+event_text events.Commit = codes "commit"
 
 abbrev pub answer_text : Answer → List ℕ
 answer_text answers.Unknown = codes "unknown"
@@ -47,8 +52,17 @@ answer_text answers.Wrote = codes "wrote"
 answer_text answers.Nothing = codes "nothing"
 answer_text (answers.Hold bits) = codes "hold " ++ caps_text bits
 answer_text (answers.Ack seq bits) = codes "ack " ++ decimal seq ++ codes " " ++ caps_text bits
+answer_text answers.NoneQueued = codes "none"
+answer_text answers.Writing = codes "writing"
+answer_text (answers.FlushSnap tid follows) = codes "flushsnap " ++ decimal tid ++ codes " " ++ decimal follows
 answer_text (answers.Cap f seq bits end) = codes "cap " ++ decimal f ++ codes " " ++ decimal seq ++ codes " " ++ caps_text bits ++ codes " " ++ decimal end
+answer_text (answers.FlushAck f tid) = codes "flushack " ++ decimal f ++ codes " " ++ decimal tid
+answer_text (answers.SnapTold number realm made) = codes "snap " ++ decimal number ++ codes " " ++ decimal realm ++ codes " " ++ decimal made
+answer_text (answers.CapAck f seq held) = codes "capack " ++ decimal f ++ codes " " ++ decimal seq ++ codes " held " ++ caps_text held
+answer_text (answers.Flushed f tid) = codes "flushed " ++ decimal f ++ codes " " ++ decimal tid
 answer_text (answers.SentCap seq held) = codes "sent " ++ decimal seq ++ codes " held " ++ caps_text held
+answer_text (answers.Snap number) = codes "snap " ++ decimal number
+answer_text (answers.Commit count) = codes "commit " ++ decimal count
 
 abbrev pub kind_text : Kind → List ℕ
 kind_text kinds.Header = codes "header"

@@ -4,7 +4,7 @@ ghost use Rattle.cs_laws.specs.Refusals.{not_yet};
 
 use crate::Event;
 use cs_bits::Caps;
-use cs_ids::{Ino, Memory, RefNo, Seq};
+use cs_ids::{Ino, Memory, RefNo, Seq, Snap, Tid};
 use std::alloc::Global;
 
 /// Why an event has to wait.
@@ -12,6 +12,8 @@ use std::alloc::Global;
 pub enum Why {
     /// The reference's bits aren't all issued.
     Caps,
+    /// A cap snap of the file is writing: writers that began before a snapshot still live.
+    Snap,
     /// The reference's end is beyond the file's greatest end.
     Max,
 }
@@ -56,6 +58,16 @@ pub enum Answer {
         seq: Seq,
         bits: Caps,
     },
+    /// No cap snap of the file is to be sent.
+    NoneQueued,
+    /// The cap snap that is to be sent next is writing: writers that began before it still live.
+    Writing,
+    /// A cap snap was sent under this flush number. It follows the `seq` of the context that the
+    /// file had before the snapshot.
+    FlushSnap {
+        tid: Tid,
+        follows: Seq,
+    },
     /// A capability message was delivered: the client may have these bits, and the file may grow up
     /// to `max` bytes.
     Cap {
@@ -64,10 +76,40 @@ pub enum Answer {
         bits: Caps,
         max: u32,
     },
+    /// The server's acknowledgement of a flush was delivered.
+    FlushAck {
+        file: Ino,
+        tid: Tid,
+    },
+    /// The client was told of a snapshot of a realm, and made so many cap snaps.
+    SnapTold {
+        number: Snap,
+        realm: Ino,
+        made: u32,
+    },
+    /// The client's acknowledgement was delivered, after which these bits are held.
+    CapAck {
+        file: Ino,
+        seq: Seq,
+        held: Caps,
+    },
+    /// A flush was delivered, and its record stands.
+    Flushed {
+        file: Ino,
+        tid: Tid,
+    },
     /// A capability message was sent; the client may still be using the bits that are held.
     SentCap {
         seq: Seq,
         held: Caps,
+    },
+    /// A snapshot was taken under this number.
+    Snap {
+        number: Snap,
+    },
+    /// So many records are durable that weren't.
+    Commit {
+        count: u32,
     },
 }
 
@@ -97,6 +139,12 @@ impl Answer {
                 seq: *seq,
                 bits: *bits,
             },
+            Answer::NoneQueued => Answer::NoneQueued,
+            Answer::Writing => Answer::Writing,
+            Answer::FlushSnap { tid, follows } => Answer::FlushSnap {
+                tid: *tid,
+                follows: *follows,
+            },
             Answer::Cap {
                 file,
                 seq,
@@ -110,10 +158,36 @@ impl Answer {
                     max: *max,
                 }
             }
+            Answer::FlushAck { file, tid } => Answer::FlushAck {
+                file: *file,
+                tid: *tid,
+            },
+            Answer::SnapTold {
+                number,
+                realm,
+                made,
+            } => {
+                Answer::SnapTold {
+                    number: *number,
+                    realm: *realm,
+                    made: *made,
+                }
+            }
+            Answer::CapAck { file, seq, held } => Answer::CapAck {
+                file: *file,
+                seq: *seq,
+                held: *held,
+            },
+            Answer::Flushed { file, tid } => Answer::Flushed {
+                file: *file,
+                tid: *tid,
+            },
             Answer::SentCap { seq, held } => Answer::SentCap {
                 seq: *seq,
                 held: *held,
             },
+            Answer::Snap { number } => Answer::Snap { number: *number },
+            Answer::Commit { count } => Answer::Commit { count: *count },
         })
     }
 }
@@ -124,7 +198,7 @@ pub fn not_yet(answer: &Answer) -> bool
 {
     matches!(
         answer,
-        Answer::Again(_) | Answer::Hold { .. } | Answer::Idle
+        Answer::Again(_) | Answer::Hold { .. } | Answer::Idle | Answer::Writing
     )
 }
 

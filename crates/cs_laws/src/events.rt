@@ -3,7 +3,7 @@ ghost use Rattle.std.specs.Prelude.{◌≡◌, IfOk};
 ghost use Rattle.cs_laws.specs.Fits.{fits, is_built, is_write};
 
 use cs_bits::Caps;
-use cs_ids::{Bytes, Caller, Ino, Memory, RefNo};
+use cs_ids::{Bytes, Caller, Ino, Memory, Name, RefNo};
 use std::alloc::Global;
 
 /// How a script names a reference.
@@ -48,8 +48,14 @@ pub enum Event {
     Check {
         file: Ino,
     },
+    /// The client sends the oldest cap snap of a file that it hasn't sent.
+    FlushSnaps {
+        file: Ino,
+    },
     /// The oldest message on its way to the client is delivered.
     ToClient,
+    /// The oldest message on its way to the server is delivered.
+    ToMds,
     /// The server gives the client bits of a file, which may grow up to `max` bytes, 0 to 1,048,576.
     Grant {
         file: Ino,
@@ -61,6 +67,13 @@ pub enum Event {
         file: Ino,
         bits: Caps,
     },
+    /// The server takes a snapshot of a directory under a name that none of its snapshots has.
+    Snap {
+        dir: Ino,
+        name: Name,
+    },
+    /// The server makes all of its records durable, and tells the client of those that were not.
+    Commit,
 }
 
 impl Event {
@@ -106,7 +119,9 @@ impl Event {
                 }
             }
             Event::Check { file } => Event::Check { file: *file },
+            Event::FlushSnaps { file } => Event::FlushSnaps { file: *file },
             Event::ToClient => Event::ToClient,
+            Event::ToMds => Event::ToMds,
             Event::Grant { file, bits, max } => {
                 Event::Grant {
                     file: *file,
@@ -118,6 +133,11 @@ impl Event {
                 file: *file,
                 bits: *bits,
             },
+            Event::Snap { dir, name } => Event::Snap {
+                dir: *dir,
+                name: Name::from_slice(alloc, name.as_slice())?,
+            },
+            Event::Commit => Event::Commit,
         })
     }
 
@@ -132,7 +152,13 @@ impl Event {
             Event::Write { off, bytes, .. } => is_write(*off, bytes.as_slice()),
             Event::Grant { bits, max, .. } => is_built(*bits) && *max <= 1_048_576,
             Event::Revoke { bits, .. } => is_built(*bits),
-            Event::End { .. } | Event::Check { .. } | Event::ToClient => true,
+            Event::End { .. }
+            | Event::Check { .. }
+            | Event::FlushSnaps { .. }
+            | Event::ToClient
+            | Event::ToMds
+            | Event::Snap { .. }
+            | Event::Commit => true,
         }
     }
 }

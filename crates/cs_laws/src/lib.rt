@@ -10,6 +10,7 @@ mod faults;
 mod messages;
 mod objects;
 mod printing;
+mod records;
 #[cfg(test)]
 mod tests;
 
@@ -18,3 +19,4 @@ pub use events::{Event, RefName, is_built};
 pub use faults::{Kind, ScriptFault, StepFault};
 pub use messages::Message;
 pub use objects::{At, ObjOp, ObjOps};
+pub use records::{RealmRecordList, Record, RecordBody};

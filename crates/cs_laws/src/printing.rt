@@ -1,10 +1,12 @@
 // The texts of events and answers.
 ghost use Rattle.std.specs.Prelude.{Some};
+ghost use Rattle.std.specs.Fmt.{DisplaysOnOk};
 ghost use Rattle.cs_laws.specs.Texts.{event_text, answer_text, why_text, name_text, kind_text};
 
 use crate::{Answer, Event, Kind, RefName, Why};
+use cs_ids::Name;
 use cs_text::HexText;
-use std::fmt;
+use std::{fmt, str};
 
 impl fmt::Display for RefName {
     ghost output = { λ x. Some (name_text x) };
@@ -23,6 +25,7 @@ impl fmt::Display for Why {
     fn fmt<W: fmt::Write>(&self, f: &mut fmt::Formatter<W>) -> fmt::Result {
         match self {
             Why::Caps => write!(f, "caps"),
+            Why::Snap => write!(f, "snap"),
             Why::Max => write!(f, "max"),
         }
     }
@@ -42,6 +45,16 @@ impl fmt::Display for Kind {
             Kind::Long => write!(f, "long"),
             Kind::NotBuilt => write!(f, "notbuilt"),
         }
+    }
+}
+
+// A name's bytes are text.
+fn write_name<W: fmt::Write>(name: &Name, f: &mut fmt::Formatter<W>) -> fmt::Result
+    ensures { DisplaysOnOk W.write_str_gives f.old result (Some name.now) f.new }
+{
+    match str::from_utf8(name.as_slice()) {
+        Ok(text) => write!(f, "{text}"),
+        Err(_) => unreachable!(),
     }
 }
 
@@ -68,9 +81,16 @@ impl fmt::Display for Event {
                 write!(f, "write {} {name} {off} {digits}", caller.get())
             }
             Event::Check { file } => write!(f, "check {}", file.get()),
+            Event::FlushSnaps { file } => write!(f, "flushsnaps {}", file.get()),
             Event::ToClient => write!(f, "toclient"),
+            Event::ToMds => write!(f, "tomds"),
             Event::Grant { file, bits, max } => write!(f, "grant {} {bits} {max}", file.get()),
             Event::Revoke { file, bits } => write!(f, "revoke {} {bits}", file.get()),
+            Event::Snap { dir, name } => {
+                write!(f, "snap {} ", dir.get())?;
+                write_name(name, f)
+            }
+            Event::Commit => write!(f, "commit"),
         }
     }
 }
@@ -95,13 +115,30 @@ impl fmt::Display for Answer {
             Answer::Nothing => write!(f, "nothing"),
             Answer::Hold { bits } => write!(f, "hold {bits}"),
             Answer::Ack { seq, bits } => write!(f, "ack {} {bits}", seq.get()),
+            Answer::NoneQueued => write!(f, "none"),
+            Answer::Writing => write!(f, "writing"),
+            Answer::FlushSnap { tid, follows } => {
+                write!(f, "flushsnap {} {}", tid.get(), follows.get())
+            }
             Answer::Cap {
                 file,
                 seq,
                 bits,
                 max,
             } => { write!(f, "cap {} {} {bits} {max}", file.get(), seq.get()) }
+            Answer::FlushAck { file, tid } => { write!(f, "flushack {} {}", file.get(), tid.get()) }
+            Answer::SnapTold {
+                number,
+                realm,
+                made,
+            } => { write!(f, "snap {} {} {made}", number.get(), realm.get()) }
+            Answer::CapAck { file, seq, held } => {
+                write!(f, "capack {} {} held {held}", file.get(), seq.get())
+            }
+            Answer::Flushed { file, tid } => write!(f, "flushed {} {}", file.get(), tid.get()),
             Answer::SentCap { seq, held } => write!(f, "sent {} held {held}", seq.get()),
+            Answer::Snap { number } => write!(f, "snap {}", number.get()),
+            Answer::Commit { count } => write!(f, "commit {count}"),
         }
     }
 }

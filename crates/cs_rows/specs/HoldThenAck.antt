@@ -30,8 +30,9 @@ events_read =
     ∷ events.Check 100
     ∷ []
 
-abbrev pub written : List ℕ
-written =
+-- the journal without its end line
+abbrev pub written_so_far : List ℕ
+written_so_far =
     codes "ceph-journal 1\n"
     ++ codes "1 file 100 1 -> made\n"
     ++ codes "2 grant 100 Frw 4096 -> sent 1 held Frw\n"
@@ -42,4 +43,6 @@ written =
     ++ codes "7 check 100 -> hold Fw\n"
     ++ codes "8 end 1 1 -> ended\n"
     ++ codes "9 check 100 -> ack 2 Fr\n"
-    ++ codes "end 9\n"
+
+abbrev pub written : List ℕ
+written = written_so_far ++ codes "end 9\n"

@@ -1,6 +1,10 @@
+pub mod AfterASnapshot
+pub mod Delivered
 pub mod EmptyScript
 pub mod Faults
 pub mod FullTable
 pub mod HoldThenAck
 pub mod LastByte
+pub mod OneCapSnap
 pub mod TwoObjects
+pub mod UnderAWriter

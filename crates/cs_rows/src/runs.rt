@@ -3,13 +3,18 @@ ghost use Rattle.std.specs.Prelude.{◌≡◌, Ok};
 ghost use Rattle.cs_laws.specs.declared.answers.Why.TheVariants as why;
 ghost use Rattle.cs_laws.specs.declared.answers.Answer.TheVariants as answers;
 ghost use Rattle.cs_laws.specs.Grammar.{script_of};
+ghost use Rattle.cs_laws.specs.History.{sent};
 ghost use Rattle.cs_laws.specs.Journal.{journal, text};
 ghost use Rattle.cs_laws.specs.Operations.{applied};
+ghost use Rattle.cs_rows.specs.AfterASnapshot as after;
+ghost use Rattle.cs_rows.specs.Delivered as delivered;
 ghost use Rattle.cs_rows.specs.EmptyScript as empty;
 ghost use Rattle.cs_rows.specs.FullTable as full;
 ghost use Rattle.cs_rows.specs.HoldThenAck as held;
 ghost use Rattle.cs_rows.specs.LastByte as last;
+ghost use Rattle.cs_rows.specs.OneCapSnap as shared;
 ghost use Rattle.cs_rows.specs.TwoObjects as crossing;
+ghost use Rattle.cs_rows.specs.UnderAWriter as under;
 
 /// A header alone: an empty journal.
 pub fn empty_script()
@@ -21,6 +26,12 @@ pub fn empty_script()
 pub fn hold_then_ack()
     ensures read { script_of held.input ≡ Ok held.events_read }
     ensures written { text (journal 256 held.events_read) ≡ held.written }
+{}
+
+/// The same, with the acknowledgement delivered to the server, which then takes no more for held.
+pub fn hold_then_ack_delivered()
+    ensures read { script_of delivered.input ≡ Ok delivered.events_read }
+    ensures written { text (journal 256 delivered.events_read) ≡ delivered.written }
 {}
 
 /// After 256 live references the next one finds the table full.
@@ -38,4 +49,25 @@ pub fn last_byte()
 /// A write that touches two objects brings an operation to each.
 pub fn two_objects()
     ensures { applied (journal 256 crossing.events_read) ≡ crossing.stored }
+{}
+
+/// A snapshot while a writer lives: no other writer begins, the first one still writes, and the flush
+/// that is sent once it has ended has what it wrote.
+pub fn under_a_writer()
+    ensures read { script_of under.input ≡ Ok under.events_read }
+    ensures written { text (journal 256 under.events_read) ≡ under.written }
+    ensures flushed { sent (journal 256 under.events_read) ≡ under.flushed }
+{}
+
+/// Two snapshots while a writer lives: the second makes no cap snap, since the first one's is writing.
+pub fn one_cap_snap()
+    ensures read { script_of shared.input ≡ Ok shared.events_read }
+    ensures written { text (journal 256 shared.events_read) ≡ shared.written }
+    ensures flushed { sent (journal 256 shared.events_read) ≡ shared.flushed }
+{}
+
+/// A write on a reference that began after two snapshots were told brings an operation whose context
+/// has both.
+pub fn after_a_snapshot()
+    ensures { applied (journal 256 after.events_read) ≡ after.stored }
 {}

@@ -1,6 +1,7 @@
 -- What a field that is read tells of its word.
 use Rattle.std.proofs.Common.{◌≡◌, ◌+◌, ℕ, Bool, true, false, ◌&&◌, nat_le, List, [], ◌∷◌, length, Option, Some, None, Result, Ok, Err, refl, sym, arith, if◌then◌else◌, slice_get}
 use Rattle.std.proofs.lemmas.Bool.Decides.{nat_tests}
+use Rattle.cs_ids.specs.Names.{is_name}
 use Rattle.cs_bits.specs.declared.Caps.{Caps}
 use Rattle.cs_bits.specs.Bits.{caps_of}
 use Rattle.cs_text.specs.Decimal.{is_decimal, value}
@@ -9,7 +10,7 @@ use Rattle.cs_laws.specs.declared.events.Event.{Event}
 use Rattle.cs_laws.specs.declared.faults.Kind.{Kind}
 use Rattle.cs_laws.specs.declared.faults.Kind.TheVariants as kinds
 use Rattle.cs_laws.specs.Fits.{is_built, greatest_end, most_written}
-use Rattle.cs_laws.specs.Grammar.{Words, word_in, number_in, number_at, set_of, set_at, bytes_of, bytes_at, only, ends_in_file}
+use Rattle.cs_laws.specs.Grammar.{Words, word_in, number_in, number_at, set_of, set_at, bytes_of, bytes_at, name_in, name_field, only, ends_in_file}
 
 -- a test that was passed
 pub record Passes {A : Type 0} (b : Bool) (x y : A) : Type 0 where
@@ -88,6 +89,13 @@ pub bytes_count : (i : ℕ) (ws : Words) (bs : List ℕ) → bytes_at i ws ≡ O
 bytes_count i ws bs h =
     let w = word_is (λ w. bytes_of (bytes_of_hex w)) (slice_get ws i) bs h in
     (bytes_are (bytes_of_hex w.word) bs w.reads).count
+
+-- a name that was read is its word
+pub name_field_is : (i : ℕ) (ws : Words) (n : List ℕ) → name_field i ws ≡ Ok n → (slice_get ws i ≡ Some n) × (is_name n ≡ true)
+name_field_is i ws n h =
+    let w = word_is name_in (slice_get ws i) n h in
+    let p = passed (is_name w.word) w.word n kinds.Word w.reads in
+    rw p.same (w.is, p.test)
 
 -- no word follows
 pub only_is : (n : ℕ) (e d : Event) (ws : Words) → only n e ws ≡ Ok d → Passes (nat_le (length ws) n) e d

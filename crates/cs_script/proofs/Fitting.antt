@@ -6,9 +6,9 @@ use Rattle.cs_laws.specs.declared.events.Event.TheVariants as events
 use Rattle.cs_laws.specs.declared.faults.Kind.{Kind}
 use Rattle.cs_laws.specs.declared.faults.Kind.TheVariants as kinds
 use Rattle.cs_laws.specs.Fits.{fits, is_built, greatest_end, most_written}
-use Rattle.cs_laws.specs.Grammar.{Words, file_of, begin_of, end_of, write_of, check_of, grant_of, revoke_of, is_later_word, event_by, event_of, words_in, in_time, is_setup, line_event}
+use Rattle.cs_laws.specs.Grammar.{Words, file_of, begin_of, end_of, write_of, check_of, flush_snaps_of, grant_of, revoke_of, snap_of, is_later_word, event_by, event_of, words_in, in_time, is_setup, line_event}
 use Rattle.cs_script.proofs.FieldFacts.{word_is, number_range, number_below, set_built, bytes_count, only_is}
-use Rattle.cs_script.proofs.FormFacts.{binds, file_is, begin_is, end_is, write_is, check_is, grant_is, revoke_is}
+use Rattle.cs_script.proofs.FormFacts.{binds, file_is, begin_is, end_is, write_is, check_is, flush_snaps_is, grant_is, revoke_is, snap_is}
 
 both : (a b : Bool) → a ≡ true → b ≡ true → (a && b) ≡ true
 both true true p q = refl
@@ -36,6 +36,9 @@ write_fits ws e h =
 check_fits : (ws : Words) (e : Event) → check_of ws ≡ Ok e → fits e ≡ true
 check_fits ws e h = rw (check_is ws e h).is refl
 
+flush_snaps_fits : (ws : Words) (e : Event) → flush_snaps_of ws ≡ Ok e → fits e ≡ true
+flush_snaps_fits ws e h = rw (flush_snaps_is ws e h).is refl
+
 grant_fits : (ws : Words) (e : Event) → grant_of ws ≡ Ok e → fits e ≡ true
 grant_fits ws e h =
     let i = grant_is ws e h in
@@ -45,6 +48,9 @@ revoke_fits : (ws : Words) (e : Event) → revoke_of ws ≡ Ok e → fits e ≡ 
 revoke_fits ws e h =
     let i = revoke_is ws e h in
     rw i.is (set_built 2 ws i.b i.bits)
+
+snap_fits : (ws : Words) (e : Event) → snap_of ws ≡ Ok e → fits e ≡ true
+snap_fits ws e h = rw (snap_is ws e h).is refl
 
 -- a reading that gives only what fits
 abbrev Fitting : Result Event Kind → Type 0
@@ -62,10 +68,14 @@ event_by_fits w ws =
     (either (bytes_eq w (codes "end")) _ _ (end_fits ws)
     (either (bytes_eq w (codes "write")) _ _ (write_fits ws)
     (either (bytes_eq w (codes "check")) _ _ (check_fits ws)
+    (either (bytes_eq w (codes "flushsnaps")) _ _ (flush_snaps_fits ws)
     (either (bytes_eq w (codes "toclient")) _ _ (λ e h. rw (only_is 1 events.ToClient e ws h).same refl)
+    (either (bytes_eq w (codes "tomds")) _ _ (λ e h. rw (only_is 1 events.ToMds e ws h).same refl)
     (either (bytes_eq w (codes "grant")) _ _ (grant_fits ws)
     (either (bytes_eq w (codes "revoke")) _ _ (revoke_fits ws)
-    (either (is_later_word w) _ _ (λ e h. cc h) (λ e h. cc h)))))))))
+    (either (bytes_eq w (codes "snap")) _ _ (snap_fits ws)
+    (either (bytes_eq w (codes "commit")) _ _ (λ e h. rw (only_is 1 events.Commit e ws h).same refl)
+    (either (is_later_word w) _ _ (λ e h. cc h) (λ e h. cc h)))))))))))))
 
 pub event_fits : (ws : Words) (e : Event) → event_of ws ≡ Ok e → fits e ≡ true
 unfolding event_of

@@ -6,7 +6,7 @@ use Rattle.cs_laws.specs.declared.events.Event.TheVariants as events
 use Rattle.cs_laws.specs.declared.events.RefName.{RefName}
 use Rattle.cs_laws.specs.declared.faults.Kind.{Kind}
 use Rattle.cs_laws.specs.Fits.{greatest_end}
-use Rattle.cs_laws.specs.Grammar.{Words, ◌>>=◌, number_at, set_at, name_at, bytes_at, only, ends_in_file, file_of, begin_of, end_of, write_of, check_of, grant_of, revoke_of}
+use Rattle.cs_laws.specs.Grammar.{Words, ◌>>=◌, number_at, set_at, name_at, bytes_at, name_field, only, ends_in_file, file_of, begin_of, end_of, write_of, check_of, flush_snaps_of, grant_of, revoke_of, snap_of}
 use Rattle.cs_script.proofs.FieldFacts.{only_is, ends_is}
 
 -- a value that was read, and what follows
@@ -86,6 +86,19 @@ check_is ws e h =
     let u = only_is 2 (events.Check f.value) e ws f.rest in
     record { f = f.value; file = f.is; few = u.test; is = u.same }
 
+pub record IsFlushSnaps (ws : Words) (e : Event) : Type 0 where
+  pub f : ℕ
+  pub file : number_at 1 1 99999 ws ≡ Ok f
+  pub few : nat_le (length ws) 2 ≡ true
+  pub is : e ≡ events.FlushSnaps f
+
+pub flush_snaps_is : (ws : Words) (e : Event) → flush_snaps_of ws ≡ Ok e → IsFlushSnaps ws e
+unfolding flush_snaps_of
+flush_snaps_is ws e h =
+    let f = binds (number_at 1 1 99999 ws) (λ (f : ℕ). only 2 (events.FlushSnaps f) ws) e h in
+    let u = only_is 2 (events.FlushSnaps f.value) e ws f.rest in
+    record { f = f.value; file = f.is; few = u.test; is = u.same }
+
 pub record IsGrant (ws : Words) (e : Event) : Type 0 where
   pub f : ℕ
   pub b : Caps
@@ -120,6 +133,22 @@ revoke_is ws e h =
     let b = binds (set_at 2 ws) (λ (b : Caps). only 3 (events.Revoke f.value b) ws) e f.rest in
     let u = only_is 3 (events.Revoke f.value b.value) e ws b.rest in
     record { f = f.value; b = b.value; file = f.is; bits = b.is; few = u.test; is = u.same }
+
+pub record IsSnap (ws : Words) (e : Event) : Type 0 where
+  pub d : ℕ
+  pub n : List ℕ
+  pub dir : number_at 1 1 99999 ws ≡ Ok d
+  pub name : name_field 2 ws ≡ Ok n
+  pub few : nat_le (length ws) 3 ≡ true
+  pub is : e ≡ events.Snap d n
+
+pub snap_is : (ws : Words) (e : Event) → snap_of ws ≡ Ok e → IsSnap ws e
+unfolding snap_of
+snap_is ws e h =
+    let d = binds (number_at 1 1 99999 ws) (λ (d : ℕ). name_field 2 ws >>= λ (n : List ℕ). only 3 (events.Snap d n) ws) e h in
+    let n = binds (name_field 2 ws) (λ (n : List ℕ). only 3 (events.Snap d.value n) ws) e d.rest in
+    let u = only_is 3 (events.Snap d.value n.value) e ws n.rest in
+    record { d = d.value; n = n.value; dir = d.is; name = n.is; few = u.test; is = u.same }
 
 pub record IsWrite (ws : Words) (e : Event) : Type 0 where
   pub c : ℕ

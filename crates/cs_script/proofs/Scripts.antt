@@ -1,11 +1,12 @@
 -- A script with a line for each event is read as these events.
 use Rattle.std.proofs.Common.{◌≡◌, ◌∙◌, ap, refl, ℕ, ◌+◌, ◌^◌, ◌≤◌, ◌<◌, ◌==◌, Bool, true, false, cond, ◌&&◌, nat_le, List, [], ◌∷◌, ◌++◌, length, map, filter, codes, decimal, arith, Ok, length-append}
 use Rattle.std.specs.Prelude.{All}
-use Rattle.std.specs.List.{AllPass}
+use Rattle.std.specs.List.{AllPass, list_all}
 use Rattle.std.proofs.lemmas.Bool.{and_parts, leb-true}
 use Rattle.std.proofs.lemmas.Bool.Decides.{nat_tests}
 use Rattle.std.proofs.lemmas.Fmt.{length-decimal-le}
 use Rattle.std.proofs.lemmas.List.Elements.{All-head, All-tail}
+use Rattle.cs_ids.specs.Names.{is_letter_or_digit, is_name_byte, is_name}
 use Rattle.cs_bits.specs.declared.Caps.{Caps}
 use Rattle.cs_bits.specs.Bits.{Letters, covers, letters_of, behind, or_dash, spelled, caps_text, pin_letters, auth_letters, link_letters, xattr_letters, file_letters}
 use Rattle.cs_text.specs.Hex.{hex_text}
@@ -35,6 +36,14 @@ decimal_few n small = length-decimal-le 20 n (omega arith) (omega arith) small
 name_few : (r : RefName) → IsName r → length (name_text r) ≤ 21
 name_few (names.Own n) h = omega (arith, decimal_few n (omega arith))
 name_few (names.Kept n) h = omega (arith, decimal_few n (omega arith))
+
+-- a snapshot's name has at most 32 bytes
+snap_name_few : (n : List ℕ) → is_name n ≡ true → length n ≤ 32
+snap_name_few [] h = omega arith
+snap_name_few (c ∷ cs) h =
+    let parts = and_parts (is_letter_or_digit c) (nat_le (length cs) 31 && list_all is_name_byte cs) h in
+    let few = leb-true (length cs) 31 (and_parts (nat_le (length cs) 31) (list_all is_name_byte cs) parts.1).0 in
+    omega arith
 
 hex_few : (bs : List ℕ) → length (hex_text bs) ≤ length bs + length bs
 hex_few [] = omega arith
@@ -90,11 +99,15 @@ text_few (events.Write c name off bytes) is fit =
     let ends = leb-true (off + length bytes) greatest_end parts.1 in
     simp length-append (omega (arith, decimal_few c (omega arith), name_few name is.1, decimal_few off (omega arith), hex_few bytes))
 text_few (events.Check f) is fit = omega (arith, decimal_few f (omega arith))
+text_few (events.FlushSnaps f) is fit = omega (arith, decimal_few f (omega arith))
 text_few events.ToClient is fit = omega arith
+text_few events.ToMds is fit = omega arith
 text_few (events.Grant f bits max) is fit =
     let small = leb-true max greatest_end (and_parts (is_built bits) (nat_le max greatest_end) fit).1 in
     simp length-append (omega (arith, decimal_few f (omega arith), caps_few bits, decimal_few max (omega arith)))
 text_few (events.Revoke f bits) is fit = simp length-append (omega (arith, decimal_few f (omega arith), caps_few bits))
+text_few (events.Snap d name) is fit = simp length-append (omega (arith, decimal_few d (omega arith), snap_name_few name is.1))
+text_few events.Commit is fit = omega arith
 
 not_long : (t : List ℕ) → length t ≤ 4096 → is_long t ≡ false
 not_long t few = grind (arith, nat_tests)
@@ -106,9 +119,13 @@ not_skipped (events.Begin c f bits end) = refl
 not_skipped (events.End c name) = refl
 not_skipped (events.Write c name off bytes) = refl
 not_skipped (events.Check f) = refl
+not_skipped (events.FlushSnaps f) = refl
 not_skipped events.ToClient = refl
+not_skipped events.ToMds = refl
 not_skipped (events.Grant f bits max) = refl
 not_skipped (events.Revoke f bits) = refl
+not_skipped (events.Snap d name) = refl
+not_skipped events.Commit = refl
 
 -- ---- all lines
 

@@ -6,6 +6,7 @@ use Rattle.std.specs.Str.{all_ascii_digits}
 use Rattle.std.proofs.lemmas.Bool.{and_parts, leb-true}
 use Rattle.std.proofs.lemmas.Bool.Decides.{nat_tests}
 use Rattle.std.proofs.lemmas.Fmt.{digits_decimal, digits_value-decimal}
+use Rattle.cs_ids.specs.Names.{is_name}
 use Rattle.cs_bits.specs.declared.Caps.{Caps}
 use Rattle.cs_bits.specs.Bits as sets
 use Rattle.cs_bits.specs.Bits.{caps_text, caps_of}
@@ -20,10 +21,10 @@ use Rattle.cs_laws.specs.declared.events.RefName.{RefName}
 use Rattle.cs_laws.specs.declared.events.RefName.TheVariants as names
 use Rattle.cs_laws.specs.declared.faults.Kind.TheVariants as kinds
 use Rattle.cs_laws.specs.Fits.{fits, is_built, greatest_end, most_written}
-use Rattle.cs_laws.specs.Grammar.{Words, words_in, number_in, set_of, name_of, bytes_of, file_of, begin_of, end_of, write_of, check_of, grant_of, revoke_of, event_by, event_of}
+use Rattle.cs_laws.specs.Grammar.{Words, words_in, number_in, set_of, name_of, bytes_of, name_in, file_of, begin_of, end_of, write_of, check_of, flush_snaps_of, grant_of, revoke_of, snap_of, event_by, event_of}
 use Rattle.cs_laws.specs.Texts.{event_text, name_text}
 use Rattle.cs_script.specs.Spelling.{IsBytes, IsName, IsEvent}
-use Rattle.cs_script.proofs.Visible.{IsVisible, AreVisible, text_visible, words_joined, one_line, decimal_visible, name_visible, hex_visible, caps_visible}
+use Rattle.cs_script.proofs.Visible.{IsVisible, AreVisible, text_visible, words_joined, one_line, decimal_visible, name_visible, snap_name_visible, hex_visible, caps_visible}
 use Rattle.cs_script.proofs.Written.{few_bytes}
 
 -- the word that names an event, and its fields
@@ -33,9 +34,13 @@ form_of (events.Begin c f bits end) = codes "begin"
 form_of (events.End c name) = codes "end"
 form_of (events.Write c name off bytes) = codes "write"
 form_of (events.Check f) = codes "check"
+form_of (events.FlushSnaps f) = codes "flushsnaps"
 form_of events.ToClient = codes "toclient"
+form_of events.ToMds = codes "tomds"
 form_of (events.Grant f bits max) = codes "grant"
 form_of (events.Revoke f bits) = codes "revoke"
+form_of (events.Snap d name) = codes "snap"
+form_of events.Commit = codes "commit"
 
 abbrev pub fields_of : Event → Words
 fields_of (events.File f p) = decimal f ∷ decimal p ∷ []
@@ -43,9 +48,13 @@ fields_of (events.Begin c f bits end) = decimal c ∷ decimal f ∷ caps_text bi
 fields_of (events.End c name) = decimal c ∷ name_text name ∷ []
 fields_of (events.Write c name off bytes) = decimal c ∷ name_text name ∷ decimal off ∷ hex_text bytes ∷ []
 fields_of (events.Check f) = decimal f ∷ []
+fields_of (events.FlushSnaps f) = decimal f ∷ []
 fields_of events.ToClient = []
+fields_of events.ToMds = []
 fields_of (events.Grant f bits max) = decimal f ∷ caps_text bits ∷ decimal max ∷ []
 fields_of (events.Revoke f bits) = decimal f ∷ caps_text bits ∷ []
+fields_of (events.Snap d name) = decimal d ∷ name ∷ []
+fields_of events.Commit = []
 
 -- ---- the text is the words with spaces between them
 
@@ -55,9 +64,13 @@ joined (events.Begin c f bits end) = simp append_assoc
 joined (events.End c name) = simp append_assoc
 joined (events.Write c name off bytes) = simp append_assoc
 joined (events.Check f) = refl
+joined (events.FlushSnaps f) = refl
 joined events.ToClient = refl
+joined events.ToMds = refl
 joined (events.Grant f bits max) = simp append_assoc
 joined (events.Revoke f bits) = simp append_assoc
+joined (events.Snap d name) = simp append_assoc
+joined events.Commit = refl
 
 form_visible : (e : Event) → IsVisible (form_of e)
 form_visible (events.File f p) = text_visible (codes "file") refl
@@ -65,9 +78,13 @@ form_visible (events.Begin c f bits end) = text_visible (codes "begin") refl
 form_visible (events.End c name) = text_visible (codes "end") refl
 form_visible (events.Write c name off bytes) = text_visible (codes "write") refl
 form_visible (events.Check f) = text_visible (codes "check") refl
+form_visible (events.FlushSnaps f) = text_visible (codes "flushsnaps") refl
 form_visible events.ToClient = text_visible (codes "toclient") refl
+form_visible events.ToMds = text_visible (codes "tomds") refl
 form_visible (events.Grant f bits max) = text_visible (codes "grant") refl
 form_visible (events.Revoke f bits) = text_visible (codes "revoke") refl
+form_visible (events.Snap d name) = text_visible (codes "snap") refl
+form_visible events.Commit = text_visible (codes "commit") refl
 
 fields_visible : (e : Event) → IsEvent e → fits e ≡ true → AreVisible (fields_of e)
 fields_visible (events.File f p) is fit = (decimal_visible f (omega arith), (decimal_visible p (omega arith), tt))
@@ -79,11 +96,15 @@ fields_visible (events.Write c name off bytes) is fit =
     let small = leb-true (off + length bytes) greatest_end (and_parts (nat_le 1 (length bytes) && nat_le (length bytes) most_written) (nat_le (off + length bytes) greatest_end) fit).1 in
     (decimal_visible c (omega arith), (name_visible name is.1, (decimal_visible off (omega arith), (hex_visible bytes, tt))))
 fields_visible (events.Check f) is fit = (decimal_visible f (omega arith), tt)
+fields_visible (events.FlushSnaps f) is fit = (decimal_visible f (omega arith), tt)
 fields_visible events.ToClient is fit = tt
+fields_visible events.ToMds is fit = tt
 fields_visible (events.Grant f bits max) is fit =
     let small = leb-true max greatest_end (and_parts (is_built bits) (nat_le max greatest_end) fit).1 in
     (decimal_visible f (omega arith), (caps_visible bits, (decimal_visible max (omega arith), tt)))
 fields_visible (events.Revoke f bits) is fit = (decimal_visible f (omega arith), (caps_visible bits, tt))
+fields_visible (events.Snap d name) is fit = (decimal_visible d (omega arith), (snap_name_visible name is.1, tt))
+fields_visible events.Commit is fit = tt
 
 -- the words of an event's text
 pub words_are : (e : Event) → IsEvent e → fits e ≡ true → words_in (event_text e) ≡ form_of e ∷ fields_of e
@@ -127,10 +148,13 @@ bytes_read bs bytes count =
     let parts = and_parts (nat_le 1 (length bs)) (nat_le (length bs) most_written) count in
     rw (bytes_of_hex-text bs bytes) (few_bytes bs (leb-true 1 (length bs) parts.0) (leb-true (length bs) most_written parts.1))
 
+snap_name_read : (n : List ℕ) → is_name n ≡ true → name_in n ≡ Ok n
+snap_name_read n h = rw h refl
+
 -- ---- each event is read from its words
 
 pub event_read : (e : Event) → IsEvent e → fits e ≡ true → event_of (form_of e ∷ fields_of e) ≡ Ok e
-unfolding event_of event_by file_of begin_of end_of write_of check_of grant_of revoke_of
+unfolding event_of event_by file_of begin_of end_of write_of check_of flush_snaps_of grant_of revoke_of snap_of
 event_read (events.File f p) is fit =
     let range = and_parts (nat_le 2 f) (nat_le f 9999) fit in
     rw (number_read 2 9999 f (omega arith) (leb-true 2 f range.0) (leb-true f 9999 range.1), number_read 1 99999 p (omega arith) is.1.0 is.1.1) refl
@@ -156,12 +180,16 @@ event_read (events.Write c name off bytes) is fit =
       parts.1,
     ) refl
 event_read (events.Check f) is fit = rw (number_read 1 99999 f (omega arith) is.0 is.1) refl
+event_read (events.FlushSnaps f) is fit = rw (number_read 1 99999 f (omega arith) is.0 is.1) refl
 event_read events.ToClient is fit = refl
+event_read events.ToMds is fit = refl
 event_read (events.Grant f bits max) is fit =
     let parts = and_parts (is_built bits) (nat_le max greatest_end) fit in
     let small = leb-true max greatest_end parts.1 in
     rw (number_read 1 99999 f (omega arith) is.0 is.1, set_read bits parts.0, number_read 0 greatest_end max (omega arith) (omega arith) small) refl
 event_read (events.Revoke f bits) is fit = rw (number_read 1 99999 f (omega arith) is.0 is.1, set_read bits fit) refl
+event_read (events.Snap d name) is fit = rw (number_read 1 99999 d (omega arith) is.0.0 is.0.1, snap_name_read name is.1) refl
+event_read events.Commit is fit = refl
 
 -- each event that fits is read back from its text
 pub text_read : (e : Event) → IsEvent e → fits e ≡ true → event_of (words_in (event_text e)) ≡ Ok e

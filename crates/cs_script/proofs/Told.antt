@@ -23,12 +23,12 @@ use Rattle.cs_laws.specs.declared.events.RefName.TheVariants as names
 use Rattle.cs_laws.specs.declared.faults.Kind.{Kind}
 use Rattle.cs_laws.specs.declared.faults.Kind.TheVariants as kinds
 use Rattle.cs_laws.specs.Fits.{fits, greatest_end}
-use Rattle.cs_laws.specs.Grammar.{Words, ◌>>=◌, words_in, number_in, number_at, set_of, set_at, name_of, name_at, bytes_of, bytes_at, only, file_of, begin_of, end_of, write_of, check_of, grant_of, revoke_of, is_later_word, event_by, event_of}
+use Rattle.cs_laws.specs.Grammar.{Words, ◌>>=◌, words_in, number_in, number_at, set_of, set_at, name_of, name_at, bytes_of, bytes_at, only, file_of, begin_of, end_of, write_of, check_of, flush_snaps_of, grant_of, revoke_of, snap_of, is_later_word, event_by, event_of}
 use Rattle.cs_laws.specs.Texts.{event_text, name_text}
 use Rattle.cs_script.specs.Spelling.{IsBytes, IsName, IsEvent}
-use Rattle.cs_script.proofs.FieldFacts.{number_is, word_is, set_is, bytes_are, only_is}
+use Rattle.cs_script.proofs.FieldFacts.{number_is, word_is, set_is, bytes_are, name_field_is, only_is}
 use Rattle.cs_script.proofs.Fitting.{event_fits}
-use Rattle.cs_script.proofs.FormFacts.{binds, file_is, begin_is, end_is, write_is, check_is, grant_is, revoke_is}
+use Rattle.cs_script.proofs.FormFacts.{binds, file_is, begin_is, end_is, write_is, check_is, flush_snaps_is, grant_is, revoke_is, snap_is}
 use Rattle.cs_script.proofs.Spelt.{form_of, fields_of, words_are, text_read}
 
 -- ---- each field's word is the field's one text
@@ -191,10 +191,24 @@ check_tells ws first e h =
       words = words_told (codes "check" ∷ fields_of (events.Check i.f)) ws (leb-true (length ws) 2 i.few) (first, (f.0, tt));
     })
 
+flush_snaps_tells : (ws : Words) → slice_get ws 0 ≡ Some (codes "flushsnaps") → (e : Event) → flush_snaps_of ws ≡ Ok e → Tells ws e
+flush_snaps_tells ws first e h =
+    let i = flush_snaps_is ws e h in
+    let f = number_at_told 1 1 99999 ws i.f (omega arith) i.file in
+    rw i.is (record {
+      is = f.1;
+      words = words_told (codes "flushsnaps" ∷ fields_of (events.FlushSnaps i.f)) ws (leb-true (length ws) 2 i.few) (first, (f.0, tt));
+    })
+
 client_tells : (ws : Words) → slice_get ws 0 ≡ Some (codes "toclient") → (e : Event) → only 1 events.ToClient ws ≡ Ok e → Tells ws e
 client_tells ws first e h =
     let i = only_is 1 events.ToClient e ws h in
     rw i.same (record { is = tt; words = words_told (codes "toclient" ∷ []) ws (leb-true (length ws) 1 i.test) (first, tt) })
+
+server_tells : (ws : Words) → slice_get ws 0 ≡ Some (codes "tomds") → (e : Event) → only 1 events.ToMds ws ≡ Ok e → Tells ws e
+server_tells ws first e h =
+    let i = only_is 1 events.ToMds e ws h in
+    rw i.same (record { is = tt; words = words_told (codes "tomds" ∷ []) ws (leb-true (length ws) 1 i.test) (first, tt) })
 
 grant_tells : (ws : Words) → slice_get ws 0 ≡ Some (codes "grant") → (e : Event) → grant_of ws ≡ Ok e → Tells ws e
 grant_tells ws first e h =
@@ -216,6 +230,21 @@ revoke_tells ws first e h =
       words = words_told (codes "revoke" ∷ fields_of (events.Revoke i.f i.b)) ws (leb-true (length ws) 3 i.few)
           (first, (f.0, (set_at_told 2 ws i.b i.bits, tt)));
     })
+
+snap_tells : (ws : Words) → slice_get ws 0 ≡ Some (codes "snap") → (e : Event) → snap_of ws ≡ Ok e → Tells ws e
+snap_tells ws first e h =
+    let i = snap_is ws e h in
+    let d = number_at_told 1 1 99999 ws i.d (omega arith) i.dir in
+    let n = name_field_is 2 ws i.n i.name in
+    rw i.is (record {
+      is = (d.1, n.1);
+      words = words_told (codes "snap" ∷ fields_of (events.Snap i.d i.n)) ws (leb-true (length ws) 3 i.few) (first, (d.0, (n.0, tt)));
+    })
+
+commit_tells : (ws : Words) → slice_get ws 0 ≡ Some (codes "commit") → (e : Event) → only 1 events.Commit ws ≡ Ok e → Tells ws e
+commit_tells ws first e h =
+    let i = only_is 1 events.Commit e ws h in
+    rw i.same (record { is = tt; words = words_told (codes "commit" ∷ []) ws (leb-true (length ws) 1 i.test) (first, tt) })
 
 -- ---- all forms
 
@@ -244,10 +273,14 @@ event_by_tells ws w first =
     (named ws w (codes "end") _ _ first (end_tells ws)
     (named ws w (codes "write") _ _ first (write_tells ws)
     (named ws w (codes "check") _ _ first (check_tells ws)
+    (named ws w (codes "flushsnaps") _ _ first (flush_snaps_tells ws)
     (named ws w (codes "toclient") _ _ first (client_tells ws)
+    (named ws w (codes "tomds") _ _ first (server_tells ws)
     (named ws w (codes "grant") _ _ first (grant_tells ws)
     (named ws w (codes "revoke") _ _ first (revoke_tells ws)
-    (not_told ws (is_later_word w)))))))))
+    (named ws w (codes "snap") _ _ first (snap_tells ws)
+    (named ws w (codes "commit") _ _ first (commit_tells ws)
+    (not_told ws (is_later_word w)))))))))))))
 
 event_tells : (ws : Words) → Telling ws (event_of ws)
 unfolding event_of

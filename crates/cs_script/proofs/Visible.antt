@@ -1,5 +1,5 @@
 -- Each byte of a word is above the space, so that splitting a line at its spaces gives its words.
-use Rattle.std.proofs.Common.{◌≡◌, ◌∙◌, ap, refl, ℕ, ◌/◌, ◌%◌, ◌^◌, ◌<◌, ◌==◌, Bool, true, false, cond, List, [], ◌∷◌, ◌++◌, map, filter, decimal, arith, nat_lt, lit<, ◌≢◌}
+use Rattle.std.proofs.Common.{◌≡◌, ◌∙◌, ap, refl, ℕ, ◌/◌, ◌%◌, ◌^◌, ◌<◌, ◌==◌, Bool, true, false, cond, ◌&&◌, List, [], ◌∷◌, ◌++◌, length, map, filter, decimal, arith, nat_lt, nat_le, lit<, ◌≢◌}
 use Rattle.std.specs.Prelude.{All}
 use Rattle.std.specs.List.{join_with_byte, list_all}
 use Rattle.std.specs.Str.{all_ascii_digits}
@@ -8,6 +8,7 @@ use Rattle.std.proofs.lemmas.Bool.Decides.{nat_tests}
 use Rattle.std.proofs.lemmas.Fmt.{digits_decimal}
 use Rattle.std.proofs.lemmas.List.Elements.{All-nil, All-cons, All-append, All-weaker}
 use Rattle.std.proofs.lemmas.List.Splits.{slice_split_none, slice_split_at}
+use Rattle.cs_ids.specs.Names.{is_letter_or_digit, is_name_byte, is_name}
 use Rattle.cs_bits.specs.declared.Caps.{Caps}
 use Rattle.cs_bits.specs.Bits.{Letters, covers, letters_of, behind, or_dash, spelled, caps_text, pin_letters, auth_letters, link_letters, xattr_letters, file_letters}
 use Rattle.cs_text.specs.Hex.{hex_text, hex_digit}
@@ -75,6 +76,26 @@ decimal_visible n small = digits_visible (decimal n) (digits_decimal own n small
 pub name_visible : (r : RefName) → IsName r → IsVisible (name_text r)
 name_visible (names.Own n) h = decimal_visible n (omega arith)
 name_visible (names.Kept n) h = visible-cons 103 (decimal n) (omega arith) (decimal_visible n (omega arith))
+
+-- ---- names of snapshots
+
+letter_visible : (c : ℕ) → is_letter_or_digit c ≡ true → 32 < c
+letter_visible c h = grind (arith, nat_tests)
+
+name_byte_visible : (c : ℕ) → is_name_byte c ≡ true → 32 < c
+name_byte_visible c h = grind (arith, nat_tests)
+
+name_bytes_visible : (cs : List ℕ) → list_all is_name_byte cs ≡ true → IsVisible cs
+name_bytes_visible [] h = visible-nil
+name_bytes_visible (c ∷ cs) h =
+    let parts = and_parts (is_name_byte c) (list_all is_name_byte cs) h in
+    visible-cons c cs (name_byte_visible c parts.0) (name_bytes_visible cs parts.1)
+
+pub snap_name_visible : (n : List ℕ) → is_name n ≡ true → IsVisible n
+snap_name_visible [] h = visible-nil
+snap_name_visible (c ∷ cs) h =
+    let parts = and_parts (is_letter_or_digit c) (nat_le (length cs) 31 && list_all is_name_byte cs) h in
+    visible-cons c cs (letter_visible c parts.0) (name_bytes_visible cs (and_parts (nat_le (length cs) 31) (list_all is_name_byte cs) parts.1).1)
 
 -- ---- bytes
 

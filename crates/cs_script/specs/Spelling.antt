@@ -1,5 +1,6 @@
 -- Which events there are, and the scripts that are written of them.
-use Rattle.std.specs.Prelude.{◌≡◌, ℕ, ◌<◌, ◌&&◌, Bool, All, List, [], ◌∷◌, ◌++◌, Ok}
+use Rattle.std.specs.Prelude.{◌≡◌, ℕ, ◌<◌, ◌&&◌, Bool, true, All, List, [], ◌∷◌, ◌++◌, Ok}
+use Rattle.cs_ids.specs.Names.{is_name}
 use Rattle.cs_ids.specs.Ranges.{IsIn}
 use Rattle.cs_laws.specs.declared.events.Event.{Event}
 use Rattle.cs_laws.specs.declared.events.Event.TheVariants as events
@@ -28,9 +29,13 @@ IsEvent (events.Begin c f bits end) = IsCaller c × IsIno f
 IsEvent (events.End c name) = IsCaller c × IsName name
 IsEvent (events.Write c name off bytes) = IsCaller c × IsName name × IsBytes bytes
 IsEvent (events.Check f) = IsIno f
+IsEvent (events.FlushSnaps f) = IsIno f
 IsEvent events.ToClient = Unit {0}
+IsEvent events.ToMds = Unit {0}
 IsEvent (events.Grant f bits max) = IsIno f
 IsEvent (events.Revoke f bits) = IsIno f
+IsEvent (events.Snap d name) = IsIno d × (is_name name ≡ true)
+IsEvent events.Commit = Unit {0}
 
 -- a line for each event, with its newline
 abbrev pub lines_of : List Event → List ℕ

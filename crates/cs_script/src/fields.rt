@@ -1,12 +1,12 @@
 // The fields of a line, each at its place among the words.
 ghost use Rattle.std.specs.Prelude.{◌≡◌, ◌≤◌, Some};
 ghost use Rattle.cs_laws.specs.Fits.{greatest_end};
-ghost use Rattle.cs_laws.specs.Grammar.{number_in, number_at, set_at, name_at, name_of, bytes_of, bytes_at, only, ends_in_file};
+ghost use Rattle.cs_laws.specs.Grammar.{number_in, number_at, set_at, name_at, name_of, bytes_of, bytes_at, name_field, only, ends_in_file};
 ghost use Rattle.cs_script.specs.Reading.{Gives, Spells, texts};
 
 use crate::line_fault::LineFault;
 use cs_bits::Caps;
-use cs_ids::{Bytes, Caller, Ino, RefNo};
+use cs_ids::{Bytes, Caller, Ino, Name, RefNo, is_name};
 use cs_laws::{Event, Kind, RefName, is_built};
 use cs_text::{Dec, read_dec, read_hex};
 use std::alloc::Global;
@@ -115,6 +115,18 @@ pub fn bytes_at(alloc: Global, words: &[&[u8]], i: usize) -> Result<Bytes, LineF
     let word = words.get(i).ok_or(Kind::Word)?;
     let bytes = read_hex(alloc, word)?.ok_or(Kind::Word)?;
     Ok(written(bytes)?)
+}
+
+/// The name of a snapshot.
+pub fn name_field(alloc: Global, words: &[&[u8]], i: usize) -> Result<Name, LineFault>
+    ensures { Spells result (name_field i (texts words.now)) }
+{
+    let word = words.get(i).ok_or(Kind::Word)?;
+    if is_name(word) {
+        Ok(Name::from_slice(alloc, word)?)
+    } else {
+        Err(LineFault::Kind(Kind::Word))
+    }
 }
 
 /// The event, unless there are more than `count` words.

@@ -1,10 +1,10 @@
 // The forms of events, each by the fields behind its first word.
 ghost use Rattle.std.specs.Prelude.{◌≡◌};
-ghost use Rattle.cs_laws.specs.Grammar.{event_by, file_of, begin_of, end_of, write_of, check_of, grant_of, revoke_of, event_of, is_later_word, is_later_caller_word, is_later_client_word, is_later_server_word};
+ghost use Rattle.cs_laws.specs.Grammar.{event_by, file_of, begin_of, end_of, write_of, check_of, flush_snaps_of, grant_of, revoke_of, snap_of, event_of, is_later_word, is_later_caller_word, is_later_client_word, is_later_server_word};
 ghost use Rattle.cs_script.specs.Reading.{Spells, texts};
 
 use crate::fields::{
-    bytes_at, caller_at, end_at, ends_in_file, ino_at, name_at, off_at, only, set_at,
+    bytes_at, caller_at, end_at, ends_in_file, ino_at, name_at, name_field, off_at, only, set_at,
 };
 use crate::line_fault::LineFault;
 use cs_laws::{Event, Kind, RefName};
@@ -79,6 +79,14 @@ fn check_from(words: &[&[u8]]) -> Result<Event, LineFault>
     only(2, Event::Check { file }, words)
 }
 
+#[tactic(auto, unfolding(cs_laws::specs::Grammar::flush_snaps_of))]
+fn flush_snaps_from(words: &[&[u8]]) -> Result<Event, LineFault>
+    ensures { Spells result (flush_snaps_of (texts words.now)) }
+{
+    let file = ino_at(words, 1, 1, 99_999)?;
+    only(2, Event::FlushSnaps { file }, words)
+}
+
 #[tactic(auto, unfolding(cs_laws::specs::Grammar::grant_of))]
 fn grant_from(words: &[&[u8]]) -> Result<Event, LineFault>
     ensures { Spells result (grant_of (texts words.now)) }
@@ -98,6 +106,15 @@ fn revoke_from(words: &[&[u8]]) -> Result<Event, LineFault>
     only(3, Event::Revoke { file, bits }, words)
 }
 
+#[tactic(auto, unfolding(cs_laws::specs::Grammar::snap_of))]
+fn snap_from(alloc: Global, words: &[&[u8]]) -> Result<Event, LineFault>
+    ensures { Spells result (snap_of (texts words.now)) }
+{
+    let dir = ino_at(words, 1, 1, 99_999)?;
+    let name = name_field(alloc, words, 2)?;
+    only(3, Event::Snap { dir, name }, words)
+}
+
 fn is_later_caller_word(word: &[u8]) -> bool
     ensures { result ≡ is_later_caller_word word.now }
 {
@@ -114,7 +131,6 @@ fn is_later_client_word(word: &[u8]) -> bool
     ensures { result ≡ is_later_client_word word.now }
 {
     word == b"flush".as_slice()
-        || word == b"flushsnaps".as_slice()
         || word == b"writeback".as_slice()
         || word == b"invalidate".as_slice()
         || word == b"osd".as_slice()
@@ -127,13 +143,10 @@ fn is_later_server_word(word: &[u8]) -> bool
     ensures { result ≡ is_later_server_word word.now }
 {
     word == b"dir".as_slice()
-        || word == b"tomds".as_slice()
         || word == b"drop".as_slice()
         || word == b"reconnect".as_slice()
-        || word == b"snap".as_slice()
         || word == b"rmsnap".as_slice()
         || word == b"unlease".as_slice()
-        || word == b"commit".as_slice()
         || word == b"failover".as_slice()
 }
 
@@ -157,12 +170,20 @@ fn event_by(alloc: Global, word: &[u8], words: &[&[u8]]) -> Result<Event, LineFa
         write_from(alloc, words)
     } else if word == b"check".as_slice() {
         check_from(words)
+    } else if word == b"flushsnaps".as_slice() {
+        flush_snaps_from(words)
     } else if word == b"toclient".as_slice() {
         only(1, Event::ToClient, words)
+    } else if word == b"tomds".as_slice() {
+        only(1, Event::ToMds, words)
     } else if word == b"grant".as_slice() {
         grant_from(words)
     } else if word == b"revoke".as_slice() {
         revoke_from(words)
+    } else if word == b"snap".as_slice() {
+        snap_from(alloc, words)
+    } else if word == b"commit".as_slice() {
+        only(1, Event::Commit, words)
     } else if is_later_word(word) {
         Err(LineFault::Kind(Kind::NotBuilt))
     } else {

@@ -33,6 +33,23 @@ fn a_script_is_read_and_printed(rt: HostRuntime) -> Result<(), Fail> {
     Ok(())
 }
 
+// The events of snapshots, a line for each. The name has all kinds of bytes, and 32 of them.
+const SNAPSHOTS: &[u8] =
+    b"ceph-script 1\nflushsnaps 99999\ntomds\nsnap 1 0-to_9.of-32-bytes-abcdefghijklm\ncommit\n";
+
+#[test]
+fn the_events_of_snapshots_are_read_and_printed(rt: HostRuntime) -> Result<(), Fail> {
+    let script = parse(rt.alloc(), SNAPSHOTS)?;
+    let mut out = Bytes::from_slice(rt.alloc(), b"ceph-script 1\n")?;
+    for event in script.events() {
+        print_event(event, &mut out)?;
+        out.append(b"\n")?;
+    }
+    assert_eq!(rt; script.len(), 4);
+    assert_eq!(rt; out.as_slice(), SNAPSHOTS);
+    Ok(())
+}
+
 fn fault(alloc: Global, script: &[u8]) -> Option<(u32, Kind)> {
     match parse(alloc, script) {
         Err(ParseFault::Fault(fault)) => Some((fault.line, fault.kind)),
@@ -67,6 +84,20 @@ fn a_bad_line_is_told_with_its_kind(rt: HostRuntime) -> Result<(), Fail> {
         ("write 1 1 1048576 61", Kind::Range),
         ("write 1 1 1048575 6161", Kind::Range),
         ("write 1 1 1048575 6161 9", Kind::Extra),
+        ("flushsnaps", Kind::Word),
+        ("flushsnaps 0", Kind::Range),
+        ("flushsnaps 100 1", Kind::Extra),
+        ("tomds 1", Kind::Extra),
+        ("commit 1", Kind::Extra),
+        ("snap 1", Kind::Word),
+        ("snap 1 ", Kind::Word),
+        ("snap 100000 a", Kind::Range),
+        ("snap a a", Kind::Number),
+        ("snap 1 -a", Kind::Word),
+        ("snap 1 A", Kind::Word),
+        ("snap 1 a/b", Kind::Word),
+        ("snap 1 abcdefghijklmnopqrstuvwxyz0123456", Kind::Word),
+        ("snap 1 a b", Kind::Extra),
     ] {
         assert_eq!(rt; kind_of(rt.alloc(), line.as_bytes())?, Some(kind), "{line}");
     }

@@ -16,7 +16,7 @@ use Rattle.cs_laws.specs.Journal.{history, journal, entry}
 use Rattle.cs_laws.specs.References.{without_named}
 use Rattle.cs_theorems.specs.References.{WasIssued, LiveWereIssued, drawn, IsEachOnce, NumbersAreDrawnOnce}
 use Rattle.cs_theorems.proofs.Listed.{Member, Each, each_nil, each_cons, each_end}
-use Rattle.cs_theorems.proofs.Inversions.{BeginIs, begin_unknown, begin_caps, begin_max, begin_full, begun_ref, begin_is, EndIs, end_unknown, ended, end_is}
+use Rattle.cs_theorems.proofs.Inversions.{BeginIs, begin_unknown, begin_caps, begin_snap, begin_max, begin_full, begun_ref, begin_is, EndIs, end_unknown, ended, end_is}
 
 -- what is left was there
 
@@ -39,9 +39,10 @@ issued_begin : (h : List Entry) (c f : ℕ) (b : Caps) (n : ℕ) (x : Answer) �
     → LiveWereIssued (record { event = e.Begin c f b n; answer = x } ∷ h)
 issued_begin h c f b n x begin_unknown i = λ r m. inr (i r m)
 issued_begin h c f b n x begin_caps i = λ r m. inr (i r m)
+issued_begin h c f b n x begin_snap i = λ r m. inr (i r m)
 issued_begin h c f b n x begin_max i = λ r m. inr (i r m)
 issued_begin h c f b n x begin_full i = λ r m. inr (i r m)
-issued_begin h c f b n x (begun_ref known issued) i =
+issued_begin h c f b n x (begun_ref known issued free) i =
     each_end (λ r. WasIssued (record { event = e.Begin c f b n; answer = x } ∷ h) r) (live h) _ (λ r m. inr (i r m)) (inl (refl, issued))
 
 issued_end : (h : List Entry) (c : ℕ) (name : RefName) (x : Answer) → EndIs h c name x → LiveWereIssued h
@@ -88,9 +89,10 @@ drawn_begin : (h : List Entry) (c f : ℕ) (b : Caps) (n : ℕ) (x : Answer) →
     → AllDrawn (record { event = e.Begin c f b n; answer = x } ∷ h)
 drawn_begin h c f b n x begin_unknown i = i
 drawn_begin h c f b n x begin_caps i = i
+drawn_begin h c f b n x begin_snap i = i
 drawn_begin h c f b n x begin_max i = i
 drawn_begin h c f b n x begin_full i = i
-drawn_begin h c f b n x (begun_ref known issued) i =
+drawn_begin h c f b n x (begun_ref known issued free) i =
     λ d. draws_for (c == d) c d (begun h d) (begun h c) (drawn h d) refl (λ same. ap (λ k. begun h k) same) (i d)
 
 drawn_step : (p : ℕ) (h : List Entry) (x : Event) → AllDrawn h → AllDrawn (entry p h x ∷ h)

@@ -18,6 +18,7 @@ one_more false s t n small more = omega arith
 server_then_grows : (x : Event) (y : Answer) (f : ℕ) (s : ServerCaps) (n : ℕ) → s.seq ≤ n → (server_then x y f s).seq ≤ n + 1
 server_then_grows (e.Grant g bits end) (a.SentCap seq held) f s n small = one_more (g == f) s (granted s bits end) n small (omega arith)
 server_then_grows (e.Revoke g bits) (a.SentCap seq held) f s n small = one_more (g == f) s (revoked s bits) n small (omega arith)
+server_then_grows e.ToMds (a.CapAck g seq held) f s n small = one_more (g == f) s (record s { held = held }) n small (omega arith)
 server_then_grows _ _ f s n small = omega arith
 
 -- the number of a file's last capability message is at most that of the entries

@@ -1,176 +1,169 @@
 -- What the server takes for held covers what the client implements.
-use Rattle.std.proofs.Common.{◌≡◌, refl, sym, ap, subst, ℕ, ◌-◌, Bool, true, false, cond, List, [], ◌∷◌, ◌++◌, ◌==◌, ⊎_elim, inl, inr, drop, arith}
+use Rattle.std.proofs.Common.{◌≡◌, refl, sym, ap, subst, ℕ, Bool, true, false, cond, List, [], ◌∷◌, ◌++◌, ◌==◌, length, arith}
 use Rattle.std.proofs.lemmas.Bool.{eqb-true}
 use Rattle.std.proofs.lemmas.Bool.Decides.{nat_tests}
 use Rattle.cs_bits.specs.declared.Caps.{Caps}
-use Rattle.cs_bits.specs.Bits.{Has, no_caps, union, minus}
-use Rattle.cs_bits.proofs.Members.{Has-union, Has-meet, covers-Has, no_member}
+use Rattle.cs_bits.specs.Bits.{no_caps}
+use Rattle.cs_bits.proofs.Members.{covers-Has, no_member}
+use Rattle.cs_snapctx.specs.declared.realm.RealmRecord.{RealmRecord}
 use Rattle.cs_parts.specs.declared.capabilities.ClientCaps.{ClientCaps}
 use Rattle.cs_parts.specs.declared.capabilities.ServerCaps.{ServerCaps}
-use Rattle.cs_parts.specs.Capabilities.{granted, revoked, delivered, acknowledged}
+use Rattle.cs_parts.specs.Capabilities.{no_client_caps, no_server_caps, granted, revoked, delivered, acknowledged}
 use Rattle.cs_laws.specs.declared.events.Event.{Event}
 use Rattle.cs_laws.specs.declared.events.Event.TheVariants as e
 use Rattle.cs_laws.specs.declared.answers.Answer.{Answer}
+use Rattle.cs_laws.specs.declared.answers.Answer.TheVariants as a
 use Rattle.cs_laws.specs.declared.answers.Entry.{Entry}
 use Rattle.cs_laws.specs.declared.messages.Message.{Message}
 use Rattle.cs_laws.specs.declared.messages.Message.TheVariants as messages
+use Rattle.cs_laws.specs.declared.records.Record.{Record}
+use Rattle.cs_laws.specs.declared.records.RecordBody.{RecordBody}
+use Rattle.cs_laws.specs.declared.records.RecordBody.TheVariants as bodies
+use Rattle.cs_laws.specs.Answers.{held_after}
 use Rattle.cs_laws.specs.Flight.{cap_message}
-use Rattle.cs_laws.specs.History.{client, server, to_client}
+use Rattle.cs_laws.specs.History.{client, server, to_client, to_server, durable, fresh}
 use Rattle.cs_laws.specs.Journal.{history, journal, entry}
+use Rattle.cs_laws.specs.Standing.{realm_then, realm_after, told_of, told}
+use Rattle.cs_laws.specs.Context.{empty_root}
 use Rattle.cs_theorems.specs.Held.{HeldCoversImplemented}
-use Rattle.cs_theorems.proofs.Listed.{Each, each_nil, each_end}
-use Rattle.cs_theorems.proofs.Inversions.{CheckIs, check_unknown, check_nothing, check_hold, check_ack, check_is, FirstIs, first_idle, first_cap, first_is, GrantIs, grant_unknown, grant_sent, grant_is, revoke_is}
-
--- each bit of a is one of b
-pub record Within (a b : Caps) : Type 0 where
-  pub each : (k : ℕ) → Has a k → Has b k
-
-in_union : (a b x : Caps) → Within x a → Within x (union a b)
-in_union a b x w = record { each = λ k has. (Has-union a b k).1 (inl (w.each k has)) }
-
-union_in_union : (a b x : Caps) → Within x a → Within (union x b) (union a b)
-union_in_union a b x w = record { each = λ k has. (Has-union a b k).1 (⊎_elim (λ l. inl (w.each k l)) (λ r. inr r) ((Has-union x b k).0 has)) }
-
-union_within : (a b x : Caps) → Within a x → Within b x → Within (union a b) x
-union_within a b x l r = record { each = λ k has. ⊎_elim (λ p. l.each k p) (λ p. r.each k p) ((Has-union a b k).0 has) }
-
-minus_within : (a b x : Caps) → Within a x → Within (minus a b) x
-minus_within a b x w = record { each = λ k has. w.each k ((Has-meet a (record { 0 = 65535 - b.0 }) k).0 has).0 }
-
--- a capability message to the file carries none but held bits
-abbrev CarriesHeld : ℕ → Caps → Message → Type 0
-CarriesHeld f held (messages.Cap g seq bits end) = g ≡ f → Within bits held
-CarriesHeld f held (messages.CapAck g seq bits) = Unit {0}
-
--- what is given, issued, implemented and on its way is held
-pub record Holds (f : ℕ) (s : ServerCaps) (c : ClientCaps) (q : List Message) : Type 0 where
-  pub given : Within s.given s.held
-  pub issued : Within c.issued s.held
-  pub implemented : Within c.implemented s.held
-  pub flying : Each (λ m. CarriesHeld f s.held m) q
-
-carries_more : (f : ℕ) (held more : Caps) (m : Message) → CarriesHeld f held m → CarriesHeld f (union held more) m
-carries_more f held more (messages.Cap g seq bits end) w = λ e. in_union held more bits (w e)
-carries_more f held more (messages.CapAck g seq bits) w = tt
-
--- a message to the file itself
-holds_grant : (f : ℕ) (s : ServerCaps) (c : ClientCaps) (q : List Message) (bits : Caps) (end : ℕ) → Holds f s c q
-    → Holds f (granted s bits end) c (q ++ cap_message f (granted s bits end) ∷ [])
-holds_grant f s c q bits end i = record {
-  given = union_in_union s.held bits s.given i.given;
-  issued = in_union s.held bits c.issued i.issued;
-  implemented = in_union s.held bits c.implemented i.implemented;
-  flying = each_end (λ m. CarriesHeld f (union s.held bits) m) q _ (λ m there. carries_more f s.held bits m (i.flying m there))
-      (λ same. union_in_union s.held bits s.given i.given);
-}
-
-holds_revoke : (f : ℕ) (s : ServerCaps) (c : ClientCaps) (q : List Message) (bits : Caps) → Holds f s c q
-    → Holds f (revoked s bits) c (q ++ cap_message f (revoked s bits) ∷ [])
-holds_revoke f s c q bits i = record {
-  given = minus_within s.given bits s.held i.given;
-  issued = i.issued;
-  implemented = i.implemented;
-  flying = each_end (λ m. CarriesHeld f s.held m) q _ i.flying (λ same. minus_within s.given bits s.held i.given);
-}
-
--- a message to another file
-holds_other : (f g : ℕ) (t s : ServerCaps) (c : ClientCaps) (q : List Message) → (g ≡ f → ⊥) → Holds f s c q → Holds f s c (q ++ cap_message g t ∷ [])
-holds_other f g t s c q other i = record {
-  given = i.given;
-  issued = i.issued;
-  implemented = i.implemented;
-  flying = each_end (λ m. CarriesHeld f s.held m) q _ i.flying (λ same. absurd (other same));
-}
-
--- a delivery takes the first message
-rest_flies : (f : ℕ) (held : Caps) (m : Message) (q all : List Message) → all ≡ m ∷ q → Each (λ x. CarriesHeld f held x) all → Each (λ x. CarriesHeld f held x) (drop 1 all)
-rest_flies f held m q all is each = let P : List Message → Type 0 = λ xs. Each (λ x. CarriesHeld f held x) (drop 1 xs) in
-    let now : Each (λ x. CarriesHeld f held x) (m ∷ q) = subst (λ xs. Each (λ x. CarriesHeld f held x) xs) is each in
-    subst P (sym is) (λ x there. now x (inr there))
-
-first_carries : (f : ℕ) (held : Caps) (m : Message) (q all : List Message) → all ≡ m ∷ q → Each (λ x. CarriesHeld f held x) all → CarriesHeld f held m
-first_carries f held m q all is each = subst (λ xs. Each (λ x. CarriesHeld f held x) xs) is each m (inl refl)
-
-holds_delivered : (b : Bool) (f g seq : ℕ) (bits : Caps) (end : ℕ) (s : ServerCaps) (c : ClientCaps) (q all : List Message) → (g == f) ≡ b
-    → all ≡ messages.Cap g seq bits end ∷ q → Holds f s c all → Holds f s (cond b (delivered c bits seq end) c) (drop 1 all)
-holds_delivered true f g seq bits end s c q all t is i =
-    let told : Within bits s.held = first_carries f s.held (messages.Cap g seq bits end) q all is i.flying (eqb-true g f t) in
-    record {
-      given = i.given;
-      issued = told;
-      implemented = union_within c.implemented bits s.held i.implemented told;
-      flying = rest_flies f s.held (messages.Cap g seq bits end) q all is i.flying;
-    }
-holds_delivered false f g seq bits end s c q all t is i = record {
-  given = i.given;
-  issued = i.issued;
-  implemented = i.implemented;
-  flying = rest_flies f s.held (messages.Cap g seq bits end) q all is i.flying;
-}
-
-holds_ack : (b : Bool) (f g seq : ℕ) (bits : Caps) (s : ServerCaps) (c : ClientCaps) (q : List Message) → (g == f) ≡ b → (g ≡ f → bits ≡ c.issued)
-    → Holds f s c q → Holds f s (cond b (acknowledged c bits seq) c) q
-holds_ack true f g seq bits s c q t own i = record {
-  given = i.given;
-  issued = i.issued;
-  implemented = subst (λ x. Within x s.held) (sym (own (eqb-true g f t))) i.issued;
-  flying = i.flying;
-}
-holds_ack false f g seq bits s c q t own i = i
-
--- Steps
-
-abbrev AllHold : List Entry → Type 0
-AllHold h = (f : ℕ) → Holds f (server h f) (client h f) (to_client h)
+use Rattle.cs_theorems.proofs.Listed.{Each, each_nil, each_cons}
+use Rattle.cs_theorems.proofs.Rising.{at_first}
+use Rattle.cs_theorems.proofs.Held.{Within, Holds, Moves, Flying, Acked, cap_seq, cap_seqs, moves_granted, moves_revoked, holds_told, holds_beside, holds_delivered, holds_passed, holds_ack, holds_sent, holds_taken, holds_received}
+use Rattle.cs_theorems.proofs.Inversions.{CheckIs, check_unknown, check_nothing, check_hold, check_ack, check_is, FlushSnapsIs, flush_unknown, flush_none, flush_writing, flush_sent, flush_snaps_is, FirstIs, first_idle, first_cap, first_flush_ack, first_snap, first_is, ReceivedIs, received_idle, received_ack, received_flush, received_is, GrantIs, grant_unknown, grant_sent, grant_is, revoke_is}
 
 differs : (g f : ℕ) → (g == f) ≡ false → g ≡ f → ⊥
 differs g f t same = grind (arith, nat_tests)
 
-sent_grant : (b : Bool) (f g : ℕ) (s sg : ServerCaps) (c : ClientCaps) (q : List Message) (bits : Caps) (end : ℕ) → (g == f) ≡ b → (g ≡ f → sg ≡ s)
-    → Holds f s c q → Holds f (cond b (granted s bits end) s) c (q ++ cap_message g (granted sg bits end) ∷ [])
-sent_grant true f g s sg c q bits end t own i =
-    let same = eqb-true g f t in
-    subst (λ r. Holds f (granted s bits end) c (q ++ cap_message g (granted r bits end) ∷ [])) (sym (own same))
-    (subst (λ k. Holds f (granted s bits end) c (q ++ cap_message k (granted s bits end) ∷ [])) (sym same) (holds_grant f s c q bits end i))
-sent_grant false f g s sg c q bits end t own i = holds_other f g (granted sg bits end) s c q (differs g f t) i
+-- what a file is told or tells, at each file
 
-sent_revoke : (b : Bool) (f g : ℕ) (s sg : ServerCaps) (c : ClientCaps) (q : List Message) (bits : Caps) → (g == f) ≡ b → (g ≡ f → sg ≡ s)
-    → Holds f s c q → Holds f (cond b (revoked s bits) s) c (q ++ cap_message g (revoked sg bits) ∷ [])
-sent_revoke true f g s sg c q bits t own i =
-    let same = eqb-true g f t in
-    subst (λ r. Holds f (revoked s bits) c (q ++ cap_message g (revoked r bits) ∷ [])) (sym (own same))
-    (subst (λ k. Holds f (revoked s bits) c (q ++ cap_message k (revoked s bits) ∷ [])) (sym same) (holds_revoke f s c q bits i))
-sent_revoke false f g s sg c q bits t own i = holds_other f g (revoked sg bits) s c q (differs g f t) i
+told_if : (b : Bool) (f g : ℕ) (s t tg : ServerCaps) (c : ClientCaps) (q p : List Message) → (g == f) ≡ b → (g ≡ f → tg ≡ t) → Moves s t
+    → Holds f s c q p → Holds f (cond b t s) c (q ++ cap_message g tg ∷ []) p
+told_if true f g s t tg c q p is own move i =
+    let same = eqb-true g f is in
+    subst (λ r. Holds f t c (q ++ cap_message g r ∷ []) p) (sym (own same))
+    (subst (λ k. Holds f t c (q ++ cap_message k t ∷ []) p) (sym same) (holds_told f s t c q p move i))
+told_if false f g s t tg c q p is own move i =
+    holds_beside f s c q p (cap_message g tg ∷ []) (ap (λ b. cond b (tg.seq ∷ []) [] ++ []) is)
+    (each_cons (λ m. Flying f s m) (cap_message g tg) [] (λ same. absurd (differs g f is same)) (each_nil (λ m. Flying f s m))) i
+
+ack_if : (b : Bool) (f g : ℕ) (s : ServerCaps) (c cg : ClientCaps) (q p : List Message) → (g == f) ≡ b → (g ≡ f → cg ≡ c) → Holds f s c q p
+    → Holds f s (cond b (acknowledged c cg.issued cg.seq) c) q (p ++ messages.CapAck g cg.seq cg.issued ∷ [])
+ack_if true f g s c cg q p is own i =
+    let same = eqb-true g f is in
+    subst (λ r. Holds f s (acknowledged c r.issued r.seq) q (p ++ messages.CapAck g r.seq r.issued ∷ [])) (sym (own same))
+    (subst (λ k. Holds f s (acknowledged c c.issued c.seq) q (p ++ messages.CapAck k c.seq c.issued ∷ [])) (sym same) (holds_ack f s c q p i))
+ack_if false f g s c cg q p is own i = holds_sent f s c q p (messages.CapAck g cg.seq cg.issued) (λ same. absurd (differs g f is same)) i
+
+received_if : (b : Bool) (f g seq : ℕ) (bits : Caps) (s sg : ServerCaps) (c : ClientCaps) (q p : List Message) → (g == f) ≡ b → (g ≡ f → sg ≡ s)
+    → Holds f s c q (messages.CapAck g seq bits ∷ p) → Holds f (cond b (record s { held = held_after sg seq bits }) s) c q p
+received_if true f g seq bits s sg c q p is own i =
+    let same = eqb-true g f is in
+    subst (λ r. Holds f (record s { held = held_after r seq bits }) c q p) (sym (own same))
+    (holds_received f s c q p seq bits (subst (λ k. Holds f s c q (messages.CapAck k seq bits ∷ p)) same i))
+received_if false f g seq bits s sg c q p is own i = holds_taken f s c q p (messages.CapAck g seq bits) i
+
+-- what is told of records carries no capabilities
+
+no_seq_told : (f : ℕ) (root : RealmRecord) (body : RecordBody) → cap_seq f (told_of root body) ≡ []
+no_seq_told f root (bodies.Flush snap g tid follows meta) = refl
+no_seq_told f root (bodies.Snap number d name) = refl
+
+no_seqs_told : (f : ℕ) (root : RealmRecord) (rs : List Record) → cap_seqs f (told root rs) ≡ []
+no_seqs_told f root [] = refl
+no_seqs_told f root (r ∷ rs) =
+    subst (λ xs. xs ++ cap_seqs f (told (realm_then root r.body) rs) ≡ []) (sym (no_seq_told f (realm_then root r.body) r.body))
+    (no_seqs_told f (realm_then root r.body) rs)
+
+told_flies : (f : ℕ) (s : ServerCaps) (root : RealmRecord) (body : RecordBody) → Flying f s (told_of root body)
+told_flies f s root (bodies.Flush snap g tid follows meta) = tt
+told_flies f s root (bodies.Snap number d name) = tt
+
+all_told_fly : (f : ℕ) (s : ServerCaps) (root : RealmRecord) (rs : List Record) → Each (λ m. Flying f s m) (told root rs)
+all_told_fly f s root [] = each_nil (λ m. Flying f s m)
+all_told_fly f s root (r ∷ rs) =
+    each_cons (λ m. Flying f s m) (told_of (realm_then root r.body) r.body) (told (realm_then root r.body) rs)
+    (told_flies f s (realm_then root r.body) r.body) (all_told_fly f s (realm_then root r.body) rs)
+
+-- Steps
+
+abbrev HoldsAt : List Entry → ℕ → Type 0
+HoldsAt h f = Holds f (server h f) (client h f) (to_client h) (to_server h)
+
+abbrev AllHold : List Entry → Type 0
+AllHold h = (f : ℕ) → HoldsAt h f
 
 step_grant : (h : List Entry) (g : ℕ) (bits : Caps) (end : ℕ) (x : Answer) → GrantIs h g (granted (server h g) bits end) x → AllHold h
     → AllHold (record { event = e.Grant g bits end; answer = x } ∷ h)
 step_grant h g bits end x grant_unknown i = i
 step_grant h g bits end x grant_sent i =
-    λ f. sent_grant (g == f) f g (server h f) (server h g) (client h f) (to_client h) bits end refl (λ same. ap (λ k. server h k) same) (i f)
+    λ f. told_if (g == f) f g (server h f) (granted (server h f) bits end) (granted (server h g) bits end) (client h f) (to_client h) (to_server h) refl
+    (λ same. ap (λ k. granted (server h k) bits end) same) (moves_granted (server h f) bits end (i f).given) (i f)
 
 step_revoke : (h : List Entry) (g : ℕ) (bits : Caps) (x : Answer) → GrantIs h g (revoked (server h g) bits) x → AllHold h
     → AllHold (record { event = e.Revoke g bits; answer = x } ∷ h)
 step_revoke h g bits x grant_unknown i = i
 step_revoke h g bits x grant_sent i =
-    λ f. sent_revoke (g == f) f g (server h f) (server h g) (client h f) (to_client h) bits refl (λ same. ap (λ k. server h k) same) (i f)
+    λ f. told_if (g == f) f g (server h f) (revoked (server h f) bits) (revoked (server h g) bits) (client h f) (to_client h) (to_server h) refl
+    (λ same. ap (λ k. revoked (server h k) bits) same) (moves_revoked (server h f) bits (i f).given) (i f)
+
+-- the first message to the client is taken
+abbrev Client : List Entry → ℕ → List Message → Type 0
+Client h f q = Holds f (server h f) (client h f) q (to_server h)
 
 step_to_client : (h : List Entry) (x : Answer) → FirstIs h x → AllHold h → AllHold (record { event = e.ToClient; answer = x } ∷ h)
 step_to_client h x first_idle i = i
-step_to_client h x (first_cap g seq bits end q is) i =
-    λ f. holds_delivered (g == f) f g seq bits end (server h f) (client h f) q (to_client h) refl is (i f)
+step_to_client h x (first_cap g seq bits end q is) i = λ f.
+    let now : ClientCaps = cond (g == f) (delivered (client h f) bits seq end) (client h f) in
+    at_first (λ y. Client h f y) (λ y. Holds f (server h f) now y (to_server h)) (messages.Cap g seq bits end) q (to_client h) is
+    (λ j. holds_delivered (g == f) f g seq bits end (server h f) (client h f) q (to_server h) refl j) (i f)
+step_to_client h x (first_flush_ack g tid q is) i = λ f.
+    at_first (λ y. Client h f y) (λ y. Client h f y) (messages.FlushAck g tid) q (to_client h) is
+    (λ j. holds_passed f (server h f) (client h f) (messages.FlushAck g tid) q (to_server h) refl j) (i f)
+step_to_client h x (first_snap number realm realms q is) i = λ f.
+    at_first (λ y. Client h f y) (λ y. Client h f y) (messages.Snap number realm realms) q (to_client h) is
+    (λ j. holds_passed f (server h f) (client h f) (messages.Snap number realm realms) q (to_server h) refl j) (i f)
 
 step_check : (h : List Entry) (g : ℕ) (x : Answer) → CheckIs h g x → AllHold h → AllHold (record { event = e.Check g; answer = x } ∷ h)
 step_check h g x check_unknown i = i
 step_check h g x check_nothing i = i
 step_check h g x (check_hold bits) i = i
 step_check h g x (check_ack free) i =
-    λ f. holds_ack (g == f) f g (client h g).seq (client h g).issued (server h f) (client h f) (to_client h) refl (λ same. ap (λ k. (client h k).issued) same) (i f)
+    λ f. ack_if (g == f) f g (server h f) (client h f) (client h g) (to_client h) (to_server h) refl (λ same. ap (λ k. client h k) same) (i f)
+
+step_flush_snaps : (h : List Entry) (g : ℕ) (x : Answer) → FlushSnapsIs h g x → AllHold h → AllHold (record { event = e.FlushSnaps g; answer = x } ∷ h)
+step_flush_snaps h g x flush_unknown i = i
+step_flush_snaps h g x flush_none i = i
+step_flush_snaps h g x flush_writing i = i
+step_flush_snaps h g x (flush_sent y ys known is closed) i = λ f. holds_sent f (server h f) (client h f) (to_client h) (to_server h) _ tt (i f)
+
+-- the first message to the server is taken
+abbrev Server : List Entry → ℕ → List Message → Type 0
+Server h f p = Holds f (server h f) (client h f) (to_client h) p
+
+step_to_server : (h : List Entry) (x : Answer) → ReceivedIs h x → AllHold h → AllHold (record { event = e.ToMds; answer = x } ∷ h)
+step_to_server h x received_idle i = i
+step_to_server h x (received_ack g seq bits p is) i = λ f.
+    let now : ServerCaps = cond (g == f) (record (server h f) { held = held_after (server h g) seq bits }) (server h f) in
+    at_first (λ y. Server h f y) (λ y. Holds f now (client h f) (to_client h) y) (messages.CapAck g seq bits) p (to_server h) is
+    (λ j. received_if (g == f) f g seq bits (server h f) (server h g) (client h f) (to_client h) p refl (λ same. ap (λ k. server h k) same) j) (i f)
+step_to_server h x (received_flush g tid follows meta p is) i = λ f.
+    at_first (λ y. Server h f y) (λ y. Server h f y) (messages.FlushSnap g tid follows meta) p (to_server h) is
+    (λ j. holds_taken f (server h f) (client h f) (to_client h) p (messages.FlushSnap g tid follows meta) j) (i f)
+
+step_commit : (h : List Entry) (x : ℕ) → AllHold h → AllHold (record { event = e.Commit; answer = a.Commit x } ∷ h)
+step_commit h x i = λ f.
+    let root : RealmRecord = realm_after empty_root (durable h) in
+    holds_beside f (server h f) (client h f) (to_client h) (to_server h) (told root (fresh h)) (no_seqs_told f root (fresh h))
+    (all_told_fly f (server h f) root (fresh h)) (i f)
 
 hold_step : (p : ℕ) (h : List Entry) (x : Event) → AllHold h → AllHold (entry p h x ∷ h)
 hold_step p h (e.Grant g bits end) i = step_grant h g bits end _ (grant_is h g bits end) i
 hold_step p h (e.Revoke g bits) i = step_revoke h g bits _ (revoke_is h g bits) i
 hold_step p h e.ToClient i = step_to_client h _ (first_is h) i
+hold_step p h e.ToMds i = step_to_server h _ (received_is h) i
 hold_step p h (e.Check g) i = step_check h g _ (check_is h g) i
+hold_step p h (e.FlushSnaps g) i = step_flush_snaps h g _ (flush_snaps_is h g) i
+hold_step p h e.Commit i = step_commit h (length (fresh h)) i
 hold_step p h _ i = i
 
 hold_steps : (p : ℕ) (es : List Event) (h : List Entry) → AllHold h → AllHold (history p h es)
@@ -185,7 +178,10 @@ nothing_held = λ f. record {
   given = none_within no_caps;
   issued = none_within no_caps;
   implemented = none_within no_caps;
-  flying = each_nil (λ m. CarriesHeld f no_caps m);
+  present = λ last. none_within no_caps;
+  rises = omega arith;
+  flying = each_nil (λ m. Flying f no_server_caps m);
+  acked = each_nil (λ m. Acked f no_server_caps no_client_caps m);
 }
 
 pub held_covers : (p : ℕ) (es : List Event) → HeldCoversImplemented (journal p es)

@@ -1,10 +1,12 @@
 -- What the answer to each event can be, with the tests that led there where a law wants them.
-use Rattle.std.proofs.Common.{◌≡◌, refl, ℕ, ◌+◌, true, List, [], ◌∷◌, ◌&&◌, Option, Some, None, length, nat_lt, nat_le}
+use Rattle.std.proofs.Common.{◌≡◌, refl, ℕ, ◌+◌, true, false, List, [], ◌∷◌, ◌&&◌, Option, Some, None, length, nat_lt, nat_le}
 use Rattle.std.proofs.lemmas.Bool.{cond_both}
 use Rattle.cs_bits.specs.declared.Caps.{Caps}
 use Rattle.cs_bits.specs.Bits.{covers, is_empty}
 use Rattle.cs_parts.specs.declared.capabilities.ServerCaps.{ServerCaps}
 use Rattle.cs_parts.specs.declared.references.Live.{Live}
+use Rattle.cs_snapctx.specs.declared.realm.RealmRecord.{RealmRecord}
+use Rattle.cs_ids.specs.declared.objects.FileMeta.{FileMeta}
 use Rattle.cs_parts.specs.Capabilities.{granted, revoked, held_back, is_complete}
 use Rattle.cs_laws.specs.declared.events.RefName.{RefName}
 use Rattle.cs_laws.specs.declared.answers.Answer.{Answer}
@@ -13,25 +15,32 @@ use Rattle.cs_laws.specs.declared.answers.Why.TheVariants as why
 use Rattle.cs_laws.specs.declared.answers.Entry.{Entry}
 use Rattle.cs_laws.specs.declared.messages.Message.{Message}
 use Rattle.cs_laws.specs.declared.messages.Message.TheVariants as messages
-use Rattle.cs_laws.specs.Events.{client_knows, server_knows, begun}
-use Rattle.cs_laws.specs.History.{client, server, to_client, live, used}
+use Rattle.cs_laws.specs.CapSnaps.{CapSnap, is_open, is_writing}
+use Rattle.cs_laws.specs.Context.{last_record, root_context}
+use Rattle.cs_laws.specs.Events.{client_knows, server_knows, files, is_directory, begun}
+use Rattle.cs_laws.specs.History.{client, server, root, to_client, to_server, live, queued, sent, stand, used}
 use Rattle.cs_laws.specs.References.{can_end, named}
-use Rattle.cs_laws.specs.Answers.{answer_begin, answer_end, answer_check, answer_first, answer_to_client, answer_grant, answer_revoke, answer_write, answer_write_on, may_write}
+use Rattle.cs_laws.specs.Standing.{greatest_snap, has_snap_named}
+use Rattle.cs_laws.specs.Answers.{answer_begin, answer_end, answer_check, answer_flush_snaps, answer_flush_snaps_of, answer_to_client, answer_to_client_of, answer_to_mds, answer_to_mds_of, answer_grant, answer_revoke, answer_snap, answer_write, answer_write_on, count_made, held_after, may_write}
 
 pub data BeginIs (h : List Entry) (c f : ℕ) (b : Caps) : Answer → Type 0 where
   begin_unknown : BeginIs h c f b a.Unknown
   begin_caps : BeginIs h c f b (a.Again why.Caps)
+  begin_snap : BeginIs h c f b (a.Again why.Snap)
   begin_max : BeginIs h c f b (a.Again why.Max)
   begin_full : BeginIs h c f b a.Full
-  begun_ref : client_knows h f ≡ true → covers (client h f).issued b ≡ true → BeginIs h c f b (a.Ref (begun h c + 1))
+  begun_ref : client_knows h f ≡ true → covers (client h f).issued b ≡ true → (may_write b && is_writing (live h) (queued h f)) ≡ false
+      → BeginIs h c f b (a.Ref (begun h c + 1))
 
 pub begin_is : (h : List Entry) (c f : ℕ) (b : Caps) (n : ℕ) → BeginIs h c f b (answer_begin h c f b n)
 begin_is h c f b n =
     cond_both (client_knows h f) _ _ (BeginIs h c f b)
     (λ known. cond_both (covers (client h f).issued b) _ _ (BeginIs h c f b)
-    (λ issued. cond_both (may_write b && nat_lt (client h f).max n) _ _ (BeginIs h c f b)
+    (λ issued. cond_both (may_write b && is_writing (live h) (queued h f)) _ _ (BeginIs h c f b)
+    (λ _. begin_snap)
+    (λ free. cond_both (may_write b && nat_lt (client h f).max n) _ _ (BeginIs h c f b)
     (λ _. begin_max)
-    (λ _. cond_both (nat_le 256 (length (live h))) _ _ (BeginIs h c f b) (λ _. begin_full) (λ _. begun_ref known issued)))
+    (λ _. cond_both (nat_le 256 (length (live h))) _ _ (BeginIs h c f b) (λ _. begin_full) (λ _. begun_ref known issued free))))
     (λ _. begin_caps))
     (λ _. begin_unknown)
 
@@ -73,17 +82,69 @@ check_is h f =
     (λ _. cond_both (is_empty (held_back (client h f) (used h f))) _ _ (CheckIs h f) (λ t. check_ack t) (λ _. check_hold _)))
     (λ _. check_unknown)
 
+pub data FlushSnapsIs (h : List Entry) (f : ℕ) : Answer → Type 0 where
+  flush_unknown : FlushSnapsIs h f a.Unknown
+  flush_none : FlushSnapsIs h f a.NoneQueued
+  flush_writing : FlushSnapsIs h f a.Writing
+  flush_sent : (x : CapSnap) (xs : List CapSnap) → client_knows h f ≡ true → queued h f ≡ x ∷ xs → is_open (live h) x ≡ false
+      → FlushSnapsIs h f (a.FlushSnap (length (sent h) + 1) x.follows)
+
+flush_snaps_is_of : (h : List Entry) (f : ℕ) (xs : List CapSnap) → client_knows h f ≡ true → queued h f ≡ xs
+    → FlushSnapsIs h f (answer_flush_snaps_of (live h) (length (sent h)) xs)
+flush_snaps_is_of h f [] known is = flush_none
+flush_snaps_is_of h f (x ∷ xs) known is =
+    cond_both (is_open (live h) x) _ _ (FlushSnapsIs h f) (λ _. flush_writing) (λ closed. flush_sent x xs known is closed)
+
+pub flush_snaps_is : (h : List Entry) (f : ℕ) → FlushSnapsIs h f (answer_flush_snaps h f)
+flush_snaps_is h f =
+    cond_both (client_knows h f) _ _ (FlushSnapsIs h f) (λ known. flush_snaps_is_of h f (queued h f) known refl) (λ _. flush_unknown)
+
 pub data FirstIs (h : List Entry) : Answer → Type 0 where
   first_idle : FirstIs h a.Idle
   first_cap : (f seq : ℕ) (bits : Caps) (end : ℕ) (q : List Message) → to_client h ≡ messages.Cap f seq bits end ∷ q → FirstIs h (a.Cap f seq bits end)
+  first_flush_ack : (f tid : ℕ) (q : List Message) → to_client h ≡ messages.FlushAck f tid ∷ q → FirstIs h (a.FlushAck f tid)
+  first_snap : (number realm : ℕ) (realms : List RealmRecord) (q : List Message) → to_client h ≡ messages.Snap number realm realms ∷ q
+      → FirstIs h (a.SnapTold number realm (count_made h (root_context (last_record realms (root h))) (files h)))
 
-first_is_of : (h : List Entry) (q : List Message) → to_client h ≡ q → FirstIs h (answer_first q)
-first_is_of h [] e = first_idle
-first_is_of h (messages.Cap f seq bits end ∷ q) e = first_cap f seq bits end q e
-first_is_of h (messages.CapAck f seq bits ∷ q) e = first_idle
+first_is_of : (h : List Entry) (q : List Message) → to_client h ≡ q → FirstIs h (answer_to_client_of h q)
+first_is_of h [] is = first_idle
+first_is_of h (messages.Cap f seq bits end ∷ q) is = first_cap f seq bits end q is
+first_is_of h (messages.FlushAck f tid ∷ q) is = first_flush_ack f tid q is
+first_is_of h (messages.Snap number realm realms ∷ q) is = first_snap number realm realms q is
+first_is_of h (messages.CapAck f seq bits ∷ q) is = first_idle
+first_is_of h (messages.FlushSnap f tid follows meta ∷ q) is = first_idle
 
 pub first_is : (h : List Entry) → FirstIs h (answer_to_client h)
 first_is h = first_is_of h (to_client h) refl
+
+pub data ReceivedIs (h : List Entry) : Answer → Type 0 where
+  received_idle : ReceivedIs h a.Idle
+  received_ack : (f seq : ℕ) (bits : Caps) (q : List Message) → to_server h ≡ messages.CapAck f seq bits ∷ q
+      → ReceivedIs h (a.CapAck f seq (held_after (server h f) seq bits))
+  received_flush : (f tid follows : ℕ) (meta : FileMeta) (q : List Message) → to_server h ≡ messages.FlushSnap f tid follows meta ∷ q
+      → ReceivedIs h (a.Flushed f tid)
+
+received_is_of : (h : List Entry) (q : List Message) → to_server h ≡ q → ReceivedIs h (answer_to_mds_of h q)
+received_is_of h [] is = received_idle
+received_is_of h (messages.CapAck f seq bits ∷ q) is = received_ack f seq bits q is
+received_is_of h (messages.FlushSnap f tid follows meta ∷ q) is = received_flush f tid follows meta q is
+received_is_of h (messages.Cap f seq bits end ∷ q) is = received_idle
+received_is_of h (messages.FlushAck f tid ∷ q) is = received_idle
+received_is_of h (messages.Snap number realm realms ∷ q) is = received_idle
+
+pub received_is : (h : List Entry) → ReceivedIs h (answer_to_mds h)
+received_is h = received_is_of h (to_server h) refl
+
+pub data SnapIs (h : List Entry) (d : ℕ) (name : List ℕ) : Answer → Type 0 where
+  snap_unknown : SnapIs h d name a.Unknown
+  snap_exists : SnapIs h d name a.Exists
+  snap_taken : is_directory h d ≡ true → has_snap_named d name (stand h) ≡ false → SnapIs h d name (a.Snap (greatest_snap (stand h) + 1))
+
+pub snap_is : (h : List Entry) (d : ℕ) (name : List ℕ) → SnapIs h d name (answer_snap h d name)
+snap_is h d name =
+    cond_both (is_directory h d) _ _ (SnapIs h d name)
+    (λ directory. cond_both (has_snap_named d name (stand h)) _ _ (SnapIs h d name) (λ _. snap_exists) (λ free. snap_taken directory free))
+    (λ _. snap_unknown)
 
 pub data GrantIs (h : List Entry) (f : ℕ) (s : ServerCaps) : Answer → Type 0 where
   grant_unknown : GrantIs h f s a.Unknown

@@ -1,6 +1,7 @@
 -- A refused event changes the journal alone.
 use Rattle.std.proofs.Common.{◌≡◌, refl, ap, ℕ, Bool, true, List, [], ◌∷◌, ◌++◌, reverse}
 use Rattle.cs_bits.specs.declared.Caps.{Caps}
+use Rattle.cs_snapctx.specs.declared.realm.RealmRecord.{RealmRecord}
 use Rattle.cs_snapctx.specs.Context.{Context}
 use Rattle.cs_parts.specs.declared.capabilities.ClientCaps.{ClientCaps}
 use Rattle.cs_parts.specs.declared.capabilities.ServerCaps.{ServerCaps}
@@ -12,19 +13,28 @@ use Rattle.cs_laws.specs.declared.answers.Answer.TheVariants as a
 use Rattle.cs_laws.specs.declared.answers.Entry.{Entry}
 use Rattle.cs_laws.specs.declared.messages.Message.{Message}
 use Rattle.cs_laws.specs.Capabilities.{client_then, server_then}
-use Rattle.cs_laws.specs.Events.{setup_file, setup_file_then, begun, begun_then, clock}
+use Rattle.cs_laws.specs.declared.records.Record.{Record}
+use Rattle.cs_laws.specs.CapSnaps.{CapSnap, queued_then}
+use Rattle.cs_laws.specs.Context.{root_context, root_then}
+use Rattle.cs_laws.specs.Events.{setup_file, setup_file_then, files, files_then, begun, begun_then, clock, mode}
 use Rattle.cs_laws.specs.Flight.{to_client_then, to_server_then}
-use Rattle.cs_laws.specs.History.{client, server, to_client, to_server, context, live, writes, dirty}
+use Rattle.cs_laws.specs.Flushes.{Flush, sent_then}
+use Rattle.cs_laws.specs.History.{client, server, to_client, to_server, durable, fresh, root, context, live, writes, dirty, queued, sent}
 use Rattle.cs_laws.specs.Image.{Write}
 use Rattle.cs_laws.specs.Operations.{begun_under, begun_under_then, brought, drawn_then, operations_drawn, applied}
 use Rattle.cs_laws.specs.References.{live_then, dirty_then}
+use Rattle.cs_laws.specs.Standing.{durable_then, fresh_then}
 use Rattle.cs_laws.specs.Writes.{writes_then}
 use Rattle.cs_laws.specs.Refusals.{is_refusal}
 use Rattle.cs_theorems.specs.Refusals.{IsAsBefore}
 
-files : (x : Event) (y : Answer) (f : ℕ) (was : Bool) → is_refusal x y ≡ true → setup_file_then x y f was ≡ was
-files (e.File g p) a.Made f was r = cc
-files _ _ f was r = refl
+made : (x : Event) (y : Answer) (f : ℕ) (was : Bool) → is_refusal x y ≡ true → setup_file_then x y f was ≡ was
+made (e.File g p) a.Made f was r = cc
+made _ _ f was r = refl
+
+listed : (x : Event) (y : Answer) (fs : List ℕ) → is_refusal x y ≡ true → files_then x y fs ≡ fs
+listed (e.File g p) a.Made fs r = cc
+listed _ _ fs r = refl
 
 clients : (x : Event) (y : Answer) (f : ℕ) (c : ClientCaps) → is_refusal x y ≡ true → client_then x y f c ≡ c
 clients e.ToClient (a.Cap g seq bits end) f c r = cc
@@ -34,17 +44,40 @@ clients _ _ f c r = refl
 servers : (x : Event) (y : Answer) (f : ℕ) (s : ServerCaps) → is_refusal x y ≡ true → server_then x y f s ≡ s
 servers (e.Grant g bits end) (a.SentCap seq held) f s r = cc
 servers (e.Revoke g bits) (a.SentCap seq held) f s r = cc
+servers e.ToMds (a.CapAck g seq held) f s r = cc
 servers _ _ f s r = refl
 
-clients_way : (x : Event) (y : Answer) (s : ℕ → ServerCaps) (q : List Message) → is_refusal x y ≡ true → to_client_then x y s q ≡ q
-clients_way (e.Grant g bits end) (a.SentCap seq held) s q r = cc
-clients_way (e.Revoke g bits) (a.SentCap seq held) s q r = cc
-clients_way e.ToClient (a.Cap g seq bits end) s q r = cc
-clients_way _ _ s q r = refl
+clients_way : (x : Event) (y : Answer) (s : ℕ → ServerCaps) (ds fs : List Record) (q : List Message) → is_refusal x y ≡ true
+    → to_client_then x y s ds fs q ≡ q
+clients_way (e.Grant g bits end) (a.SentCap seq held) s ds fs q r = cc
+clients_way (e.Revoke g bits) (a.SentCap seq held) s ds fs q r = cc
+clients_way e.Commit (a.Commit count) s ds fs q r = cc
+clients_way e.ToClient (a.Cap g seq bits end) s ds fs q r = cc
+clients_way e.ToClient (a.FlushAck g tid) s ds fs q r = cc
+clients_way e.ToClient (a.SnapTold number realm count) s ds fs q r = cc
+clients_way _ _ s ds fs q r = refl
 
-servers_way : (x : Event) (y : Answer) (q : List Message) → is_refusal x y ≡ true → to_server_then x y q ≡ q
-servers_way (e.Check g) (a.Ack seq bits) q r = cc
-servers_way _ _ q r = refl
+servers_way : (x : Event) (y : Answer) (ws : ℕ → List Write) (qs : ℕ → List CapSnap) (q : List Message) → is_refusal x y ≡ true
+    → to_server_then x y ws qs q ≡ q
+servers_way (e.Check g) (a.Ack seq bits) ws qs q r = cc
+servers_way (e.FlushSnaps g) (a.FlushSnap tid follows) ws qs q r = cc
+servers_way e.ToMds (a.CapAck g seq held) ws qs q r = cc
+servers_way e.ToMds (a.Flushed g tid) ws qs q r = cc
+servers_way _ _ ws qs q r = refl
+
+durables : (x : Event) (y : Answer) (fs ds : List Record) → is_refusal x y ≡ true → durable_then x y fs ds ≡ ds
+durables e.Commit (a.Commit count) fs ds r = cc
+durables _ _ fs ds r = refl
+
+added : (x : Event) (y : Answer) (q : List Message) (fs : List Record) → is_refusal x y ≡ true → fresh_then x y q fs ≡ fs
+added e.ToMds (a.Flushed g tid) q fs r = cc
+added (e.Snap d name) (a.Snap number) q fs r = cc
+added e.Commit (a.Commit count) q fs r = cc
+added _ _ q fs r = refl
+
+roots : (x : Event) (y : Answer) (q : List Message) (k : RealmRecord) → is_refusal x y ≡ true → root_then x y q k ≡ k
+roots e.ToClient (a.SnapTold number realm count) q k r = cc
+roots _ _ q k r = refl
 
 references : (x : Event) (y : Answer) (seq : ℕ → ℕ) (rs : List Live) → is_refusal x y ≡ true → live_then x y seq rs ≡ rs
 references (e.Begin c f bits end) (a.Ref number) seq rs r = cc
@@ -67,6 +100,17 @@ dirtied : (x : Event) (y : Answer) (rs : List Live) (f : ℕ) (d : Caps) → is_
 dirtied (e.Write c name off bytes) a.Wrote rs f d r = cc
 dirtied _ _ rs f d r = refl
 
+queues : (x : Event) (y : Answer) (f : ℕ) (old new : Context) (rs : List Live) (d : Caps) (m : ℕ) (xs : List CapSnap) → is_refusal x y ≡ true
+    → queued_then x y f old new rs d m xs ≡ xs
+queues e.ToClient (a.SnapTold number realm count) f old new rs d m xs r = cc
+queues (e.FlushSnaps g) (a.FlushSnap tid follows) f old new rs d m xs r = cc
+queues _ _ f old new rs d m xs r = refl
+
+flushed : (x : Event) (y : Answer) (ws : ℕ → List Write) (qs : ℕ → List CapSnap) (xs : List Flush) → is_refusal x y ≡ true
+    → sent_then x y ws qs xs ≡ xs
+flushed (e.FlushSnaps g) (a.FlushSnap tid follows) ws qs xs r = cc
+flushed _ _ ws qs xs r = refl
+
 none_brought : (x : Event) (y : Answer) (h : List Entry) (n : ℕ) → is_refusal x y ≡ true → brought x y h n ≡ []
 none_brought (e.Write c name off bytes) a.Wrote h n r = cc
 none_brought _ _ h n r = refl
@@ -76,19 +120,28 @@ none_drawn (e.Write c name off bytes) a.Wrote h n r = cc
 none_drawn _ _ h n r = refl
 
 pub as_before : (h : List Entry) (x : Entry) → is_refusal x.event x.answer ≡ true → IsAsBefore h (x ∷ h)
-as_before h x r = record {
-  files = λ f. files x.event x.answer f (setup_file h f) r;
-  client = λ f. clients x.event x.answer f (client h f) r;
-  server = λ f. servers x.event x.answer f (server h f) r;
-  to_client = clients_way x.event x.answer (λ f. server h f) (to_client h) r;
-  to_server = servers_way x.event x.answer (to_server h) r;
-  clock = refl;
-  contexts = λ f. refl;
-  references = references x.event x.answer (λ f. (context h f).seq) (live h) r;
-  begun = λ c. counts x.event x.answer c (begun h c) r;
-  begun_under = λ c n. under x.event x.answer (λ f. context h f) c n (begun_under h c n) r;
-  writes = λ f. written x.event x.answer (live h) (clock h) f (writes h f) r;
-  dirty = λ f. dirtied x.event x.answer (live h) f (dirty h f) r;
-  operations = ap (λ os. reverse os ++ applied h) (none_brought x.event x.answer h (operations_drawn h) r);
-  drawn = none_drawn x.event x.answer h (operations_drawn h) r;
-}
+as_before h x r =
+    let same_root : root (x ∷ h) ≡ root h = roots x.event x.answer (to_client h) (root h) r in
+    record {
+      setup_files = λ f. made x.event x.answer f (setup_file h f) r;
+      files = listed x.event x.answer (files h) r;
+      client = λ f. clients x.event x.answer f (client h f) r;
+      server = λ f. servers x.event x.answer f (server h f) r;
+      to_client = clients_way x.event x.answer (λ f. server h f) (durable h) (fresh h) (to_client h) r;
+      to_server = servers_way x.event x.answer (λ f. writes h f) (λ f. queued h f) (to_server h) r;
+      durable = durables x.event x.answer (fresh h) (durable h) r;
+      fresh = added x.event x.answer (to_server h) (fresh h) r;
+      root = same_root;
+      clock = refl;
+      mode = λ f. refl;
+      contexts = λ f. ap root_context same_root;
+      references = references x.event x.answer (λ f. (context h f).seq) (live h) r;
+      begun = λ c. counts x.event x.answer c (begun h c) r;
+      begun_under = λ c n. under x.event x.answer (λ f. context h f) c n (begun_under h c n) r;
+      writes = λ f. written x.event x.answer (live h) (clock h) f (writes h f) r;
+      dirty = λ f. dirtied x.event x.answer (live h) f (dirty h f) r;
+      queued = λ f. queues x.event x.answer f (context h f) (context (x ∷ h) f) (live h) (dirty h f) (mode h f) (queued h f) r;
+      sent = flushed x.event x.answer (λ f. writes h f) (λ f. queued h f) (sent h) r;
+      operations = ap (λ os. reverse os ++ applied h) (none_brought x.event x.answer h (operations_drawn h) r);
+      drawn = none_drawn x.event x.answer h (operations_drawn h) r;
+    }

@@ -13,7 +13,7 @@ use Rattle.cs_laws.specs.Journal.{entry}
 use Rattle.cs_theorems.specs.Runs.{IsRun}
 use Rattle.cs_theorems.proofs.Begun.{member_without_named}
 use Rattle.cs_theorems.proofs.Listed.{Each, each_nil, each_end}
-use Rattle.cs_theorems.proofs.Inversions.{BeginIs, begin_unknown, begin_caps, begin_max, begin_full, begun_ref, begin_is, EndIs, end_unknown, ended, end_is}
+use Rattle.cs_theorems.proofs.Inversions.{BeginIs, begin_unknown, begin_caps, begin_snap, begin_max, begin_full, begun_ref, begin_is, EndIs, end_unknown, ended, end_is}
 use Rattle.cs_theorems.proofs.Runs.{of_run}
 
 made : (b was : Bool) → was ≡ true → cond b true was ≡ true
@@ -21,7 +21,7 @@ made true was t = refl
 made false was t = t
 
 -- a known file stays known
-known_then : (x : Event) (y : Answer) (f : ℕ) (was : Bool) → was ≡ true → setup_file_then x y f was ≡ true
+pub known_then : (x : Event) (y : Answer) (f : ℕ) (was : Bool) → was ≡ true → setup_file_then x y f was ≡ true
 known_then (e.File g p) a.Made f was t = made (g == f) was t
 known_then _ _ f was t = t
 
@@ -32,9 +32,10 @@ known_begin : (h : List Entry) (c f : ℕ) (b : Caps) (n : ℕ) (x : Answer) →
     → LiveAreKnown (record { event = e.Begin c f b n; answer = x } ∷ h)
 known_begin h c f b n x begin_unknown i = i
 known_begin h c f b n x begin_caps i = i
+known_begin h c f b n x begin_snap i = i
 known_begin h c f b n x begin_max i = i
 known_begin h c f b n x begin_full i = i
-known_begin h c f b n x (begun_ref known issued) i = each_end (λ r. setup_file h r.file ≡ true) (live h) _ i known
+known_begin h c f b n x (begun_ref known issued free) i = each_end (λ r. setup_file h r.file ≡ true) (live h) _ i known
 
 known_end : (h : List Entry) (c : ℕ) (name : RefName) (x : Answer) → EndIs h c name x → LiveAreKnown h
     → LiveAreKnown (record { event = e.End c name; answer = x } ∷ h)

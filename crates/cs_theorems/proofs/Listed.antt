@@ -25,3 +25,12 @@ each_reverse P [] ps = ps
 each_reverse P (x ∷ xs) ps =
     subst (λ ys. Each P ys) (sym (reverse-append (x ∷ []) xs))
     (each_end P (reverse xs) x (each_reverse P xs (each_tail P x xs ps)) (ps x (inl refl)))
+
+pub member_left : {A : Type 0} (x : A) (xs ys : List A) → Member x xs → Member x (xs ++ ys)
+member_left x [] ys m = absurd m
+member_left x (y ∷ xs) ys (inl is) = inl is
+member_left x (y ∷ xs) ys (inr m) = inr (member_left x xs ys m)
+
+pub member_right : {A : Type 0} (x : A) (xs ys : List A) → Member x ys → Member x (xs ++ ys)
+member_right x [] ys m = m
+member_right x (y ∷ xs) ys m = inr (member_right x xs ys m)

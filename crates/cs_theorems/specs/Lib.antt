@@ -1,7 +1,14 @@
+pub mod Contents
+pub mod Contexts
+pub mod Flushes
 pub mod Held
 pub mod Lawful
 pub mod Lists
+pub mod Order
+pub mod Queues
 pub mod References
 pub mod Refusals
 pub mod Runs
+pub mod Snapshots
+pub mod Underway
 pub mod Uses

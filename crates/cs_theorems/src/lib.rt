@@ -4,9 +4,20 @@
 #![tactic(auto)]
 
 mod capabilities;
+mod contents;
+mod flushes;
 mod references;
 mod refusals;
+mod snapshots;
 
 pub use capabilities::{acks_are_free, held_covers_implemented, lawful_journals};
+pub use contents::objects_hold_the_writes;
+pub use flushes::{acked_flushes_stay, flushes_are_numbered, flushes_stand_once};
 pub use references::{live_references_were_issued, numbers_are_drawn_once, uses_are_issued};
 pub use refusals::refused_events_change_the_journal_alone;
+pub use snapshots::{
+    contexts_never_fall, finished_snaps_are_not_written, finished_snaps_keep_their_writes,
+    follows_rise, one_context_for_each_seq, only_the_last_is_writing, tags_are_of_the_begin,
+    tags_never_fall, writers_share_a_context, writers_share_a_tag,
+    writing_while_an_older_writer_lives,
+};

@@ -17,7 +17,7 @@ put_same true f g old r t has = sym has ∙ ap (λ k. get nat_cmp old k) (eqb-tr
 put_same false f g old r t has = refl
 
 -- a table in which a row was put that it has is as before
-same_rows : (old new : Files) (f : ℕ) (r : FileState) → get nat_cmp old f ≡ Some r → PutsRow old new f r → SameRows old new
+pub same_rows : (old new : Files) (f : ℕ) (r : FileState) → get nat_cmp old f ≡ Some r → PutsRow old new f r → SameRows old new
 same_rows old new f r has put = λ g. put g ∙ put_same (f == g) f g old r refl has
 
 completes_by : (old new : Files) (f : ℕ) (r : FileState) (d : Done) → get nat_cmp old f ≡ Some r

@@ -13,7 +13,8 @@ use Rattle.cs_world.specs.Tables.{Refines}
 
 with_entries : (h : List Entry) (s : State) (es : Vec Entry Global) → Refines h s → Refines h (record s { entries = es })
 with_entries h s es i = record {
-  files = i.files;
+  rows = i.rows;
+  made = i.made;
   sent_to_client = i.sent_to_client;
   sent_to_server = i.sent_to_server;
   live = i.live;
@@ -21,7 +22,8 @@ with_entries h s es i = record {
   context = i.context;
   operations = i.operations;
   begun = i.begun;
-  told = i.told;
+  flushes = i.flushes;
+  durable = i.durable;
   fresh = i.fresh;
 }
 

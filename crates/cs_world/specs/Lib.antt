@@ -1,3 +1,6 @@
+pub mod Changed
+pub mod Delivered
+pub mod Records
 pub mod Seen
 pub mod Storing
 pub mod Tables

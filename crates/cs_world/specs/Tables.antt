@@ -1,28 +1,24 @@
 -- How the tables of a world stand for its history.
-use Rattle.std.specs.Prelude.{◌≡◌, ℕ, ◌<◌, true, false, List, ◌∷◌, if◌then◌else◌, Option, Some, None, reverse, length, ◌==◌, max}
+use Rattle.std.specs.Prelude.{◌≡◌, ℕ, ◌<◌, List, [], ◌∷◌, if◌then◌else◌, Option, Some, None, reverse, length, ◌==◌, max}
 use Rattle.std.specs.Ordering.{nat_cmp}
 use Rattle.std.specs.BTreeMap.{get, BTreeMap}
-use Rattle.std.specs.List.{AllByRecursion}
 use Rattle.cs_ids.specs.declared.objects.FileMeta.{FileMeta}
 use Rattle.cs_bits.specs.declared.Caps.{Caps}
 use Rattle.cs_bits.specs.Bits.{no_caps, union, file_write}
-use Rattle.cs_parts.specs.Capabilities.{no_client_caps, no_server_caps, delivered, acknowledged}
+use Rattle.cs_parts.specs.Capabilities.{no_client_caps, no_server_caps, acknowledged}
 use Rattle.cs_caps.specs.declared.client.Done.{Done}
 use Rattle.cs_caps.specs.declared.client.Done.TheVariants as done
 use Rattle.cs_caps.specs.Client.{completion}
 use Rattle.cs_laws.specs.declared.events.Event.{Event}
 use Rattle.cs_laws.specs.declared.answers.Answer.{Answer}
-use Rattle.cs_laws.specs.declared.answers.Answer.TheVariants as answers
 use Rattle.cs_laws.specs.declared.answers.Entry.{Entry}
-use Rattle.cs_laws.specs.declared.messages.Message.{Message}
-use Rattle.cs_laws.specs.declared.messages.Message.TheVariants as messages
 use Rattle.cs_laws.specs.Answers.{answer}
-use Rattle.cs_laws.specs.Events.{setup_file, begun, clock}
+use Rattle.cs_laws.specs.Events.{setup_file, files, begun, clock, mode}
 use Rattle.cs_laws.specs.Context.{root_context}
-use Rattle.cs_laws.specs.History.{client, server, to_client, to_server, root, live, writes, dirty}
-use Rattle.cs_laws.specs.Image.{size, mtime}
+use Rattle.cs_laws.specs.History.{client, server, to_client, to_server, root, durable, fresh, live, writes, dirty, sent}
 use Rattle.cs_laws.specs.Operations.{operations_drawn}
 use Rattle.cs_refs.specs.Table.{begun_of}
+use Rattle.cs_theorems.specs.Queues.{snaps, written_meta}
 use Rattle.cs_theorems.specs.Runs.{IsRun}
 use Rattle.cs_world.specs.declared.state.State.{State}
 use Rattle.cs_world.specs.declared.state.FileState.{FileState}
@@ -33,27 +29,23 @@ past s = reverse s.entries.items
 
 -- the metadata of a file as the client has written it
 abbrev pub meta : List Entry → ℕ → FileMeta
-meta h f = record { size = size (writes h f); mtime = mtime (writes h f); mode = 420 }
+meta h f = written_meta (mode h f) (writes h f)
 
 abbrev pub row : List Entry → ℕ → FileState
-row h f = record { client = client h f; server = server h f; meta = meta h f; dirty = dirty h f }
+row h f = record { client = client h f; server = server h f; meta = meta h f; dirty = dirty h f; snaps = snaps h f }
 
 -- the row of a file of which nothing was granted, and to which nothing was written
 abbrev pub new_row : FileState
-new_row = record { client = no_client_caps; server = no_server_caps; meta = record { size = 0; mtime = 0; mode = 420 }; dirty = no_caps }
+new_row = record { client = no_client_caps; server = no_server_caps; meta = record { size = 0; mtime = 0; mode = 420 }; dirty = no_caps; snaps = [] }
 
 -- what the table of files has at a file
 abbrev pub row_of : List Entry → ℕ → Option FileState
 row_of h f = if setup_file h f then Some (row h f) else None
 
--- the message is a capability message of a known file
-abbrev pub IsToldCap : List Entry → Message → Type 0
-IsToldCap h (messages.Cap f seq bits end) = setup_file h f ≡ true
-IsToldCap h (messages.CapAck f seq bits) = ⊥
-
 -- the tables are those of the history
 pub record Refines (h : List Entry) (s : State) : Type 0 where
-  pub files : (f : ℕ) → get nat_cmp s.files f ≡ row_of h f
+  pub rows : (f : ℕ) → get nat_cmp s.files f ≡ row_of h f
+  pub made : s.made.items ≡ reverse (files h)
   pub sent_to_client : s.to_client.items ≡ to_client h
   pub sent_to_server : s.to_server.items ≡ to_server h
   pub clock : s.clock ≡ clock h
@@ -61,9 +53,9 @@ pub record Refines (h : List Entry) (s : State) : Type 0 where
   pub live : s.refs.live ≡ live h
   pub operations : s.operations ≡ operations_drawn h
   pub begun : (c : ℕ) → begun_of c s.refs ≡ begun h c
-  -- the client is told of the capabilities of known files alone
-  pub told : AllByRecursion (IsToldCap h) (to_client h)
-  pub fresh : (f : ℕ) → setup_file h f ≡ false → row h f ≡ new_row
+  pub flushes : s.flushes ≡ length (sent h)
+  pub durable : s.records.durable ≡ durable h
+  pub fresh : s.records.fresh ≡ fresh h
 
 -- the tables are those of the history, which is one of a run
 pub record IsKept (s : State) : Type 0 where
@@ -94,16 +86,6 @@ Files = BTreeMap ℕ FileState
 -- the table has the row at the file, and is else as before
 abbrev pub PutsRow : Files → Files → ℕ → FileState → Type 0
 PutsRow old new f r = (g : ℕ) → get nat_cmp new g ≡ (if f == g then Some r else get nat_cmp old g)
-
--- what a delivered capability message does to the table, if it has the file
-abbrev pub DeliversTo : Files → Files → ℕ → ℕ → Caps → ℕ → Answer → Option FileState → Type 0
-DeliversTo old new f seq bits end a None = Unit {0}
-DeliversTo old new f seq bits end a (Some r) =
-    (a ≡ answers.Cap f seq bits end) × PutsRow old new f (record r { client = delivered r.client bits seq end })
-
-abbrev pub Delivers : Files → Files → Message → Answer → Type 0
-Delivers old new (messages.Cap f seq bits end) a = DeliversTo old new f seq bits end a (get nat_cmp old f)
-Delivers old new (messages.CapAck f seq bits) a = Unit {0}
 
 -- the table says the same of each file
 abbrev pub SameRows : Files → Files → Type 0

@@ -1,15 +1,22 @@
 // The client's events: deliveries and checks.
-ghost use Rattle.std.specs.Prelude.{IfOk, OnErr};
-ghost use Rattle.cs_laws.specs.declared.events.Event.TheVariants as events;
-ghost use Rattle.cs_world.specs.Tables.{Steps, KeepsJournal, IsReady, Delivers, CompletesIn};
-ghost use Rattle.std.specs.Ordering.{nat_cmp};
+ghost use Rattle.std.specs.Prelude.{◌≡◌, length, IfOk, OnErr};
 ghost use Rattle.std.specs.BTreeMap.{get};
+ghost use Rattle.std.specs.Ordering.{nat_cmp};
+ghost use Rattle.cs_laws.specs.declared.events.Event.TheVariants as events;
+ghost use Rattle.cs_laws.specs.declared.messages.Message.TheVariants as messages;
+ghost use Rattle.cs_laws.specs.Context.{empty_root, last_record, root_context};
+ghost use Rattle.cs_laws.specs.History.{to_client};
+ghost use Rattle.cs_world.specs.Delivered.{IsFirst, TellsContext};
+ghost use Rattle.cs_world.specs.Tables.{Steps, KeepsJournal, IsReady, CompletesIn, past};
 
+use crate::snaps::change_all;
 use crate::state::{FileState, State};
 use cs_bits::Caps;
 use cs_caps::Done;
-use cs_ids::{Ino, Memory};
-use cs_laws::{Answer, Message};
+use cs_ids::{Ino, Memory, Seq, Snap, Tid};
+use cs_laws::{Answer, Message, RealmRecordList};
+use cs_snapctx::SnapContext;
+use std::alloc::Global;
 use std::collections::BTreeMap;
 
 pub fn to_client(state: &mut State) -> Result<Answer, Memory>
@@ -17,36 +24,113 @@ pub fn to_client(state: &mut State) -> Result<Answer, Memory>
     ensures ok { IfOk result (λ a. Steps state.old state.new events.ToClient a) }
     ensures err { OnErr result (KeepsJournal state.old state.new) }
 {
-    let Some(message) = state.to_client.pop_front() else {
+    let Some(message) = state.to_client.front() else {
         return Ok(Answer::Idle);
     };
-    Ok(deliver(&mut state.files, &message))
+    match message {
+        Message::Cap {
+            file,
+            seq,
+            bits,
+            max,
+        } => {
+            let (file, seq, bits, max) = (*file, *seq, *bits, *max);
+            Ok(deliver_cap(state, file, seq, bits, max))
+        }
+        Message::FlushAck { file, tid } => {
+            let (file, tid) = (*file, *tid);
+            Ok(deliver_ack(state, file, tid))
+        }
+        Message::Snap {
+            number,
+            realm,
+            realms,
+        } => {
+            let (number, realm) = (*number, *realm);
+            let context = told_context(state.alloc, realms)?;
+            deliver_snap(state, number, realm, context)
+        }
+        Message::CapAck { .. } | Message::FlushSnap { .. } => unreachable!(),
+    }
 }
 
-// A message of the other way is never on its way to the client, nor is one of an unknown file: the
-// tables say so, and the answers for both are never given.
-fn deliver(files: &mut BTreeMap<Ino, FileState>, message: &Message) -> Answer
-    ensures { Delivers files.old files.new message.now result }
+// The client may have these bits of a file from now on.
+fn deliver_cap(state: &mut State, file: Ino, seq: Seq, bits: Caps, max: u32) -> Answer
+    requires ready { IsReady state.old }
+    requires first { IsFirst (messages.Cap file seq bits max) (to_client (past state.old)) }
+    ensures { Steps state.old state.new events.ToClient result }
 {
-    let Message::Cap {
+    let Some(row) = state.files.get_mut(&file) else {
+        unreachable!()
+    };
+    row.client.deliver(bits, seq, max);
+    let _ = state.to_client.pop_front();
+    Answer::Cap {
         file,
         seq,
         bits,
         max,
-    } = message
-    else {
-        return Answer::Idle;
-    };
-    let Some(state) = files.get_mut(file) else {
-        return Answer::Idle;
-    };
-    state.client.deliver(*bits, *seq, *max);
-    Answer::Cap {
-        file: *file,
-        seq: *seq,
-        bits: *bits,
-        max: *max,
     }
+}
+
+// The record of a flush is durable: its cap snap is done with.
+fn deliver_ack(state: &mut State, file: Ino, tid: Tid) -> Answer
+    requires ready { IsReady state.old }
+    requires first { IsFirst (messages.FlushAck file tid) (to_client (past state.old)) }
+    ensures { Steps state.old state.new events.ToClient result }
+{
+    let Some(row) = state.files.get_mut(&file) else {
+        unreachable!()
+    };
+    row.snaps.acked(tid);
+    let _ = state.to_client.pop_front();
+    Answer::FlushAck { file, tid }
+}
+
+// The context of all files becomes this one.
+fn deliver_snap(
+    state: &mut State,
+    number: Snap,
+    realm: Ino,
+    context: SnapContext,
+) -> Result<Answer, Memory>
+    requires ready { IsReady state.old }
+    requires first { TellsContext (past state.old) number realm context }
+    ensures ok { IfOk result (λ a. Steps state.old state.new events.ToClient a) }
+    ensures err { OnErr result (KeepsJournal state.old state.new) }
+{
+    let made = change_all(
+        &mut state.files,
+        state.made.as_slice(),
+        &state.refs,
+        &state.context,
+        &context,
+    )?;
+    state.context = context;
+    let _ = state.to_client.pop_front();
+    Ok(Answer::SnapTold {
+        number,
+        realm,
+        made,
+    })
+}
+
+// The root's context, by its record, which is the one in the list.
+fn told_context(alloc: Global, realms: &RealmRecordList) -> Result<SnapContext, Memory>
+    requires { length realms.now ≡ 1 }
+    ensures { IfOk result (λ c. c ≡ root_context (last_record realms.now empty_root)) }
+{
+    let Some(root) = realms.get(0) else {
+        unreachable!()
+    };
+    SnapContext::merge(
+        alloc,
+        root.own.as_slice(),
+        root.prior.as_slice(),
+        root.own_seq,
+        &SnapContext::empty(alloc),
+        root.since,
+    )
 }
 
 #[tactic(auto, using(crate::proofs::Checks::says_nothing, crate::proofs::Checks::says_hold, crate::proofs::Checks::says_ack))]

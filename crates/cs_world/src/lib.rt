@@ -3,9 +3,11 @@
 #![tactic(auto)]
 
 mod client;
+mod records;
 mod references;
 mod server;
 mod setup;
+mod snaps;
 mod state;
 mod step;
 #[cfg(test)]

@@ -1,12 +1,15 @@
-// The server's events: grants and revocations.
-ghost use Rattle.std.specs.Prelude.{IfOk, OnErr};
+// The server's events: grants and revocations, snapshots and commits, and deliveries.
+ghost use Rattle.std.specs.Prelude.{◌≡◌, IfOk, OnErr};
 ghost use Rattle.cs_laws.specs.declared.events.Event.TheVariants as events;
-ghost use Rattle.cs_world.specs.Tables.{Steps, KeepsJournal, IsReady};
+ghost use Rattle.cs_laws.specs.declared.messages.Message.TheVariants as messages;
+ghost use Rattle.cs_laws.specs.History.{to_server};
+ghost use Rattle.cs_world.specs.Delivered.{IsFirst};
+ghost use Rattle.cs_world.specs.Tables.{Steps, KeepsJournal, IsReady, past};
 
 use crate::state::{State, send_cap};
 use cs_bits::Caps;
-use cs_ids::{Ino, Memory};
-use cs_laws::Answer;
+use cs_ids::{FileMeta, Ino, Memory, Name, Seq, Tid};
+use cs_laws::{Answer, Message};
 
 pub fn grant(state: &mut State, file: Ino, bits: Caps, max: u32) -> Result<Answer, Memory>
     requires { IsReady state.old }
@@ -30,4 +33,87 @@ pub fn revoke(state: &mut State, file: Ino, bits: Caps) -> Result<Answer, Memory
     };
     caps.server.revoke(bits);
     send_cap(&mut state.to_client, file, &caps.server)
+}
+
+pub fn snap(state: &mut State, dir: Ino, name: &Name) -> Result<Answer, Memory>
+    requires { IsReady state.old }
+    ensures ok { IfOk result (λ a. Steps state.old state.new (events.Snap dir name.now) a) }
+    ensures err { OnErr result (KeepsJournal state.old state.new) }
+{
+    if dir.get() != 1 {
+        return Ok(Answer::Unknown);
+    }
+    if state.records.has_snap(name) {
+        return Ok(Answer::Exists);
+    }
+    let number = state.records.add_snap(dir, name)?;
+    Ok(Answer::Snap { number })
+}
+
+pub fn commit(state: &mut State) -> Result<Answer, Memory>
+    requires { IsReady state.old }
+    ensures ok { IfOk result (λ a. Steps state.old state.new events.Commit a) }
+    ensures err { OnErr result (KeepsJournal state.old state.new) }
+{
+    let count = state.records.commit(&mut state.to_client)?;
+    Ok(Answer::Commit { count })
+}
+
+pub fn to_mds(state: &mut State) -> Result<Answer, Memory>
+    requires { IsReady state.old }
+    ensures ok { IfOk result (λ a. Steps state.old state.new events.ToMds a) }
+    ensures err { OnErr result (KeepsJournal state.old state.new) }
+{
+    let Some(message) = state.to_server.front() else {
+        return Ok(Answer::Idle);
+    };
+    match message {
+        Message::CapAck { file, seq, bits } => {
+            let (file, seq, bits) = (*file, *seq, *bits);
+            Ok(receive_ack(state, file, seq, bits))
+        }
+        Message::FlushSnap {
+            file,
+            tid,
+            follows,
+            meta,
+        } => {
+            let (file, tid, follows, meta) = (*file, *tid, *follows, *meta);
+            receive_flush(state, file, tid, follows, meta)
+        }
+        Message::Cap { .. } | Message::FlushAck { .. } | Message::Snap { .. } => unreachable!(),
+    }
+}
+
+// The client holds only these bits, if the acknowledgement is that of the last message.
+fn receive_ack(state: &mut State, file: Ino, seq: Seq, bits: Caps) -> Answer
+    requires ready { IsReady state.old }
+    requires first { IsFirst (messages.CapAck file seq bits) (to_server (past state.old)) }
+    ensures { Steps state.old state.new events.ToMds result }
+{
+    let Some(row) = state.files.get_mut(&file) else {
+        unreachable!()
+    };
+    row.server.acked(seq, bits);
+    let held = row.server.held();
+    let _ = state.to_server.pop_front();
+    Answer::CapAck { file, seq, held }
+}
+
+// Records the flush of a cap snap.
+fn receive_flush(
+    state: &mut State,
+    file: Ino,
+    tid: Tid,
+    follows: Seq,
+    meta: FileMeta,
+) -> Result<Answer, Memory>
+    requires ready { IsReady state.old }
+    requires first { IsFirst (messages.FlushSnap file tid follows meta) (to_server (past state.old)) }
+    ensures ok { IfOk result (λ a. Steps state.old state.new events.ToMds a) }
+    ensures err { OnErr result (KeepsJournal state.old state.new) }
+{
+    state.records.add_flush(file, tid, follows, meta)?;
+    let _ = state.to_server.pop_front();
+    Ok(Answer::Flushed { file, tid })
 }

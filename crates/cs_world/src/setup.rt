@@ -18,6 +18,7 @@ pub fn file(state: &mut State, file: Ino, parent: Ino) -> Result<Answer, Memory>
     if parent.get() != 1 {
         return Ok(Answer::NoDir);
     }
-    add_file(&mut state.files, file)?;
+    add_file(state.alloc, &mut state.files, file)?;
+    state.made.push(file)?;
     Ok(Answer::Made)
 }

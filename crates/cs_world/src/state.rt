@@ -4,8 +4,10 @@ ghost use Rattle.cs_laws.specs.Answers.{sent_cap};
 ghost use Rattle.cs_laws.specs.Flight.{cap_message};
 ghost use Rattle.cs_world.specs.Tables.{Refines, PutsRow, new_row};
 
+use crate::records::Records;
 use cs_bits::Caps;
 use cs_caps::{Cap, Held};
+use cs_capsnap::CapSnaps;
 use cs_ids::{FileMeta, Ino, Memory};
 use cs_laws::{Answer, Entry, Message};
 use cs_refs::Refs;
@@ -27,6 +29,8 @@ pub struct FileState {
     pub meta: FileMeta,
     /// Which of it was changed and not sent in a flush.
     pub dirty: Caps,
+    /// Its metadata under earlier snapshot contexts, as far as the server hasn't acknowledged it.
+    pub snaps: CapSnaps,
 }
 
 /// The entries of the journal, the oldest first, and what each event reads and writes of them.
@@ -40,11 +44,17 @@ pub struct State {
     /// The snapshot context of all files: the root is the one realm.
     pub context: SnapContext,
     pub files: BTreeMap<Ino, FileState>,
+    /// The files in the order in which they were made.
+    pub made: Vec<Ino>,
     pub to_client: VecDeque<Message>,
     pub to_server: VecDeque<Message>,
     pub refs: Refs,
     /// How many operations were drawn.
     pub operations: u64,
+    /// How many flushes were sent.
+    pub flushes: u64,
+    /// The records of the server's log.
+    pub records: Records,
 }
 
 pub fn start(alloc: Global, pages: u32) -> State
@@ -59,15 +69,22 @@ pub fn start(alloc: Global, pages: u32) -> State
         clock: 0,
         context: SnapContext::empty(alloc),
         files: BTreeMap::new(alloc),
+        made: Vec::new(alloc),
         to_client: VecDeque::new(alloc),
         to_server: VecDeque::new(alloc),
         refs: Refs::new(alloc),
         operations: 0,
+        flushes: 0,
+        records: Records::new(alloc),
     }
 }
 
 /// Adds a file, of which nothing was granted and to which nothing was written yet.
-pub fn add_file(files: &mut BTreeMap<Ino, FileState>, file: Ino) -> Result<(), Memory>
+pub fn add_file(
+    alloc: Global,
+    files: &mut BTreeMap<Ino, FileState>,
+    file: Ino,
+) -> Result<(), Memory>
     ensures { OnOk result (PutsRow files.old files.new file new_row) }
 {
     let state = FileState {
@@ -79,6 +96,7 @@ pub fn add_file(files: &mut BTreeMap<Ino, FileState>, file: Ino) -> Result<(), M
             mode: FIRST_MODE,
         },
         dirty: Caps::none(),
+        snaps: CapSnaps::new(alloc),
     };
     files.insert(file, state)?;
     Ok(())

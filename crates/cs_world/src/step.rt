@@ -10,8 +10,9 @@ ghost use Rattle.cs_world.specs.Tables.{Steps, IsReady, IsKept, KeepsJournal, pa
 
 use crate::client::{check, to_client};
 use crate::references::{begin, end};
-use crate::server::{grant, revoke};
+use crate::server::{commit, grant, revoke, snap, to_mds};
 use crate::setup::file;
+use crate::snaps::flush_snaps;
 use crate::state::State;
 use crate::writes::write;
 use cs_ids::Memory;
@@ -55,9 +56,13 @@ pub fn answer<O: ObjStore>(
             bytes,
         } => write(state, store, *caller, *name, *off, bytes),
         Event::Check { file } => Ok(check(state, *file)?),
+        Event::FlushSnaps { file } => Ok(flush_snaps(state, *file)?),
         Event::ToClient => Ok(to_client(state)?),
+        Event::ToMds => Ok(to_mds(state)?),
         Event::Grant { file, bits, max } => Ok(grant(state, *file, *bits, *max)?),
         Event::Revoke { file, bits } => Ok(revoke(state, *file, *bits)?),
+        Event::Snap { dir, name } => Ok(snap(state, *dir, name)?),
+        Event::Commit => Ok(commit(state)?),
     }
 }
 

@@ -15,6 +15,7 @@ ghost use Rattle.cs_objstore.specs.Stores.{has_tid};
 ghost use Rattle.cs_world.specs.Storing.{AppliesFront, calls_store};
 ghost use Rattle.cs_world.specs.Tables.{Steps, KeepsJournal, IsReady, Marks, past};
 
+use crate::snaps::context_under;
 use crate::state::{FileState, State};
 use cs_bits::Caps;
 use cs_geom::{OBJECT_SIZE, Piece, split_objects};
@@ -61,7 +62,8 @@ pub fn write<O: ObjStore>(
     }
     let file = live.file;
     let drawn = state.operations;
-    state.operations = apply_pieces(store, &state.context, drawn, file, off, bytes)?;
+    let context = context_under(&state.files, file, &state.context);
+    state.operations = apply_pieces(store, context, drawn, file, off, bytes)?;
     mark(&mut state.files, file, end, state.clock);
     Ok(Answer::Wrote)
 }

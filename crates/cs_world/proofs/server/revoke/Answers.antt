@@ -7,5 +7,5 @@ use Rattle.cs_world.proofs.server.revoke.Goals as goal
 pub revoke-requires : goal.revoke-requires
 revoke-requires c =
     let s = c.args.state.now in
-    row_seq_small (past s) c.args.file c.in-Some.caps.now (sym (c.requires.tables.files c.args.file) ∙ sym c.in-Some.ensures.value)
+    row_seq_small (past s) c.args.file c.in-Some.caps.now (sym (c.requires.tables.rows c.args.file) ∙ sym c.in-Some.ensures.value)
     (omega (arith, c.requires.room, length-reverse s.entries.items))

@@ -23,9 +23,11 @@ pub returns-in_err-state-clause-front : goal.returns-in_err-state-clause-front
 returns-in_err-state-clause-front g c =
     let s = c.args.state.now in
     let found : named c.args.caller c.args.name s.refs.live ≡ Some c.in-Some.live = sym c.find.ensures ∙ c.in-Some.is in
-    any_err c.from_residual.result
-    (rw (brought_is (past s) s c.args.caller c.args.name c.args.off c.args.bytes.now c.in-Some.live c.requires.ready.tables found)
-    at c.in_err-state.ensures.front)
+    let may : may_write c.in-Some.live.bits ≡ true = sym c.has_write.ensures ∙ c.if-not-has_write.false in
+    let same =
+    brought_is (past s) s c.args.caller c.args.name c.args.off c.args.bytes.now c.in-Some.live c.context_under-context.result.now
+    c.requires.ready.tables c.requires.ready.run found may c.context_under-context.ensures in
+    any_err c.from_residual.result (rw same at c.in_err-state.ensures.front)
 
 pub returns-clause-ok : goal.returns-clause-ok
 returns-clause-ok g c =
@@ -34,18 +36,24 @@ returns-clause-ok g c =
     let found : named c.args.caller c.args.name s.refs.live ≡ Some c.in-Some.live = sym c.find.ensures ∙ c.in-Some.is in
     let may : may_write c.in-Some.live.bits ≡ true = sym c.has_write.ensures ∙ c.if-not-has_write.false in
     let within : c.args.off + length c.args.bytes.now ≤ c.in-Some.live.end = rw c.as_slice.ensures at c.if-live-end.false in
+    let same =
+    brought_is (past s) s c.args.caller c.args.name c.args.off c.args.bytes.now c.in-Some.live c.context_under-context.result.now
+    c.requires.ready.tables c.requires.ready.run found may c.context_under-context.ensures in
     record {
       answer = wrote_is (past s) s c.args.caller c.args.name c.args.off c.args.bytes.now c.in-Some.live ready.tables found may within;
       entries = refl;
       pages = refl;
       tables =
           written_refines (past s) s c.args.caller c.args.name c.args.off c.args.bytes.now c.in-Some.live c.mark.new.files c.in_ok-state.field-0
-          ready.tables ready.run found (rw c.as_slice.ensures at c.mark.ensures) c.in_ok-state.ensures.drawn;
+          ready.tables ready.run found (rw c.as_slice.ensures at c.mark.ensures) (rw same at c.in_ok-state.ensures.drawn);
     }
 
 pub returns-clause-listed : goal.returns-clause-listed
 returns-clause-listed g c =
     let s = c.args.state.now in
     let found : named c.args.caller c.args.name s.refs.live ≡ Some c.in-Some.live = sym c.find.ensures ∙ c.in-Some.is in
-    let same = brought_is (past s) s c.args.caller c.args.name c.args.off c.args.bytes.now c.in-Some.live c.requires.ready.tables found in
+    let may : may_write c.in-Some.live.bits ≡ true = sym c.has_write.ensures ∙ c.if-not-has_write.false in
+    let same =
+    brought_is (past s) s c.args.caller c.args.name c.args.off c.args.bytes.now c.in-Some.live c.context_under-context.result.now
+    c.requires.ready.tables c.requires.ready.run found may c.context_under-context.ensures in
     rw (c.in_ok-state.ensures.ok, same, c.requires.listed) refl

@@ -1,0 +1,46 @@
+-- The flushes that the client sent, the oldest first.
+use Rattle.std.specs.Prelude.{ℕ, Bool, true, List, [], ◌∷◌, ◌++◌}
+use Rattle.cs_ids.specs.declared.objects.FileMeta.{FileMeta}
+use Rattle.cs_laws.specs.declared.events.Event.{Event}
+use Rattle.cs_laws.specs.declared.events.Event.TheVariants as events
+use Rattle.cs_laws.specs.declared.answers.Answer.{Answer}
+use Rattle.cs_laws.specs.declared.answers.Answer.TheVariants as answers
+use Rattle.cs_laws.specs.declared.messages.Message.{Message}
+use Rattle.cs_laws.specs.declared.messages.Message.TheVariants as messages
+use Rattle.cs_laws.specs.declared.records.Record.{Record}
+use Rattle.cs_laws.specs.declared.records.RecordBody.TheVariants as bodies
+use Rattle.cs_laws.specs.CapSnaps.{CapSnap}
+use Rattle.cs_laws.specs.Image.{Write, size, mtime, upto}
+
+-- a flush of a file's metadata, as it was under a context
+pub record Flush : Type 0 where
+  pub tid : ℕ
+  pub file : ℕ
+  pub follows : ℕ
+  pub meta : FileMeta
+  -- it is that of a cap snap
+  pub snap : Bool
+
+abbrev pub flush_message : Flush → Message
+flush_message x = messages.FlushSnap x.file x.tid x.follows x.meta
+
+abbrev pub flush_record : Flush → Record
+flush_record x = record { body = bodies.Flush x.snap x.file x.tid x.follows x.meta }
+
+-- the mode of the first cap snap
+abbrev pub first_mode : List CapSnap → ℕ
+first_mode [] = 0
+first_mode (x ∷ xs) = x.mode
+
+-- the metadata of the writes with a tag up to `follows`
+abbrev pub meta_upto : ℕ → ℕ → List Write → FileMeta
+meta_upto follows mode ws = record { size = size (upto follows ws); mtime = mtime (upto follows ws); mode = mode }
+
+-- a cap snap is sent: mode is the cap snap's, and ws are the file's writes
+abbrev pub flush_snap : ℕ → ℕ → ℕ → ℕ → List Write → Flush
+flush_snap f tid follows mode ws = record { tid = tid; file = f; follows = follows; meta = meta_upto follows mode ws; snap = true }
+
+-- what an entry sends; writes f, queued f: the writes and the unsent cap snaps of a file before it
+abbrev pub sent_then : Event → Answer → (ℕ → List Write) → (ℕ → List CapSnap) → List Flush → List Flush
+sent_then (events.FlushSnaps f) (answers.FlushSnap tid follows) writes queued xs = xs ++ flush_snap f tid follows (first_mode (queued f)) (writes f) ∷ []
+sent_then _ _ writes queued xs = xs

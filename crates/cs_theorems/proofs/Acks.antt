@@ -1,0 +1,135 @@
+-- What is acknowledged is durable: each acknowledgement of a flush, told or on its way, is of a durable record.
+use Rattle.std.proofs.Common.{◌≡◌, refl, sym, ℕ, Bool, true, cond, ◌==◌, ◌&&◌, ◌||◌, List, [], ◌∷◌, ◌++◌, append_assoc, inl, ⊎_elim, subst}
+use Rattle.std.proofs.lemmas.Bool.{and_parts, eqb-true, eq-eqb, or_cases, true≢false}
+use Rattle.cs_bits.specs.declared.Caps.{Caps}
+use Rattle.cs_snapctx.specs.declared.realm.RealmRecord.{RealmRecord}
+use Rattle.cs_parts.specs.Capabilities.{granted, revoked}
+use Rattle.cs_laws.specs.declared.events.Event.{Event}
+use Rattle.cs_laws.specs.declared.events.Event.TheVariants as e
+use Rattle.cs_laws.specs.declared.answers.Answer.{Answer}
+use Rattle.cs_laws.specs.declared.answers.Entry.{Entry}
+use Rattle.cs_laws.specs.declared.messages.Message.{Message}
+use Rattle.cs_laws.specs.declared.messages.Message.TheVariants as messages
+use Rattle.cs_laws.specs.declared.records.Record.{Record}
+use Rattle.cs_laws.specs.declared.records.RecordBody.{RecordBody}
+use Rattle.cs_laws.specs.declared.records.RecordBody.TheVariants as bodies
+use Rattle.cs_laws.specs.Context.{empty_root}
+use Rattle.cs_laws.specs.Flight.{cap_message}
+use Rattle.cs_laws.specs.History.{server, to_client, durable, fresh}
+use Rattle.cs_laws.specs.Journal.{entry, history, journal}
+use Rattle.cs_laws.specs.Standing.{realm_then, realm_after, told_of, told}
+use Rattle.cs_theorems.specs.Flushes.{tids, acked}
+use Rattle.cs_theorems.proofs.Listed.{Member, Each, each_nil, each_cons, each_append, each_end, each_tail, member_left, member_right}
+use Rattle.cs_theorems.proofs.Rising.{at_first}
+use Rattle.cs_theorems.proofs.Chains.{tids_append}
+use Rattle.cs_theorems.proofs.Inversions.{FirstIs, first_idle, first_cap, first_flush_ack, first_snap, first_is, GrantIs, grant_unknown, grant_sent, grant_is, revoke_is}
+
+-- an acknowledgement of a flush is of one among these records
+abbrev AckStands : List Record → Message → Type 0
+AckStands rs (messages.FlushAck f tid) = Member tid (tids f rs)
+AckStands rs _ = Unit {0}
+
+-- the file's acknowledgements that were told, and those on their way, are of these records
+pub record Acks (f : ℕ) (ds : List Record) (q : List Message) (was : ℕ → Bool) : Type 0 where
+  pub flying : Each (λ m. AckStands ds m) q
+  pub told : (n : ℕ) → was n ≡ true → Member n (tids f ds)
+
+stands_left : (f n : ℕ) (rs ss : List Record) → Member n (tids f rs) → Member n (tids f (rs ++ ss))
+stands_left f n rs ss there = subst (λ xs. Member n xs) (sym (tids_append f rs ss)) (member_left n (tids f rs) (tids f ss) there)
+
+ack_stays : (rs ss : List Record) (m : Message) → AckStands rs m → AckStands (rs ++ ss) m
+ack_stays rs ss (messages.FlushAck f tid) there = stands_left f tid rs ss there
+ack_stays rs ss _ there = tt
+
+own_tid : (f tid : ℕ) (xs : List ℕ) → Member tid (cond (f == f) (tid ∷ []) [] ++ xs)
+own_tid f tid xs = subst (λ b. Member tid (cond b (tid ∷ []) [] ++ xs)) (sym (eq-eqb f f refl)) (inl refl)
+
+-- what is told of a record that stands behind these
+told_stands : (ds rs : List Record) (root : RealmRecord) (body : RecordBody) → AckStands (ds ++ record { body = body } ∷ rs) (told_of root body)
+told_stands ds rs root (bodies.Flush snap f tid follows meta) =
+    let r : Record = record { body = bodies.Flush snap f tid follows meta } in
+    subst (λ xs. Member tid xs) (sym (tids_append f ds (r ∷ rs))) (member_right tid (tids f ds) (tids f (r ∷ rs)) (own_tid f tid (tids f rs)))
+told_stands ds rs root (bodies.Snap number d name) = tt
+
+all_told_stand : (ds rs : List Record) (root : RealmRecord) → Each (λ m. AckStands (ds ++ rs) m) (told root rs)
+all_told_stand ds [] root = each_nil (λ m. AckStands (ds ++ []) m)
+all_told_stand ds (r ∷ rs) root =
+    each_cons (λ m. AckStands (ds ++ r ∷ rs) m) (told_of (realm_then root r.body) r.body) (told (realm_then root r.body) rs)
+    (told_stands ds rs (realm_then root r.body) r.body)
+    (subst (λ ss. Each (λ m. AckStands ss m) (told (realm_then root r.body) rs)) (append_assoc ds (r ∷ []) rs)
+    (all_told_stand (ds ++ r ∷ []) rs (realm_then root r.body)))
+
+acks_message : (f : ℕ) (ds : List Record) (q : List Message) (was : ℕ → Bool) (m : Message) → AckStands ds m → Acks f ds q was → Acks f ds (q ++ m ∷ []) was
+acks_message f ds q was m new i = record { flying = each_end (λ k. AckStands ds k) q m i.flying new; told = i.told }
+
+acks_taken : (f : ℕ) (ds : List Record) (q : List Message) (was : ℕ → Bool) (m : Message) → Acks f ds (m ∷ q) was → Acks f ds q was
+acks_taken f ds q was m i = record { flying = each_tail (λ k. AckStands ds k) m q i.flying; told = i.told }
+
+acks_told : (f g t : ℕ) (ds : List Record) (q : List Message) (was : ℕ → Bool) → Acks f ds (messages.FlushAck g t ∷ q) was
+    → Acks f ds q (λ n. ((g == f) && (t == n)) || was n)
+acks_told f g t ds q was i =
+    let first : Member t (tids g ds) = i.flying (messages.FlushAck g t) (inl refl) in
+    record {
+      flying = each_tail (λ k. AckStands ds k) (messages.FlushAck g t) q i.flying;
+      told = λ n is. ⊎_elim
+          (λ now. let same = and_parts (g == f) (t == n) now in
+          subst (λ k. Member k (tids f ds)) (eqb-true t n same.1) (subst (λ k. Member t (tids k ds)) (eqb-true g f same.0) first))
+          (λ before. i.told n before)
+          (or_cases ((g == f) && (t == n)) (was n) is);
+    }
+
+acks_commit : (f : ℕ) (ds fs : List Record) (q : List Message) (was : ℕ → Bool) (root : RealmRecord) → Acks f ds q was
+    → Acks f (ds ++ fs) (q ++ told root fs) was
+acks_commit f ds fs q was root i = record {
+  flying = each_append (λ m. AckStands (ds ++ fs) m) q (told root fs) (λ m there. ack_stays ds fs m (i.flying m there)) (all_told_stand ds fs root);
+  told = λ n is. stands_left f n ds fs (i.told n is);
+}
+
+-- Steps
+
+abbrev pub AllAcked : List Entry → Type 0
+AllAcked h = (f : ℕ) → Acks f (durable h) (to_client h) (λ n. acked h f n)
+
+step_grant : (h : List Entry) (g : ℕ) (bits : Caps) (end : ℕ) (x : Answer) → GrantIs h g (granted (server h g) bits end) x → AllAcked h
+    → AllAcked (record { event = e.Grant g bits end; answer = x } ∷ h)
+step_grant h g bits end x grant_unknown i = i
+step_grant h g bits end x grant_sent i = λ f. acks_message f (durable h) (to_client h) (λ n. acked h f n) (cap_message g (granted (server h g) bits end)) tt (i f)
+
+step_revoke : (h : List Entry) (g : ℕ) (bits : Caps) (x : Answer) → GrantIs h g (revoked (server h g) bits) x → AllAcked h
+    → AllAcked (record { event = e.Revoke g bits; answer = x } ∷ h)
+step_revoke h g bits x grant_unknown i = i
+step_revoke h g bits x grant_sent i = λ f. acks_message f (durable h) (to_client h) (λ n. acked h f n) (cap_message g (revoked (server h g) bits)) tt (i f)
+
+-- the first message is taken
+abbrev Left : List Entry → ℕ → (ℕ → Bool) → List Message → Type 0
+Left h f was q = Acks f (durable h) q was
+
+step_to_client : (h : List Entry) (x : Answer) → FirstIs h x → AllAcked h → AllAcked (record { event = e.ToClient; answer = x } ∷ h)
+step_to_client h x first_idle i = i
+step_to_client h x (first_cap g seq bits end q is) i = λ f.
+    let was : ℕ → Bool = λ n. acked h f n in
+    at_first (λ p. Left h f was p) (λ p. Left h f was p) (messages.Cap g seq bits end) q (to_client h) is
+    (λ j. acks_taken f (durable h) q was (messages.Cap g seq bits end) j) (i f)
+step_to_client h x (first_flush_ack g tid q is) i = λ f.
+    let was : ℕ → Bool = λ n. acked h f n in
+    at_first (λ p. Left h f was p) (λ p. Left h f (λ n. ((g == f) && (tid == n)) || was n) p) (messages.FlushAck g tid) q (to_client h) is
+    (λ j. acks_told f g tid (durable h) q was j) (i f)
+step_to_client h x (first_snap number realm realms q is) i = λ f.
+    let was : ℕ → Bool = λ n. acked h f n in
+    at_first (λ p. Left h f was p) (λ p. Left h f was p) (messages.Snap number realm realms) q (to_client h) is
+    (λ j. acks_taken f (durable h) q was (messages.Snap number realm realms) j) (i f)
+
+acked_step : (p : ℕ) (h : List Entry) (x : Event) → AllAcked h → AllAcked (entry p h x ∷ h)
+acked_step p h (e.Grant g bits end) i = step_grant h g bits end _ (grant_is h g bits end) i
+acked_step p h (e.Revoke g bits) i = step_revoke h g bits _ (revoke_is h g bits) i
+acked_step p h e.ToClient i = step_to_client h _ (first_is h) i
+acked_step p h e.Commit i =
+    λ f. acks_commit f (durable h) (fresh h) (to_client h) (λ n. acked h f n) (realm_after empty_root (durable h)) (i f)
+acked_step p h _ i = i
+
+acked_steps : (p : ℕ) (es : List Event) (h : List Entry) → AllAcked h → AllAcked (history p h es)
+acked_steps p [] h i = i
+acked_steps p (x ∷ es) h i = acked_steps p es (entry p h x ∷ h) (acked_step p h x i)
+
+pub all_acked : (p : ℕ) (es : List Event) → AllAcked (journal p es)
+all_acked p es = acked_steps p es [] (λ f. record { flying = each_nil (λ m. AckStands [] m); told = λ n is. absurd (true≢false (sym is)) })

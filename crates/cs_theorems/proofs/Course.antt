@@ -1,0 +1,40 @@
+-- What holds of contexts, tags and cap snaps after each event of every journal, and in every run.
+use Rattle.std.proofs.Common.{ℕ, List, [], ◌∷◌}
+use Rattle.cs_laws.specs.declared.events.Event.{Event}
+use Rattle.cs_laws.specs.declared.answers.Entry.{Entry}
+use Rattle.cs_laws.specs.Journal.{history, journal, entry}
+use Rattle.cs_theorems.specs.Contexts.{ContextsNeverFall}
+use Rattle.cs_theorems.specs.Runs.{IsRun}
+use Rattle.cs_theorems.specs.Snapshots.{TagsAreOfTheBegin}
+use Rattle.cs_theorems.proofs.Contexts.{goes_on}
+use Rattle.cs_theorems.proofs.Order.{Ordered, ordered_first, ordered_step}
+use Rattle.cs_theorems.proofs.Piped.{PipeAt, piped_first, piped_step}
+use Rattle.cs_theorems.proofs.Runs.{of_run}
+use Rattle.cs_theorems.proofs.Shares.{shares_first, shares_step}
+
+pub record Course (h : List Entry) : Type 0 where
+  pub pipe : PipeAt h
+  pub order : Ordered h
+  pub contexts : ContextsNeverFall h
+  pub shares : TagsAreOfTheBegin h
+
+pub course_first : Course []
+course_first = record { pipe = piped_first; order = ordered_first; contexts = tt; shares = shares_first }
+
+pub course_step : (p : ℕ) (h : List Entry) (x : Event) → Course h → Course (entry p h x ∷ h)
+course_step p h x i = record {
+  pipe = piped_step p h x i.pipe;
+  order = ordered_step p h x i.pipe i.order;
+  contexts = (λ f. goes_on p h x f i.pipe, i.contexts);
+  shares = shares_step p h x i.order i.shares;
+}
+
+steps : (p : ℕ) (es : List Event) (h : List Entry) → Course h → Course (history p h es)
+steps p [] h i = i
+steps p (x ∷ es) h i = steps p es (entry p h x ∷ h) (course_step p h x i)
+
+pub course : (p : ℕ) (es : List Event) → Course (journal p es)
+course p es = steps p es [] course_first
+
+pub course_run : (p : ℕ) (h : List Entry) → IsRun p h → Course h
+course_run p h run = of_run p Course course_first (λ g x fit before i. course_step p g x i) h run

@@ -1,0 +1,187 @@
+-- The operations on an object are those of its file's writes, also at each snapshot.
+use Rattle.std.proofs.Common.{◌≡◌, refl, sym, ap, ◌∙◌, ℕ, ◌+◌, ◌*◌, ◌/◌, ◌%◌, ◌<◌, ◌≤◌, ◌==◌, nat_lt, length, reverse, List, [], ◌∷◌, ◌++◌, true, false, Some, inl, arith, ⊎_elim, subst}
+use Rattle.std.proofs.lemmas.Bool.{cases_lt, cond_both, cond-true, cond-false, and_from, and_left, lt-ltb, le-ltb, eqb-true}
+use Rattle.cs_geom.specs.declared.places.Piece.{Piece}
+use Rattle.cs_geom.specs.declared.places.TheConstants.{OBJECT_SIZE}
+use Rattle.cs_geom.specs.Cuts.{pieces_of}
+use Rattle.cs_ids.specs.declared.objects.Obj.{Obj}
+use Rattle.cs_parts.specs.declared.references.Live.{Live}
+use Rattle.cs_snapctx.specs.Context.{Context}
+use Rattle.cs_laws.specs.declared.answers.Answer.{Answer}
+use Rattle.cs_laws.specs.declared.answers.Entry.{Entry}
+use Rattle.cs_laws.specs.declared.events.Event.{Event}
+use Rattle.cs_laws.specs.declared.events.Event.TheVariants as e
+use Rattle.cs_laws.specs.declared.events.RefName.{RefName}
+use Rattle.cs_laws.specs.declared.objects.At.TheVariants as at
+use Rattle.cs_laws.specs.declared.objects.ObjOp.{ObjOp}
+use Rattle.cs_laws.specs.Events.{clock}
+use Rattle.cs_laws.specs.History.{live, writes}
+use Rattle.cs_laws.specs.Image.{Write, byte_over, image}
+use Rattle.cs_laws.specs.Journal.{history, journal, entry}
+use Rattle.cs_laws.specs.Objects.{all_below, before, byte_of, object, same_object}
+use Rattle.cs_laws.specs.Operations.{applied, begun_under, operations, operations_drawn, written_on}
+use Rattle.cs_laws.specs.Writes.{with_write}
+use Rattle.cs_theorems.specs.Contents.{ObjectsHoldWrites, older}
+use Rattle.cs_theorems.specs.Order.{TagsFall}
+use Rattle.cs_theorems.specs.Snapshots.{TagsAreOfTheBegin}
+use Rattle.cs_theorems.proofs.Course.{Course, course, course_first, course_step}
+use Rattle.cs_theorems.proofs.Inversions.{WriteIs, write_unknown, write_no_bit, write_past, wrote, write_is}
+use Rattle.cs_theorems.proofs.Listed.{Each, each_nil, each_cons, each_append, each_reverse, each_tail}
+use Rattle.cs_theorems.proofs.Pieces.{object_append, pieces_over}
+use Rattle.cs_theorems.proofs.Uses.{named_is}
+
+-- The operations of writes. i: a place of the file, and j that place in the object.
+
+-- operations on the object that bring a write's byte to the place
+pub record IsPart (i j : ℕ) (w : Write) (os : List ObjOp) : Type 0 where
+  pub seqs : Each (λ o. o.ctx.seq ≡ w.tag) os
+  pub byte : (below : List ObjOp) → byte_of (os ++ below) j ≡ byte_over w.off w.bytes i (byte_of below j)
+
+-- they are those of the writes, in the same order
+abbrev pub AreOf : ℕ → ℕ → List Write → List ObjOp → Type 0
+AreOf i j [] os = os ≡ []
+AreOf i j (w ∷ ws) os = (new : List ObjOp) × (rest : List ObjOp) × (os ≡ new ++ rest) × IsPart i j w new × AreOf i j ws rest
+
+bytes_are : (i j : ℕ) (ws : List Write) (os : List ObjOp) → AreOf i j ws os → byte_of os j ≡ image ws i
+bytes_are i j [] os none = ap (λ zs. byte_of zs j) none
+bytes_are i j (w ∷ ws) os (new, rest, is, part, others) =
+    ap (λ zs. byte_of zs j) is ∙ (part.byte rest ∙ ap (λ b. byte_over w.off w.bytes i b) (bytes_are i j ws rest others))
+
+-- Snapshots
+
+older_all : (s : ℕ) (ws : List Write) → Each (λ w. w.tag < s) ws → older s ws ≡ ws
+older_all s [] low = refl
+older_all s (w ∷ ws) low =
+    cond-true (nat_lt w.tag s) (w ∷ older s ws) (older s ws) (lt-ltb w.tag s (low w (inl refl)))
+    ∙ ap (λ vs. w ∷ vs) (older_all s ws (each_tail (λ v. v.tag < s) w ws low))
+
+all_below_true : (s : ℕ) (os : List ObjOp) → Each (λ o. o.ctx.seq < s) os → all_below s os ≡ true
+all_below_true s [] low = refl
+all_below_true s (o ∷ os) low =
+    and_from (nat_lt o.ctx.seq s) (all_below s os) (lt-ltb o.ctx.seq s (low o (inl refl)))
+    (all_below_true s os (each_tail (λ u. u.ctx.seq < s) o os low))
+
+before_all : (s : ℕ) (os : List ObjOp) → Each (λ o. o.ctx.seq < s) os → before s os ≡ os
+before_all s [] low = refl
+before_all s (o ∷ os) low = cond-true (all_below s (o ∷ os)) (o ∷ os) (before s os) (all_below_true s (o ∷ os) low)
+
+before_skips : (s : ℕ) (new rest : List ObjOp) → Each (λ o. s ≤ o.ctx.seq) new → before s (new ++ rest) ≡ before s rest
+before_skips s [] rest high = refl
+before_skips s (o ∷ new) rest high =
+    cond-false (all_below s (o ∷ (new ++ rest))) (o ∷ (new ++ rest)) (before s (new ++ rest))
+    (and_left (nat_lt o.ctx.seq s) (all_below s (new ++ rest)) (le-ltb o.ctx.seq s (high o (inl refl))))
+    ∙ before_skips s new rest (each_tail (λ u. s ≤ u.ctx.seq) o new high)
+
+-- where all writes are older, so are all operations
+seqs_low : (i j s : ℕ) (ws : List Write) (os : List ObjOp) → AreOf i j ws os → Each (λ w. w.tag < s) ws → Each (λ o. o.ctx.seq < s) os
+seqs_low i j s [] os none low = subst (λ zs. Each (λ o. o.ctx.seq < s) zs) (sym none) (each_nil (λ o. o.ctx.seq < s))
+seqs_low i j s (w ∷ ws) os (new, rest, is, part, others) low =
+    subst (λ zs. Each (λ o. o.ctx.seq < s) zs) (sym is)
+    (each_append (λ o. o.ctx.seq < s) new rest
+    (λ o m. omega (arith, part.seqs o m, low w (inl refl)))
+    (seqs_low i j s ws rest others (each_tail (λ v. v.tag < s) w ws low)))
+
+before_are : (i j s : ℕ) (ws : List Write) (os : List ObjOp) → AreOf i j ws os → TagsFall ws → AreOf i j (older s ws) (before s os)
+before_are i j s [] os none fall = ap (λ zs. before s zs) none
+before_are i j s (w ∷ ws) os (new, rest, is, part, others) fall =
+    ⊎_elim
+    (λ old.
+    let low : Each (λ v. v.tag < s) (w ∷ ws) = each_cons (λ v. v.tag < s) w ws old (λ v m. omega (arith, fall.0 v m, old)) in
+    let whole : AreOf i j (w ∷ ws) os = (new, rest, is, part, others) in
+    subst (λ vs. AreOf i j vs (before s os)) (sym (older_all s (w ∷ ws) low))
+    (subst (λ zs. AreOf i j (w ∷ ws) zs) (sym (before_all s os (seqs_low i j s (w ∷ ws) os whole low))) whole))
+    (λ young.
+    let skipped : before s os ≡ before s rest
+    = ap (λ zs. before s zs) is ∙ before_skips s new rest (λ o m. omega (arith, part.seqs o m, young)) in
+    subst (λ vs. AreOf i j vs (before s os)) (sym (cond-false (nat_lt w.tag s) (w ∷ older s ws) (older s ws) (le-ltb w.tag s young)))
+    (subst (λ zs. AreOf i j (older s ws) zs) (sym skipped) (before_are i j s ws rest others fall.1)))
+    (cases_lt w.tag s)
+
+-- A write
+
+seqs_of : (tid f off : ℕ) (bytes : List ℕ) (ctx : Context) (xs : List Piece) → Each (λ o. o.ctx.seq ≡ ctx.seq) (operations tid f off bytes ctx xs)
+seqs_of tid f off bytes ctx [] = each_nil (λ o. o.ctx.seq ≡ ctx.seq)
+seqs_of tid f off bytes ctx (x ∷ xs) = each_cons (λ o. o.ctx.seq ≡ ctx.seq) _ _ refl (seqs_of (tid + 1) f off bytes ctx xs)
+
+-- an object's operations are among all
+each_object : (P : ObjOp → Type 0) (obj : Obj) (os : List ObjOp) → Each P os → Each P (object obj os)
+each_object P obj [] ps = ps
+each_object P obj (o ∷ os) ps =
+    cond_both (same_object o.obj obj) (o ∷ object obj os) (object obj os) (λ zs. Each P zs)
+    (λ _. each_cons P o (object obj os) (ps o (inl refl)) (each_object P obj os (each_tail P o os ps)))
+    (λ _. each_object P obj os (each_tail P o os ps))
+
+-- operations on another file aren't on the object
+others_none : (tid g f p off : ℕ) (bytes : List ℕ) (ctx : Context) (xs : List Piece) → (g == f) ≡ false
+    → Each (λ o. same_object o.obj (record { ino = f; index = p }) ≡ false) (operations tid g off bytes ctx xs)
+others_none tid g f p off bytes ctx [] other = each_nil _
+others_none tid g f p off bytes ctx (x ∷ xs) other =
+    each_cons (λ o. same_object o.obj (record { ino = f; index = p }) ≡ false) _ _ (and_left (g == f) (x.index == p) other)
+    (others_none (tid + 1) g f p off bytes ctx xs other)
+
+object_none : (obj : Obj) (os : List ObjOp) → Each (λ o. same_object o.obj obj ≡ false) os → object obj os ≡ []
+object_none obj [] none = refl
+object_none obj (o ∷ os) none =
+    cond-false (same_object o.obj obj) (o ∷ object obj os) (object obj os) (none o (inl refl))
+    ∙ object_none obj os (each_tail (λ u. same_object u.obj obj ≡ false) o os none)
+
+abbrev pub HoldsAt : List Entry → Type 0
+HoldsAt h = (f p j : ℕ) → j < OBJECT_SIZE → AreOf (OBJECT_SIZE * p + j) j (writes h f) (object (record { ino = f; index = p }) (applied h))
+
+holds_written : (f p j tid off : ℕ) (bytes : List ℕ) (time : ℕ) (r : Live) (ctx : Context) (ws : List Write) (os : List ObjOp) → j < OBJECT_SIZE → r.tag ≡ ctx.seq
+    → AreOf (OBJECT_SIZE * p + j) j ws (object (record { ino = f; index = p }) os)
+    → AreOf (OBJECT_SIZE * p + j) j (with_write (Some r) off bytes time f ws)
+    (object (record { ino = f; index = p }) (reverse (operations tid r.file off bytes ctx (pieces_of OBJECT_SIZE off (length bytes))) ++ os))
+holds_written f p j tid off bytes time r ctx ws os small tag i =
+    let obj : Obj = record { ino = f; index = p } in
+    let new : List ObjOp = reverse (operations tid r.file off bytes ctx (pieces_of OBJECT_SIZE off (length bytes))) in
+    let w : Write = record { off = off; bytes = bytes; time = time; tag = r.tag } in
+    cond_both (r.file == f) (w ∷ ws) ws (λ vs. AreOf (OBJECT_SIZE * p + j) j vs (object obj (new ++ os)))
+    (λ same.
+    let file : r.file ≡ f = eqb-true r.file f same in
+    let seqs : Each (λ o. o.ctx.seq ≡ r.tag) new = each_reverse (λ o. o.ctx.seq ≡ r.tag) _
+    (λ o m. seqs_of tid r.file off bytes ctx (pieces_of OBJECT_SIZE off (length bytes)) o m ∙ sym tag) in
+    let part : IsPart (OBJECT_SIZE * p + j) j w (object obj new) = record {
+      seqs = each_object (λ o. o.ctx.seq ≡ r.tag) obj new seqs;
+      byte = λ below. subst (λ g. byte_of (object obj (reverse (operations tid g off bytes ctx (pieces_of OBJECT_SIZE off (length bytes)))) ++ below) j
+          ≡ byte_over off bytes (OBJECT_SIZE * p + j) (byte_of below j)) (sym file) (pieces_over tid f off bytes ctx p j below small);
+    } in
+    (object obj new, object obj os, object_append obj new os, part, i))
+    (λ other.
+    let none : object obj new ≡ [] = object_none obj new (each_reverse (λ o. same_object o.obj obj ≡ false) _
+    (others_none tid r.file f p off bytes ctx (pieces_of OBJECT_SIZE off (length bytes)) other)) in
+    subst (λ zs. AreOf (OBJECT_SIZE * p + j) j ws zs) (sym (object_append obj new os ∙ ap (λ zs. zs ++ object obj os) none)) i)
+
+holds_write : (h : List Entry) (c : ℕ) (name : RefName) (off : ℕ) (bytes : List ℕ) (x : Answer) → WriteIs h c name x → TagsAreOfTheBegin h → HoldsAt h
+    → HoldsAt (record { event = e.Write c name off bytes; answer = x } ∷ h)
+holds_write h c name off bytes x write_unknown shares i = i
+holds_write h c name off bytes x write_no_bit shares i = i
+holds_write h c name off bytes x write_past shares i = i
+holds_write h c name off bytes x (wrote r is may) shares i = λ f p j small.
+    subst (λ found. AreOf (OBJECT_SIZE * p + j) j (with_write found off bytes (clock h) f (writes h f))
+    (object (record { ino = f; index = p }) (reverse (written_on found (λ t. begun_under h t.caller t.number) (operations_drawn h) off bytes) ++ applied h))) (sym is)
+    (holds_written f p j (operations_drawn h + 1) off bytes (clock h) r (begun_under h r.caller r.number) (writes h f) (applied h) small
+    (shares r (named_is c name r (live h) is).1).0 (i f p j small))
+
+holds_step : (p : ℕ) (h : List Entry) (x : Event) → TagsAreOfTheBegin h → HoldsAt h → HoldsAt (entry p h x ∷ h)
+holds_step p h (e.Write c name off bytes) shares i = holds_write h c name off bytes _ (write_is h c name off bytes) shares i
+holds_step p h _ shares i = i
+
+holds_steps : (p : ℕ) (es : List Event) (h : List Entry) → Course h → HoldsAt h → HoldsAt (history p h es)
+holds_steps p [] h c i = i
+holds_steps p (x ∷ es) h c i = holds_steps p es (entry p h x ∷ h) (course_step p h x c) (holds_step p h x c.shares i)
+
+pub holds : (p : ℕ) (es : List Event) → HoldsAt (journal p es)
+holds p es = holds_steps p es [] course_first (λ f q j small. refl)
+
+-- Contents
+
+contents_of : (h : List Entry) → Course h → HoldsAt h → ObjectsHoldWrites h
+contents_of h c i at.Head f k =
+    bytes_are _ _ (writes h f) _ (i f (k / OBJECT_SIZE) (k % OBJECT_SIZE) (omega arith)) ∙ ap (λ n. image (writes h f) n) (omega arith)
+contents_of h c i (at.Snap s) f k =
+    bytes_are _ _ (older s (writes h f)) _ (before_are _ _ s (writes h f) _ (i f (k / OBJECT_SIZE) (k % OBJECT_SIZE) (omega arith)) (c.order.1 f).tags.fall)
+    ∙ ap (λ n. image (older s (writes h f)) n) (omega arith)
+
+pub hold_writes : (p : ℕ) (es : List Event) → ObjectsHoldWrites (journal p es)
+hold_writes p es = contents_of (journal p es) (course p es) (holds p es)

@@ -1,0 +1,5 @@
+use Rattle.cs_theorems.proofs.Numbered.{flushes_numbered}
+use Rattle.cs_theorems.proofs.flushes.flushes_are_numbered.Goals as goal
+
+pub returns : goal.returns
+returns c = flushes_numbered

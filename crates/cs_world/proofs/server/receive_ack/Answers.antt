@@ -1,0 +1,12 @@
+use Rattle.std.proofs.Common.{sym}
+use Rattle.cs_laws.specs.declared.messages.Message.TheVariants as messages
+use Rattle.cs_world.specs.Tables.{past}
+use Rattle.cs_world.proofs.Delivered.{first_received, never_absent}
+use Rattle.cs_world.proofs.server.receive_ack.Goals as goal
+
+pub unreachable-requires : goal.unreachable-requires
+unreachable-requires c =
+    let s = c.args.state.now in
+    let ready = c.requires.ready in
+    never_absent (past s) s c.args.file ready.tables
+    (first_received s.pages (past s) (messages.CapAck c.args.file c.args.seq c.args.bits) ready.run c.requires.first) (sym c.in_default.ensures.value)
