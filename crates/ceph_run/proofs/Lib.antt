@@ -1,3 +1,4 @@
+pub mod Agreeing
 pub mod Entries
 pub mod Journals
 pub mod Serving

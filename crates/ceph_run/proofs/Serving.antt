@@ -17,11 +17,12 @@ use Rattle.ceph_run.specs.declared.input.Refusal.{Refusal}
 use Rattle.ceph_run.specs.declared.input.Refusal.TheVariants as refusals
 use Rattle.ceph_run.specs.declared.run_fault.RunFault.{RunFault}
 use Rattle.ceph_run.specs.declared.run_fault.RunFault.TheVariants as faults
-use Rattle.ceph_run.specs.Inputs.{judged, status_of, told, stored, IsLawfulRun, JudgesWhole}
+use Rattle.ceph_run.specs.Inputs.{judged, status_of, told, AgreesWith, IsLawfulRun, JudgesWhole}
 use Rattle.ceph_run.specs.Refusals.{refusal_line, refusal_status}
 use Rattle.ceph_run.specs.Served.{Served, Ends, Writes, IsFaultStatus, IsStopStatus}
 use Rattle.ceph_run.specs.Statuses.{read_status, run_status}
 use Rattle.ceph_run.specs.Stopped.{Stops, StopsInput}
+use Rattle.ceph_run.proofs.Agreeing.{agrees_with}
 use Rattle.ceph_run.proofs.Stopping.{stops_at_once, front_of_stop}
 
 -- Statuses
@@ -229,7 +230,7 @@ judged_and_ended pages status input left_old left_new taken_old taken_new s t m 
   done = λ e.
       let same = no_fault (status_of input) status w.known (inl e) in (
         judge.read (not_too_long input status w.known (inl e) (omega arith)),
-        of_judged left_old input (λ x. IsLawfulRun pages x × (ops ≡ stored pages x)) judge.is (lawful_run pages input, (w.whole same).1),
+        of_judged left_old input (λ x. IsLawfulRun pages x × AgreesWith pages x ops) judge.is (lawful_run pages input, agrees_with pages input ops (w.whole same).1),
       );
   refused = λ e. judge.read (not_too_long input status w.known (inr (inl e)) (omega arith));
   ended = λ e.

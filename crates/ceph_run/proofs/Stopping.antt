@@ -24,6 +24,7 @@ use Rattle.ceph_run.specs.declared.write_fault.WriteFault.{WriteFault}
 use Rattle.ceph_run.specs.declared.write_fault.WriteFault.TheVariants as writing
 use Rattle.ceph_run.specs.Statuses.{of_write, of_step}
 use Rattle.ceph_run.specs.Stopped.{written_before, written_by, StopsAfter, StopsIn, Stops}
+use Rattle.ceph_run.proofs.Agreeing.{agrees}
 use Rattle.ceph_run.proofs.Journals.{longer, behind_whole, front_whole, took_nothing, text_history}
 
 -- The journal of the events so far
@@ -141,7 +142,7 @@ stops_at_once pages es a ops none = record {
   few = omega arith;
   lines = ([], appends_none a);
   no_more = took_nothing a (written_by pages es 0);
-  listed = none;
+  agrees = agrees pages (take 0 es) ops none;
 }
 
 -- in the header
@@ -153,7 +154,7 @@ stops_in_header pages es old new ops none t =
       few = omega arith;
       lines = (t.1.front, t.1.taken);
       no_more = longer old new header (lines (journal pages (take 0 es)) ++ upto.0) (written_by pages es 0) (upto.1 ∙ append_assoc header (lines (journal pages (take 0 es))) upto.0) t;
-      listed = none;
+      agrees = agrees pages (take 0 es) ops none;
     }
 
 -- in an event
@@ -186,7 +187,7 @@ stops_in_line pages es i h more x old mid new ops inside listed so_far grown ste
       few = omega arith;
       lines = (last.1.front, subst P (ap (λ hs. header ++ lines hs) so_far) (appends_more old mid new (header ++ lines h) last.1.front taken last.1.taken));
       no_more = longer old new ((header ++ lines h) ++ newest_line (x ∷ h)) upto.0 (written_by pages es (suc i)) (upto.1 ∙ ap (λ xs. xs ++ upto.0) (sym same)) all;
-      listed = listed ∙ ap (λ hs. applied hs) stepped;
+      agrees = agrees pages (take (suc i) es) ops (listed ∙ ap (λ hs. applied hs) stepped);
     }
 
 -- in the end line
@@ -209,5 +210,5 @@ stops_in_end pages es n k h old mid new ops all listed so_far count taken now =
             (appends_more old mid new (header ++ lines h) end.1.front taken end.1.taken),
       );
       no_more = rw (by_all pages es n all) (subst P whole written);
-      listed = listed ∙ ap (λ hs. applied hs) so_far;
+      agrees = agrees pages (take n es) ops (listed ∙ ap (λ hs. applied hs) so_far);
     }

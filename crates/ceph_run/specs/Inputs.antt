@@ -5,6 +5,7 @@ use Rattle.cs_laws.specs.declared.events.Event.{Event}
 use Rattle.cs_laws.specs.declared.events.Event.TheVariants as events
 use Rattle.cs_laws.specs.declared.faults.ScriptFault.{ScriptFault}
 use Rattle.cs_laws.specs.declared.objects.ObjOp.{ObjOp}
+use Rattle.cs_laws.specs.Agreement.{Agrees}
 use Rattle.cs_laws.specs.Grammar.{script_of}
 use Rattle.cs_laws.specs.Journal.{journal, text}
 use Rattle.cs_laws.specs.Operations.{applied}
@@ -44,6 +45,12 @@ told pages (Refused r) = refusal_line r
 abbrev pub stored : ℕ → Input → List ObjOp
 stored pages (Runs es) = applied (journal pages es)
 stored pages (Refused r) = []
+
+-- the store agrees with the journal that it writes: it lists exactly the operations that this implies, and with the server's records
+-- each state of a file that isn't owed reads back as its writes
+abbrev pub AgreesWith : ℕ → Input → List ObjOp → Type 0
+AgreesWith pages (Runs es) ops = Agrees ops (journal pages es)
+AgreesWith pages (Refused r) ops = ops ≡ []
 
 -- the laws hold of the journal that it writes
 abbrev pub IsLawfulRun : ℕ → Input → Type 0

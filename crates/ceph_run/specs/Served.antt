@@ -6,7 +6,7 @@ use Rattle.cs_io.specs.Whole.{AppendsFront}
 use Rattle.cs_laws.specs.declared.objects.ObjOp.{ObjOp}
 use Rattle.ceph_run.specs.declared.input.Input.{Input}
 use Rattle.ceph_run.specs.declared.run_fault.RunFault.TheVariants as faults
-use Rattle.ceph_run.specs.Inputs.{judged, status_of, told, stored, IsLawfulRun}
+use Rattle.ceph_run.specs.Inputs.{judged, status_of, told, stored, AgreesWith, IsLawfulRun}
 use Rattle.ceph_run.specs.Stopped.{StopsInput}
 
 -- the source, the sink and the store at one moment: the bytes left and the bytes taken, where told, the operations that were applied,
@@ -50,8 +50,8 @@ pub record Ends (pages : ℕ) (input : Input) (status : ℕ) (taken_old taken_ne
 
 -- what the call of a run did
 pub record Served (pages status : ℕ) (before after : Devices) : Type 0 where
-  -- 0: the source was read to its end, all laws hold of the journal, and the store lists its operations
-  pub done : status ≡ 0 → IsAtEnd after.left × IfSome before.left (λ b. IsLawfulRun pages (judged b) × (after.ops ≡ stored pages (judged b)))
+  -- 0: the source was read to its end, all laws hold of the journal, and the store agrees with it
+  pub done : status ≡ 0 → IsAtEnd after.left × IfSome before.left (λ b. IsLawfulRun pages (judged b) × AgreesWith pages (judged b) after.ops)
   -- 2: the source was read to its end
   pub refused : status ≡ 2 → IsAtEnd after.left
   -- 0, 2 and 3: this is what the input is, and the sink took the journal, the fault's line or the limit's line
@@ -60,7 +60,7 @@ pub record Served (pages status : ℕ) (before after : Devices) : Type 0 where
   -- 4: the source failed, and the sink took nothing
   pub source : status ≡ 4 → Rose before.source_faults after.source_faults × Keeps before.taken after.taken
   -- 5: the sink failed; it took all lines before that of the last event that was done, and no byte of a later event's, and the store
-  -- lists the operations of the events that were done
+  -- agrees with the journal of the events that were done
   pub sink : status ≡ 5
       → Rose before.sink_faults after.sink_faults
       × IfSome before.left (λ b. StopsInput faults.Sink pages (judged b) before.taken after.taken after.ops)

@@ -4,6 +4,7 @@ use Rattle.std.specs.Io.KnownBytes.{Appends}
 use Rattle.cs_io.specs.Whole.{AppendsFront}
 use Rattle.cs_laws.specs.declared.events.Event.{Event}
 use Rattle.cs_laws.specs.declared.objects.ObjOp.{ObjOp}
+use Rattle.cs_laws.specs.Agreement.{Agrees}
 use Rattle.cs_laws.specs.Journal.{journal, text, header, lines}
 use Rattle.cs_laws.specs.Operations.{applied}
 use Rattle.cs_world.specs.Storing.{AppliesFront, brings}
@@ -22,13 +23,13 @@ abbrev pub written_by : ℕ → List Event → ℕ → List ℕ
 written_by pages es n = if n == length es then text (journal pages es) else header ++ lines (journal pages (take n es))
 
 -- It stopped while something was written. So many events were done: the sink took all lines before that of the last one, and no
--- byte of a later event's, and the store has their operations.
+-- byte of a later event's, and the store agrees with their journal.
 pub record StopsAfter (pages : ℕ) (es : List Event) (old new : Option (List ℕ)) (ops : List ObjOp) : Type 0 where
   pub done : ℕ
   pub few : done ≤ length es
   pub lines : (part : List ℕ) × Appends old new (written_before pages es done ++ part)
   pub no_more : AppendsFront old new (written_by pages es done)
-  pub listed : ops ≡ applied (journal pages (take done es))
+  pub agrees : Agrees ops (journal pages (take done es))
 
 -- It stopped in an event, before which so many were done: the sink took the lines of these, and the store has their operations and
 -- then a front of the event's own.

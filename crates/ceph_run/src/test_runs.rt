@@ -1,14 +1,15 @@
 // What the tests run scripts by.
 ghost use Rattle.std.specs.Prelude.{◌≡◌, []};
 
+use crate::command::ceph_main;
 use crate::finished::Finished;
-use crate::serve::serve_run;
 use cs_ids::{Bytes, Memory};
 use cs_io::{MemSink, MemSource};
 use cs_objstore::{MemStore, ObjStore};
 use std::alloc::Global;
 
-/// The status of a run over a store, the store behind it, and what the sink took.
+/// The status of the program's call with the word `run` over a store, the store behind it, and what
+/// the sink took.
 pub fn run_over<O: ObjStore>(
     alloc: Global,
     input: &[u8],
@@ -16,13 +17,23 @@ pub fn run_over<O: ObjStore>(
 ) -> Result<(u8, O, MemSink), Memory>
     requires { O.ops store ≡ [] }
 {
+    let mut words = Vec::new(alloc);
+    words.push(String::from_str(alloc, "run")?)?;
     let mut source = MemSource::new(alloc, input)?;
     let mut sink = MemSink::new(alloc);
     let Finished {
         status,
         store,
         log: (),
-    } = serve_run(alloc, 256, &mut source, &mut sink, store, ());
+    } = ceph_main(
+        &(),
+        alloc,
+        words.as_slice(),
+        &mut source,
+        &mut sink,
+        store,
+        (),
+    );
     Ok((status, store, sink))
 }
 

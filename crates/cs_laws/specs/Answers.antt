@@ -1,5 +1,5 @@
 -- The answer to each event, by tests in the order in which they are made.
-use Rattle.std.specs.Prelude.{ℕ, ◌+◌, ◌==◌, ◌&&◌, Bool, List, [], ◌∷◌, Option, Some, None, if◌then◌else◌, nat_lt, nat_le, length}
+use Rattle.std.specs.Prelude.{ℕ, zero, suc, ◌+◌, ◌-◌, min, ◌==◌, ◌&&◌, Bool, true, List, [], ◌∷◌, Option, Some, None, if◌then◌else◌, nat_lt, nat_le, length}
 use Rattle.cs_bits.specs.declared.Caps.{Caps}
 use Rattle.cs_bits.specs.Bits.{is_empty, covers, file_write}
 use Rattle.cs_parts.specs.declared.capabilities.ClientCaps.{ClientCaps}
@@ -12,6 +12,11 @@ use Rattle.cs_laws.specs.declared.events.RefName.{RefName}
 use Rattle.cs_laws.specs.declared.answers.Answer.{Answer}
 use Rattle.cs_laws.specs.declared.answers.Answer.TheVariants as answers
 use Rattle.cs_laws.specs.declared.answers.Entry.{Entry}
+use Rattle.cs_laws.specs.declared.objects.At.{At}
+use Rattle.cs_laws.specs.declared.objects.At.TheVariants as at
+use Rattle.cs_laws.specs.declared.records.Record.{Record}
+use Rattle.cs_ids.specs.declared.objects.FileMeta.{FileMeta}
+use Rattle.std.specs.List.{list_any}
 use Rattle.cs_laws.specs.declared.answers.Why.TheVariants as why
 use Rattle.cs_laws.specs.declared.messages.Message.{Message}
 use Rattle.cs_laws.specs.declared.messages.Message.TheVariants as messages
@@ -19,9 +24,13 @@ use Rattle.cs_snapctx.specs.Context.{Context}
 use Rattle.cs_laws.specs.CapSnaps.{CapSnap, is_open, is_writing, makes}
 use Rattle.cs_laws.specs.Context.{last_record, root_context}
 use Rattle.cs_laws.specs.Events.{setup_file, files, client_knows, server_knows, is_directory, begun}
-use Rattle.cs_laws.specs.History.{client, server, to_client, to_server, root, context, live, dirty, queued, fresh, stand, sent, used}
+use Rattle.cs_laws.specs.History.{client, server, to_client, to_server, root, context, live, writes, dirty, queued, fresh, stand, sent, used}
 use Rattle.cs_laws.specs.References.{can_end, named}
-use Rattle.cs_laws.specs.Standing.{greatest_snap, has_snap_named}
+use Rattle.cs_laws.specs.Image.{Write, image}
+use Rattle.cs_laws.specs.Metadata.{meta_at}
+use Rattle.cs_laws.specs.Owed.{owed}
+use Rattle.cs_laws.specs.Shown.{writes_at}
+use Rattle.cs_laws.specs.Standing.{greatest_snap, has_snap_named, number_of}
 
 abbrev pub answer_file : List Entry → ℕ → ℕ → Answer
 answer_file h f p = if setup_file h f then answers.Exists else if is_directory h p then answers.Made else answers.NoDir
@@ -127,6 +136,28 @@ answer_snap h d name =
     (if has_snap_named d name (stand h) then answers.Exists else answers.Snap (greatest_snap (stand h) + 1))
     else answers.Unknown
 
+-- the state is the head, or that of a snapshot that stands; the root's snapshots cover all files
+abbrev pub stands : At → List Record → Bool
+stands at.Head rs = true
+stands (at.Snap s) rs = nat_le 1 s && list_any (λ r. number_of r.body == s) rs
+
+-- the bytes of an image from a place on
+abbrev pub bytes_from : (ℕ → ℕ) → ℕ → ℕ → List ℕ
+bytes_from bytes off zero = []
+bytes_from bytes off (suc n) = bytes off ∷ bytes_from bytes (off + 1) n
+
+-- the metadata, and the bytes that the state's writes left, as far as its size goes
+abbrev pub shown : FileMeta → List Write → ℕ → ℕ → Answer
+shown meta ws off len = answers.Size meta (bytes_from (image ws) off (min len (meta.size - off)))
+
+abbrev pub answer_show : List Entry → ℕ → At → ℕ → ℕ → Answer
+answer_show h f a off len =
+    if server_knows h f then
+    (if stands a (stand h) then
+    (if owed h f a then answers.Pending else shown (meta_at f a (stand h)) (writes_at a (writes h f)) off len)
+    else answers.NoSnap)
+    else answers.Unknown
+
 -- the answer to an event after a history, where so many pages may be cached
 abbrev pub answer : ℕ → List Entry → Event → Answer
 answer pages h (events.File f p) = answer_file h f p
@@ -141,3 +172,4 @@ answer pages h (events.Grant f bits end) = answer_grant h f bits end
 answer pages h (events.Revoke f bits) = answer_revoke h f bits
 answer pages h (events.Snap d name) = answer_snap h d name
 answer pages h events.Commit = answers.Commit (length (fresh h))
+answer pages h (events.Show f a off len) = answer_show h f a off len

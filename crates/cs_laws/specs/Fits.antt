@@ -1,5 +1,5 @@
 -- Which events a line of a script spells.
-use Rattle.std.specs.Prelude.{ℕ, ◌+◌, ◌&&◌, nat_le, Bool, true, List, length}
+use Rattle.std.specs.Prelude.{ℕ, ◌+◌, ◌&&◌, nat_lt, nat_le, Bool, true, List, length}
 use Rattle.cs_bits.specs.declared.Caps.{Caps}
 use Rattle.cs_bits.specs.Bits as sets
 use Rattle.cs_laws.specs.declared.events.Event.{Event}
@@ -21,10 +21,19 @@ most_written = 1024
 abbrev pub is_write : ℕ → List ℕ → Bool
 is_write off bytes = (nat_le 1 (length bytes) && nat_le (length bytes) most_written) && nat_le (off + length bytes) greatest_end
 
+-- the most bytes that are shown
+abbrev pub most_shown : ℕ
+most_shown = 4096
+
+-- some bytes are shown and not too many, from a place on where a file may have one
+abbrev pub is_shown : ℕ → ℕ → Bool
+is_shown off len = nat_lt off greatest_end && (nat_le 1 len && nat_le len most_shown)
+
 abbrev pub fits : Event → Bool
 fits (events.File f p) = nat_le 2 f && nat_le f 9999
 fits (events.Begin caller f bits end) = is_built bits && nat_le end greatest_end
 fits (events.Write caller name off bytes) = is_write off bytes
 fits (events.Grant f bits end) = is_built bits && nat_le end greatest_end
 fits (events.Revoke f bits) = is_built bits
+fits (events.Show f a off len) = is_shown off len
 fits _ = true

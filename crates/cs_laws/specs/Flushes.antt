@@ -1,10 +1,11 @@
 -- The flushes that the client sent, the oldest first.
-use Rattle.std.specs.Prelude.{ℕ, Bool, true, List, [], ◌∷◌, ◌++◌}
+use Rattle.std.specs.Prelude.{ℕ, ◌==◌, ◌&&◌, Bool, true, false, List, [], ◌∷◌, ◌++◌, if◌then◌else◌}
 use Rattle.cs_ids.specs.declared.objects.FileMeta.{FileMeta}
 use Rattle.cs_laws.specs.declared.events.Event.{Event}
 use Rattle.cs_laws.specs.declared.events.Event.TheVariants as events
 use Rattle.cs_laws.specs.declared.answers.Answer.{Answer}
 use Rattle.cs_laws.specs.declared.answers.Answer.TheVariants as answers
+use Rattle.cs_laws.specs.declared.answers.Entry.{Entry}
 use Rattle.cs_laws.specs.declared.messages.Message.{Message}
 use Rattle.cs_laws.specs.declared.messages.Message.TheVariants as messages
 use Rattle.cs_laws.specs.declared.records.Record.{Record}
@@ -44,3 +45,12 @@ flush_snap f tid follows mode ws = record { tid = tid; file = f; follows = follo
 abbrev pub sent_then : Event → Answer → (ℕ → List Write) → (ℕ → List CapSnap) → List Flush → List Flush
 sent_then (events.FlushSnaps f) (answers.FlushSnap tid follows) writes queued xs = xs ++ flush_snap f tid follows (first_mode (queued f)) (writes f) ∷ []
 sent_then _ _ writes queued xs = xs
+
+-- the client was told that the record of a flush is durable
+abbrev pub acked_then : Event → Answer → ℕ → ℕ → Bool → Bool
+acked_then events.ToClient (answers.FlushAck g t) f tid was = if (g == f) && (t == tid) then true else was
+acked_then _ _ f tid was = was
+
+abbrev pub acked : List Entry → ℕ → ℕ → Bool
+acked [] f tid = false
+acked (x ∷ h) f tid = acked_then x.event x.answer f tid (acked h f tid)

@@ -12,10 +12,12 @@ use Rattle.cs_laws.specs.declared.events.Event.{Event}
 use Rattle.cs_laws.specs.declared.events.Event.TheVariants as events
 use Rattle.cs_laws.specs.declared.events.RefName.{RefName}
 use Rattle.cs_laws.specs.declared.events.RefName.TheVariants as names
+use Rattle.cs_laws.specs.declared.objects.At.{At}
+use Rattle.cs_laws.specs.declared.objects.At.TheVariants as at
 use Rattle.cs_laws.specs.declared.faults.Kind.{Kind}
 use Rattle.cs_laws.specs.declared.faults.Kind.TheVariants as kinds
 use Rattle.cs_laws.specs.declared.faults.ScriptFault.{ScriptFault}
-use Rattle.cs_laws.specs.Fits.{is_built, greatest_end, most_written}
+use Rattle.cs_laws.specs.Fits.{is_built, greatest_end, most_written, most_shown}
 
 abbrev pub Words : Type 0
 Words = List (List ℕ)
@@ -75,6 +77,13 @@ name_in w = if is_name w then Ok w else Err kinds.Word
 
 abbrev pub name_field : ℕ → Words → Result (List ℕ) Kind
 name_field i ws = word_in name_in (slice_get ws i)
+
+-- the number of a snapshot, or the word `head` for the present
+abbrev pub at_in : List ℕ → Result At Kind
+at_in w = if bytes_eq w (codes "head") then Ok at.Head else (number_in 1 99999 w >>= λ s. Ok (at.Snap s))
+
+abbrev pub at_field : ℕ → Words → Result At Kind
+at_field i ws = word_in at_in (slice_get ws i)
 
 -- these are all the words
 abbrev pub only : ℕ → Event → Words → Result Event Kind
@@ -144,13 +153,20 @@ snap_of ws = do
   n ← name_field 2 ws
   only 3 (events.Snap d n) ws
 
+unfoldable pub show_of : Words → Result Event Kind
+show_of ws = do
+  f ← number_at 1 1 99999 ws
+  a ← at_field 2 ws
+  o ← number_at 3 0 1048575 ws
+  n ← number_at 4 1 most_shown ws
+  only 5 (events.Show f a o n) ws
+
 -- The first words of events that aren't built yet
 
 abbrev pub is_later_caller_word : List ℕ → Bool
 is_later_caller_word w =
     bytes_eq w (codes "read") || (bytes_eq w (codes "chmod") || (bytes_eq w (codes "lookup")
-    || (bytes_eq w (codes "req") || (bytes_eq w (codes "clock") || (bytes_eq w (codes "show")
-    || bytes_eq w (codes "names"))))))
+    || (bytes_eq w (codes "req") || (bytes_eq w (codes "clock") || bytes_eq w (codes "names")))))
 
 abbrev pub is_later_client_word : List ℕ → Bool
 is_later_client_word w =
@@ -180,6 +196,7 @@ event_by w ws =
     else if bytes_eq w (codes "revoke") then revoke_of ws
     else if bytes_eq w (codes "snap") then snap_of ws
     else if bytes_eq w (codes "commit") then only 1 events.Commit ws
+    else if bytes_eq w (codes "show") then show_of ws
     else if is_later_word w then Err kinds.NotBuilt
     else Err kinds.Word
 

@@ -32,3 +32,7 @@ mtime (w ∷ ws) = w.time
 -- the writes with a tag of at most s
 abbrev pub upto : ℕ → List Write → List Write
 upto s ws = filter (λ w. nat_le w.tag s) ws
+
+-- those with a tag below s
+abbrev pub older : ℕ → List Write → List Write
+older s ws = filter (λ w. nat_lt w.tag s) ws

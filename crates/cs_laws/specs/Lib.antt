@@ -1,3 +1,4 @@
+pub mod Agreement
 pub mod Answers
 pub mod CapSnaps
 pub mod Capabilities
@@ -11,10 +12,13 @@ pub mod History
 pub mod Image
 pub mod Journal
 pub mod Laws
+pub mod Metadata
 pub mod Objects
 pub mod Operations
+pub mod Owed
 pub mod References
 pub mod Refusals
+pub mod Shown
 pub mod Standing
 pub mod Texts
 pub mod Writes

@@ -10,6 +10,7 @@ not_yet (answers.Again w) = true
 not_yet (answers.Hold bits) = true
 not_yet answers.Idle = true
 not_yet answers.Writing = true
+not_yet answers.Pending = true
 not_yet _ = false
 
 -- the event is turned down
@@ -22,6 +23,7 @@ is_turned_down answers.NoBit = true
 is_turned_down answers.Past = true
 is_turned_down answers.Nothing = true
 is_turned_down answers.NoneQueued = true
+is_turned_down answers.NoSnap = true
 is_turned_down _ = false
 
 abbrev pub is_refusal : Event → Answer → Bool

@@ -1,5 +1,5 @@
 -- The texts of events, answers and kinds of faults.
-use Rattle.std.specs.Prelude.{ℕ, List, ◌++◌, codes, decimal}
+use Rattle.std.specs.Prelude.{ℕ, ◌/◌, ◌%◌, List, [], ◌∷◌, ◌++◌, codes, decimal}
 use Rattle.cs_bits.specs.Bits.{caps_text}
 use Rattle.cs_text.specs.Hex.{hex_text}
 use Rattle.cs_laws.specs.declared.events.Event.{Event}
@@ -9,6 +9,8 @@ use Rattle.cs_laws.specs.declared.answers.Answer.TheVariants as answers
 use Rattle.cs_laws.specs.declared.answers.Why.{Why}
 use Rattle.cs_laws.specs.declared.answers.Why.TheVariants as why
 use Rattle.cs_laws.specs.declared.events.RefName.{RefName}
+use Rattle.cs_laws.specs.declared.objects.At.{At}
+use Rattle.cs_laws.specs.declared.objects.At.TheVariants as at
 use Rattle.cs_laws.specs.declared.events.RefName.TheVariants as names
 use Rattle.cs_laws.specs.declared.faults.Kind.{Kind}
 use Rattle.cs_laws.specs.declared.faults.Kind.TheVariants as kinds
@@ -21,6 +23,10 @@ abbrev pub why_text : Why → List ℕ
 why_text why.Caps = codes "caps"
 why_text why.Snap = codes "snap"
 why_text why.Max = codes "max"
+
+abbrev pub at_text : At → List ℕ
+at_text at.Head = codes "head"
+at_text (at.Snap s) = decimal s
 
 abbrev pub event_text : Event → List ℕ
 event_text (events.File f p) = codes "file " ++ decimal f ++ codes " " ++ decimal p
@@ -35,6 +41,16 @@ event_text (events.Grant f bits end) = codes "grant " ++ decimal f ++ codes " " 
 event_text (events.Revoke f bits) = codes "revoke " ++ decimal f ++ codes " " ++ caps_text bits
 event_text (events.Snap d name) = codes "snap " ++ decimal d ++ codes " " ++ name
 event_text events.Commit = codes "commit"
+event_text (events.Show f a off len) = codes "show " ++ decimal f ++ codes " " ++ at_text a ++ codes " " ++ decimal off ++ codes " " ++ decimal len
+
+-- four octal digits
+abbrev pub mode_text : ℕ → List ℕ
+mode_text m = decimal (m / 512) ++ decimal (m / 64 % 8) ++ decimal (m / 8 % 8) ++ decimal (m % 8)
+
+-- no bytes are written as a line
+abbrev pub shown_text : List ℕ → List ℕ
+shown_text [] = codes "-"
+shown_text (b ∷ bs) = hex_text (b ∷ bs)
 
 abbrev pub answer_text : Answer → List ℕ
 answer_text answers.Unknown = codes "unknown"
@@ -63,6 +79,11 @@ answer_text (answers.Flushed f tid) = codes "flushed " ++ decimal f ++ codes " "
 answer_text (answers.SentCap seq held) = codes "sent " ++ decimal seq ++ codes " held " ++ caps_text held
 answer_text (answers.Snap number) = codes "snap " ++ decimal number
 answer_text (answers.Commit count) = codes "commit " ++ decimal count
+answer_text answers.NoSnap = codes "nosnap"
+answer_text answers.Pending = codes "pending"
+answer_text (answers.Size meta bytes) =
+    codes "size " ++ decimal meta.size ++ codes " mtime " ++ decimal meta.mtime ++ codes " mode " ++ mode_text meta.mode ++ codes " bytes "
+    ++ shown_text bytes
 
 abbrev pub kind_text : Kind → List ℕ
 kind_text kinds.Header = codes "header"

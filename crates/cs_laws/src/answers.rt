@@ -4,7 +4,7 @@ ghost use Rattle.cs_laws.specs.Refusals.{not_yet};
 
 use crate::Event;
 use cs_bits::Caps;
-use cs_ids::{Ino, Memory, RefNo, Seq, Snap, Tid};
+use cs_ids::{Bytes, FileMeta, Ino, Memory, RefNo, Seq, Snap, Tid};
 use std::alloc::Global;
 
 /// Why an event has to wait.
@@ -111,11 +111,20 @@ pub enum Answer {
     Commit {
         count: u32,
     },
+    /// There is no such snapshot.
+    NoSnap,
+    /// The server may not have yet what the file was then.
+    Pending,
+    /// A file's metadata, and bytes of it, as far as its size goes.
+    Size {
+        meta: FileMeta,
+        bytes: Bytes,
+    },
 }
 
 impl Answer {
-    /// A copy, equal to the answer. It meets no want of memory as long as no answer holds a list.
-    pub fn copy(&self, _alloc: Global) -> Result<Answer, Memory>
+    /// A copy, equal to the answer.
+    pub fn copy(&self, alloc: Global) -> Result<Answer, Memory>
         ensures { IfOk result (λ a. a ≡ self.now) }
     {
         // The proof of the match needs the type of the reason named.
@@ -188,6 +197,12 @@ impl Answer {
             },
             Answer::Snap { number } => Answer::Snap { number: *number },
             Answer::Commit { count } => Answer::Commit { count: *count },
+            Answer::NoSnap => Answer::NoSnap,
+            Answer::Pending => Answer::Pending,
+            Answer::Size { meta, bytes } => Answer::Size {
+                meta: *meta,
+                bytes: Bytes::from_slice(alloc, bytes.as_slice())?,
+            },
         })
     }
 }
@@ -198,7 +213,7 @@ pub fn not_yet(answer: &Answer) -> bool
 {
     matches!(
         answer,
-        Answer::Again(_) | Answer::Hold { .. } | Answer::Idle | Answer::Writing
+        Answer::Again(_) | Answer::Hold { .. } | Answer::Idle | Answer::Writing | Answer::Pending
     )
 }
 

@@ -2,6 +2,7 @@
 ghost use Rattle.std.specs.Prelude.{◌≡◌, IfOk};
 ghost use Rattle.cs_laws.specs.Fits.{fits, is_built, is_write};
 
+use crate::At;
 use cs_bits::Caps;
 use cs_ids::{Bytes, Caller, Ino, Memory, Name, RefNo};
 use std::alloc::Global;
@@ -74,6 +75,15 @@ pub enum Event {
     },
     /// The server makes all of its records durable, and tells the client of those that were not.
     Commit,
+    /// What the store and the server's records hold of a file at a snapshot, or at present: its
+    /// metadata, and up to `len` bytes from the offset `off` on. A script gives offsets up to 1,048,575
+    /// and 1 to 4,096 bytes.
+    Show {
+        file: Ino,
+        at: At,
+        off: u32,
+        len: u32,
+    },
 }
 
 impl Event {
@@ -81,8 +91,9 @@ impl Event {
     pub fn copy(&self, alloc: Global) -> Result<Event, Memory>
         ensures { IfOk result (λ e. e ≡ self.now) }
     {
-        // The proof of the match needs the type of the name named.
+        // The proof of the match needs the types of the name and of the state named.
         let _told: Option<RefName> = None;
+        let _at: Option<At> = None;
         Ok(match self {
             Event::File { file, parent } => Event::File {
                 file: *file,
@@ -138,6 +149,14 @@ impl Event {
                 name: Name::from_slice(alloc, name.as_slice())?,
             },
             Event::Commit => Event::Commit,
+            Event::Show { file, at, off, len } => {
+                Event::Show {
+                    file: *file,
+                    at: *at,
+                    off: *off,
+                    len: *len,
+                }
+            }
         })
     }
 
@@ -152,6 +171,7 @@ impl Event {
             Event::Write { off, bytes, .. } => is_write(*off, bytes.as_slice()),
             Event::Grant { bits, max, .. } => is_built(*bits) && *max <= 1_048_576,
             Event::Revoke { bits, .. } => is_built(*bits),
+            Event::Show { off, len, .. } => *off <= 1_048_575 && 1 <= *len && *len <= 4096,
             Event::End { .. }
             | Event::Check { .. }
             | Event::FlushSnaps { .. }

@@ -1,9 +1,9 @@
 // The texts of events and answers.
 ghost use Rattle.std.specs.Prelude.{Some};
 ghost use Rattle.std.specs.Fmt.{DisplaysOnOk};
-ghost use Rattle.cs_laws.specs.Texts.{event_text, answer_text, why_text, name_text, kind_text};
+ghost use Rattle.cs_laws.specs.Texts.{event_text, answer_text, at_text, mode_text, shown_text, why_text, name_text, kind_text};
 
-use crate::{Answer, Event, Kind, RefName, Why};
+use crate::{Answer, At, Event, Kind, RefName, Why};
 use cs_ids::Name;
 use cs_text::HexText;
 use std::{fmt, str};
@@ -58,6 +58,43 @@ fn write_name<W: fmt::Write>(name: &Name, f: &mut fmt::Formatter<W>) -> fmt::Res
     }
 }
 
+impl fmt::Display for At {
+    ghost output = { λ x. Some (at_text x) };
+
+    fn fmt<W: fmt::Write>(&self, f: &mut fmt::Formatter<W>) -> fmt::Result {
+        match self {
+            At::Head => write!(f, "head"),
+            At::Snap(number) => write!(f, "{}", number.get()),
+        }
+    }
+}
+
+// Four octal digits.
+fn write_mode<W: fmt::Write>(mode: u16, f: &mut fmt::Formatter<W>) -> fmt::Result
+    ensures { DisplaysOnOk W.write_str_gives f.old result (Some (mode_text mode)) f.new }
+{
+    write!(
+        f,
+        "{}{}{}{}",
+        mode / 512,
+        mode / 64 % 8,
+        mode / 8 % 8,
+        mode % 8
+    )
+}
+
+fn write_shown<W: fmt::Write>(bytes: &[u8], f: &mut fmt::Formatter<W>) -> fmt::Result
+    ensures { DisplaysOnOk W.write_str_gives f.old result (Some (shown_text bytes.now)) f.new }
+{
+    match bytes {
+        [] => write!(f, "-"),
+        _ => {
+            let digits = HexText(bytes);
+            write!(f, "{digits}")
+        }
+    }
+}
+
 impl fmt::Display for Event {
     ghost output = { λ x. Some (event_text x) };
 
@@ -91,6 +128,9 @@ impl fmt::Display for Event {
                 write_name(name, f)
             }
             Event::Commit => write!(f, "commit"),
+            Event::Show { file, at, off, len } => {
+                write!(f, "show {} {at} {off} {len}", file.get())
+            }
         }
     }
 }
@@ -139,6 +179,14 @@ impl fmt::Display for Answer {
             Answer::SentCap { seq, held } => write!(f, "sent {} held {held}", seq.get()),
             Answer::Snap { number } => write!(f, "snap {}", number.get()),
             Answer::Commit { count } => write!(f, "commit {count}"),
+            Answer::NoSnap => write!(f, "nosnap"),
+            Answer::Pending => write!(f, "pending"),
+            Answer::Size { meta, bytes } => {
+                write!(f, "size {} mtime {} mode ", meta.size, meta.mtime)?;
+                write_mode(meta.mode, f)?;
+                write!(f, " bytes ")?;
+                write_shown(bytes.as_slice(), f)
+            }
         }
     }
 }

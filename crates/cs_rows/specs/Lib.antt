@@ -5,6 +5,8 @@ pub mod Faults
 pub mod FullTable
 pub mod HoldThenAck
 pub mod LastByte
+pub mod LaterWrites
 pub mod OneCapSnap
 pub mod TwoObjects
 pub mod UnderAWriter
+pub mod WriteAfterSnapshot

@@ -3,6 +3,7 @@ use Rattle.std.specs.Prelude.{ℕ, true, List, [], ◌∷◌, codes, ◌++◌}
 use Rattle.cs_laws.specs.declared.events.Event.{Event}
 use Rattle.cs_laws.specs.declared.events.Event.TheVariants as events
 use Rattle.cs_laws.specs.declared.events.RefName.TheVariants as names
+use Rattle.cs_laws.specs.declared.objects.At.TheVariants as at
 use Rattle.cs_laws.specs.Flushes.{Flush}
 
 abbrev pub input : List ℕ
@@ -24,6 +25,8 @@ input =
     ++ codes "tomds\n"
     ++ codes "commit\n"
     ++ codes "toclient\n"
+    ++ codes "show 100 1 0 2\n"
+    ++ codes "show 100 2 0 2\n"
 
 abbrev pub events_read : List Event
 events_read =
@@ -43,6 +46,8 @@ events_read =
     ∷ events.ToMds
     ∷ events.Commit
     ∷ events.ToClient
+    ∷ events.Show 100 (at.Snap 1) 0 2
+    ∷ events.Show 100 (at.Snap 2) 0 2
     ∷ []
 
 abbrev pub written : List ℕ
@@ -64,7 +69,9 @@ written =
     ++ codes "14 tomds -> flushed 100 1\n"
     ++ codes "15 commit -> commit 1\n"
     ++ codes "16 toclient -> flushack 100 1\n"
-    ++ codes "end 16\n"
+    ++ codes "17 show 100 1 0 2 -> size 2 mtime 0 mode 0644 bytes 7878\n"
+    ++ codes "18 show 100 2 0 2 -> size 2 mtime 0 mode 0644 bytes 7878\n"
+    ++ codes "end 18\n"
 
 -- one flush, with the size of what was written before the writer ended
 abbrev pub flushed : List Flush

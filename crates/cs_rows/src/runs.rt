@@ -12,9 +12,11 @@ ghost use Rattle.cs_rows.specs.EmptyScript as empty;
 ghost use Rattle.cs_rows.specs.FullTable as full;
 ghost use Rattle.cs_rows.specs.HoldThenAck as held;
 ghost use Rattle.cs_rows.specs.LastByte as last;
+ghost use Rattle.cs_rows.specs.LaterWrites as later;
 ghost use Rattle.cs_rows.specs.OneCapSnap as shared;
 ghost use Rattle.cs_rows.specs.TwoObjects as crossing;
 ghost use Rattle.cs_rows.specs.UnderAWriter as under;
+ghost use Rattle.cs_rows.specs.WriteAfterSnapshot as behind;
 
 /// A header alone: an empty journal.
 pub fn empty_script()
@@ -52,14 +54,22 @@ pub fn two_objects()
 {}
 
 /// A snapshot while a writer lives: no other writer begins, the first one still writes, and the flush
-/// that is sent once it has ended has what it wrote.
+/// that is sent once it has ended has what it wrote. The snapshot is pending until that flush is known
+/// to be durable, and then reads back as all that this writer wrote.
 pub fn under_a_writer()
     ensures read { script_of under.input ≡ Ok under.events_read }
     ensures written { text (journal 256 under.events_read) ≡ under.written }
     ensures flushed { sent (journal 256 under.events_read) ≡ under.flushed }
 {}
 
+/// A later writer changes nothing in the snapshot; the head is pending then.
+pub fn later_writes()
+    ensures read { script_of later.input ≡ Ok later.events_read }
+    ensures written { text (journal 256 later.events_read) ≡ later.written }
+{}
+
 /// Two snapshots while a writer lives: the second makes no cap snap, since the first one's is writing.
+/// Both read back the same.
 pub fn one_cap_snap()
     ensures read { script_of shared.input ≡ Ok shared.events_read }
     ensures written { text (journal 256 shared.events_read) ≡ shared.written }
@@ -70,4 +80,12 @@ pub fn one_cap_snap()
 /// has both.
 pub fn after_a_snapshot()
     ensures { applied (journal 256 after.events_read) ≡ after.stored }
+{}
+
+/// A write after a snapshot of an empty file: the snapshot reads back as empty, and the store has the
+/// one operation of the write.
+pub fn write_after_a_snapshot()
+    ensures read { script_of behind.input ≡ Ok behind.events_read }
+    ensures written { text (journal 256 behind.events_read) ≡ behind.written }
+    ensures stored { applied (journal 256 behind.events_read) ≡ behind.stored }
 {}

@@ -1,14 +1,15 @@
 -- Each event that a line spells fits a script.
-use Rattle.std.proofs.Common.{◌≡◌, ◌+◌, ℕ, Bool, true, false, ◌&&◌, nat_le, List, length, Result, Ok, Err, refl, if◌then◌else◌, codes, slice_get, not}
+use Rattle.std.proofs.Common.{◌≡◌, ◌+◌, ℕ, Bool, true, false, ◌&&◌, nat_le, List, length, Result, Ok, Err, refl, if◌then◌else◌, codes, slice_get, not, nat_lt, arith}
+use Rattle.std.proofs.lemmas.Bool.Decides.{nat_tests}
 use Rattle.std.specs.Str.{bytes_eq}
 use Rattle.cs_laws.specs.declared.events.Event.{Event}
 use Rattle.cs_laws.specs.declared.events.Event.TheVariants as events
 use Rattle.cs_laws.specs.declared.faults.Kind.{Kind}
 use Rattle.cs_laws.specs.declared.faults.Kind.TheVariants as kinds
-use Rattle.cs_laws.specs.Fits.{fits, is_built, greatest_end, most_written}
-use Rattle.cs_laws.specs.Grammar.{Words, file_of, begin_of, end_of, write_of, check_of, flush_snaps_of, grant_of, revoke_of, snap_of, is_later_word, event_by, event_of, words_in, in_time, is_setup, line_event}
+use Rattle.cs_laws.specs.Fits.{fits, is_built, greatest_end, most_written, most_shown}
+use Rattle.cs_laws.specs.Grammar.{Words, file_of, begin_of, end_of, write_of, check_of, flush_snaps_of, grant_of, revoke_of, snap_of, show_of, is_later_word, event_by, event_of, words_in, in_time, is_setup, line_event}
 use Rattle.cs_script.proofs.FieldFacts.{word_is, number_range, number_below, set_built, bytes_count, only_is}
-use Rattle.cs_script.proofs.FormFacts.{binds, file_is, begin_is, end_is, write_is, check_is, flush_snaps_is, grant_is, revoke_is, snap_is}
+use Rattle.cs_script.proofs.FormFacts.{binds, file_is, begin_is, end_is, write_is, check_is, flush_snaps_is, grant_is, revoke_is, snap_is, show_is}
 
 both : (a b : Bool) → a ≡ true → b ≡ true → (a && b) ≡ true
 both true true p q = refl
@@ -52,6 +53,15 @@ revoke_fits ws e h =
 snap_fits : (ws : Words) (e : Event) → snap_of ws ≡ Ok e → fits e ≡ true
 snap_fits ws e h = rw (snap_is ws e h).is refl
 
+-- a place where a file may have a byte
+place_below : (o : ℕ) → nat_le o 1048575 ≡ true → nat_lt o greatest_end ≡ true
+place_below o h = grind (arith, nat_tests)
+
+show_fits : (ws : Words) (e : Event) → show_of ws ≡ Ok e → fits e ≡ true
+show_fits ws e h =
+    let i = show_is ws e h in
+    rw i.is (both (nat_lt i.o greatest_end) (nat_le 1 i.n && nat_le i.n most_shown) (place_below i.o (number_below 3 0 1048575 ws i.o i.off)) (number_range 4 1 most_shown ws i.n i.count))
+
 -- a reading that gives only what fits
 abbrev Fitting : Result Event Kind → Type 0
 Fitting r = (e : Event) → r ≡ Ok e → fits e ≡ true
@@ -75,7 +85,8 @@ event_by_fits w ws =
     (either (bytes_eq w (codes "revoke")) _ _ (revoke_fits ws)
     (either (bytes_eq w (codes "snap")) _ _ (snap_fits ws)
     (either (bytes_eq w (codes "commit")) _ _ (λ e h. rw (only_is 1 events.Commit e ws h).same refl)
-    (either (is_later_word w) _ _ (λ e h. cc h) (λ e h. cc h)))))))))))))
+    (either (bytes_eq w (codes "show")) _ _ (show_fits ws)
+    (either (is_later_word w) _ _ (λ e h. cc h) (λ e h. cc h))))))))))))))
 
 pub event_fits : (ws : Words) (e : Event) → event_of ws ≡ Ok e → fits e ≡ true
 unfolding event_of

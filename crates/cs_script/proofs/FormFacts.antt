@@ -4,9 +4,10 @@ use Rattle.cs_bits.specs.declared.Caps.{Caps}
 use Rattle.cs_laws.specs.declared.events.Event.{Event}
 use Rattle.cs_laws.specs.declared.events.Event.TheVariants as events
 use Rattle.cs_laws.specs.declared.events.RefName.{RefName}
+use Rattle.cs_laws.specs.declared.objects.At.{At}
 use Rattle.cs_laws.specs.declared.faults.Kind.{Kind}
-use Rattle.cs_laws.specs.Fits.{greatest_end}
-use Rattle.cs_laws.specs.Grammar.{Words, ◌>>=◌, number_at, set_at, name_at, bytes_at, name_field, only, ends_in_file, file_of, begin_of, end_of, write_of, check_of, flush_snaps_of, grant_of, revoke_of, snap_of}
+use Rattle.cs_laws.specs.Fits.{greatest_end, most_shown}
+use Rattle.cs_laws.specs.Grammar.{Words, ◌>>=◌, number_at, set_at, name_at, bytes_at, name_field, at_field, only, ends_in_file, file_of, begin_of, end_of, write_of, check_of, flush_snaps_of, grant_of, revoke_of, snap_of, show_of}
 use Rattle.cs_script.proofs.FieldFacts.{only_is, ends_is}
 
 -- a value that was read, and what follows
@@ -149,6 +150,28 @@ snap_is ws e h =
     let n = binds (name_field 2 ws) (λ (n : List ℕ). only 3 (events.Snap d.value n) ws) e d.rest in
     let u = only_is 3 (events.Snap d.value n.value) e ws n.rest in
     record { d = d.value; n = n.value; dir = d.is; name = n.is; few = u.test; is = u.same }
+
+pub record IsShow (ws : Words) (e : Event) : Type 0 where
+  pub f : ℕ
+  pub a : At
+  pub o : ℕ
+  pub n : ℕ
+  pub file : number_at 1 1 99999 ws ≡ Ok f
+  pub at : at_field 2 ws ≡ Ok a
+  pub off : number_at 3 0 1048575 ws ≡ Ok o
+  pub count : number_at 4 1 most_shown ws ≡ Ok n
+  pub few : nat_le (length ws) 5 ≡ true
+  pub is : e ≡ events.Show f a o n
+
+pub show_is : (ws : Words) (e : Event) → show_of ws ≡ Ok e → IsShow ws e
+unfolding show_of
+show_is ws e h =
+    let f = binds (number_at 1 1 99999 ws) (λ (f : ℕ). at_field 2 ws >>= λ (a : At). number_at 3 0 1048575 ws >>= λ (o : ℕ). number_at 4 1 most_shown ws >>= λ (n : ℕ). only 5 (events.Show f a o n) ws) e h in
+    let a = binds (at_field 2 ws) (λ (a : At). number_at 3 0 1048575 ws >>= λ (o : ℕ). number_at 4 1 most_shown ws >>= λ (n : ℕ). only 5 (events.Show f.value a o n) ws) e f.rest in
+    let o = binds (number_at 3 0 1048575 ws) (λ (o : ℕ). number_at 4 1 most_shown ws >>= λ (n : ℕ). only 5 (events.Show f.value a.value o n) ws) e a.rest in
+    let n = binds (number_at 4 1 most_shown ws) (λ (n : ℕ). only 5 (events.Show f.value a.value o.value n) ws) e o.rest in
+    let u = only_is 5 (events.Show f.value a.value o.value n.value) e ws n.rest in
+    record { f = f.value; a = a.value; o = o.value; n = n.value; file = f.is; at = a.is; off = o.is; count = n.is; few = u.test; is = u.same }
 
 pub record IsWrite (ws : Words) (e : Event) : Type 0 where
   pub c : ℕ

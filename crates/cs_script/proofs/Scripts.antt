@@ -15,11 +15,13 @@ use Rattle.cs_laws.specs.declared.events.Event.{Event}
 use Rattle.cs_laws.specs.declared.events.Event.TheVariants as events
 use Rattle.cs_laws.specs.declared.events.RefName.{RefName}
 use Rattle.cs_laws.specs.declared.events.RefName.TheVariants as names
+use Rattle.cs_laws.specs.declared.objects.At.{At}
+use Rattle.cs_laws.specs.declared.objects.At.TheVariants as at
 use Rattle.cs_laws.specs.Fits.{fits, is_built, greatest_end, most_written}
 use Rattle.cs_laws.specs.Grammar.{Words, in_time, is_setup, line_event, is_long, is_skipped, events_from, script_of}
-use Rattle.cs_laws.specs.Texts.{event_text, name_text}
-use Rattle.cs_script.specs.Spelling.{IsName, IsEvent, lines_of, script_text, InTime}
-use Rattle.cs_script.proofs.Spelt.{no_newline, text_read}
+use Rattle.cs_laws.specs.Texts.{event_text, name_text, at_text}
+use Rattle.cs_script.specs.Spelling.{IsName, IsAt, IsEvent, lines_of, script_text, InTime}
+use Rattle.cs_script.proofs.Spelt.{shown_range, no_newline, text_read}
 
 -- ---- lines
 
@@ -36,6 +38,10 @@ decimal_few n small = length-decimal-le 20 n (omega arith) (omega arith) small
 name_few : (r : RefName) → IsName r → length (name_text r) ≤ 21
 name_few (names.Own n) h = omega (arith, decimal_few n (omega arith))
 name_few (names.Kept n) h = omega (arith, decimal_few n (omega arith))
+
+at_few : (a : At) → IsAt a → length (at_text a) ≤ 20
+at_few at.Head h = omega arith
+at_few (at.Snap s) h = decimal_few s (omega arith)
 
 -- a snapshot's name has at most 32 bytes
 snap_name_few : (n : List ℕ) → is_name n ≡ true → length n ≤ 32
@@ -108,6 +114,9 @@ text_few (events.Grant f bits max) is fit =
 text_few (events.Revoke f bits) is fit = simp length-append (omega (arith, decimal_few f (omega arith), caps_few bits))
 text_few (events.Snap d name) is fit = simp length-append (omega (arith, decimal_few d (omega arith), snap_name_few name is.1))
 text_few events.Commit is fit = omega arith
+text_few (events.Show f a off len) is fit =
+    let range = shown_range off len fit in
+    simp length-append (omega (arith, decimal_few f (omega arith), at_few a is.1, decimal_few off (omega arith), decimal_few len (omega arith)))
 
 not_long : (t : List ℕ) → length t ≤ 4096 → is_long t ≡ false
 not_long t few = grind (arith, nat_tests)
@@ -126,6 +135,7 @@ not_skipped (events.Grant f bits max) = refl
 not_skipped (events.Revoke f bits) = refl
 not_skipped (events.Snap d name) = refl
 not_skipped events.Commit = refl
+not_skipped (events.Show f a off len) = refl
 
 -- ---- all lines
 

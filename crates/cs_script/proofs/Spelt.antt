@@ -1,9 +1,9 @@
 -- Each event that fits is read back from its words.
-use Rattle.std.proofs.Common.{◌≡◌, ◌∙◌, ap, refl, ℕ, ◌+◌, ◌^◌, ◌≤◌, ◌<◌, ◌==◌, Bool, true, false, ◌&&◌, nat_le, List, [], ◌∷◌, length, codes, decimal, arith, Ok, Err, append_assoc, if◌then◌else◌}
+use Rattle.std.proofs.Common.{◌≡◌, ◌∙◌, ap, refl, ℕ, ◌+◌, ◌^◌, ◌≤◌, ◌<◌, ◌==◌, Bool, true, false, ◌&&◌, nat_lt, nat_le, List, [], ◌∷◌, length, codes, decimal, arith, Ok, Err, append_assoc, if◌then◌else◌}
 use Rattle.std.specs.Prelude.{All}
 use Rattle.std.specs.List.{join_with_byte}
 use Rattle.std.specs.Str.{all_ascii_digits}
-use Rattle.std.proofs.lemmas.Bool.{and_parts, leb-true}
+use Rattle.std.proofs.lemmas.Bool.{and_parts, leb-true, ltb-true}
 use Rattle.std.proofs.lemmas.Bool.Decides.{nat_tests}
 use Rattle.std.proofs.lemmas.Fmt.{digits_decimal, digits_value-decimal}
 use Rattle.cs_ids.specs.Names.{is_name}
@@ -19,12 +19,14 @@ use Rattle.cs_laws.specs.declared.events.Event.{Event}
 use Rattle.cs_laws.specs.declared.events.Event.TheVariants as events
 use Rattle.cs_laws.specs.declared.events.RefName.{RefName}
 use Rattle.cs_laws.specs.declared.events.RefName.TheVariants as names
+use Rattle.cs_laws.specs.declared.objects.At.{At}
+use Rattle.cs_laws.specs.declared.objects.At.TheVariants as at
 use Rattle.cs_laws.specs.declared.faults.Kind.TheVariants as kinds
-use Rattle.cs_laws.specs.Fits.{fits, is_built, greatest_end, most_written}
-use Rattle.cs_laws.specs.Grammar.{Words, words_in, number_in, set_of, name_of, bytes_of, name_in, file_of, begin_of, end_of, write_of, check_of, flush_snaps_of, grant_of, revoke_of, snap_of, event_by, event_of}
-use Rattle.cs_laws.specs.Texts.{event_text, name_text}
-use Rattle.cs_script.specs.Spelling.{IsBytes, IsName, IsEvent}
-use Rattle.cs_script.proofs.Visible.{IsVisible, AreVisible, text_visible, words_joined, one_line, decimal_visible, name_visible, snap_name_visible, hex_visible, caps_visible}
+use Rattle.cs_laws.specs.Fits.{fits, is_built, is_shown, greatest_end, most_written, most_shown}
+use Rattle.cs_laws.specs.Grammar.{Words, words_in, number_in, set_of, name_of, bytes_of, name_in, at_in, file_of, begin_of, end_of, write_of, check_of, flush_snaps_of, grant_of, revoke_of, snap_of, show_of, event_by, event_of}
+use Rattle.cs_laws.specs.Texts.{event_text, name_text, at_text}
+use Rattle.cs_script.specs.Spelling.{IsBytes, IsName, IsAt, IsEvent}
+use Rattle.cs_script.proofs.Visible.{IsVisible, AreVisible, text_visible, words_joined, one_line, decimal_visible, name_visible, at_visible, snap_name_visible, hex_visible, caps_visible}
 use Rattle.cs_script.proofs.Written.{few_bytes}
 
 -- the word that names an event, and its fields
@@ -41,6 +43,7 @@ form_of (events.Grant f bits max) = codes "grant"
 form_of (events.Revoke f bits) = codes "revoke"
 form_of (events.Snap d name) = codes "snap"
 form_of events.Commit = codes "commit"
+form_of (events.Show f a off len) = codes "show"
 
 abbrev pub fields_of : Event → Words
 fields_of (events.File f p) = decimal f ∷ decimal p ∷ []
@@ -55,6 +58,7 @@ fields_of (events.Grant f bits max) = decimal f ∷ caps_text bits ∷ decimal m
 fields_of (events.Revoke f bits) = decimal f ∷ caps_text bits ∷ []
 fields_of (events.Snap d name) = decimal d ∷ name ∷ []
 fields_of events.Commit = []
+fields_of (events.Show f a off len) = decimal f ∷ at_text a ∷ decimal off ∷ decimal len ∷ []
 
 -- ---- the text is the words with spaces between them
 
@@ -71,6 +75,7 @@ joined (events.Grant f bits max) = simp append_assoc
 joined (events.Revoke f bits) = simp append_assoc
 joined (events.Snap d name) = simp append_assoc
 joined events.Commit = refl
+joined (events.Show f a off len) = simp append_assoc
 
 form_visible : (e : Event) → IsVisible (form_of e)
 form_visible (events.File f p) = text_visible (codes "file") refl
@@ -85,6 +90,14 @@ form_visible (events.Grant f bits max) = text_visible (codes "grant") refl
 form_visible (events.Revoke f bits) = text_visible (codes "revoke") refl
 form_visible (events.Snap d name) = text_visible (codes "snap") refl
 form_visible events.Commit = text_visible (codes "commit") refl
+form_visible (events.Show f a off len) = text_visible (codes "show") refl
+
+-- how much is shown, and from where
+pub shown_range : (off len : ℕ) → is_shown off len ≡ true → (off < greatest_end) × (1 ≤ len) × (len ≤ most_shown)
+shown_range off len fit =
+    let parts = and_parts (nat_lt off greatest_end) (nat_le 1 len && nat_le len most_shown) fit in
+    let range = and_parts (nat_le 1 len) (nat_le len most_shown) parts.1 in
+    (ltb-true off greatest_end parts.0, leb-true 1 len range.0, leb-true len most_shown range.1)
 
 fields_visible : (e : Event) → IsEvent e → fits e ≡ true → AreVisible (fields_of e)
 fields_visible (events.File f p) is fit = (decimal_visible f (omega arith), (decimal_visible p (omega arith), tt))
@@ -105,6 +118,9 @@ fields_visible (events.Grant f bits max) is fit =
 fields_visible (events.Revoke f bits) is fit = (decimal_visible f (omega arith), (caps_visible bits, tt))
 fields_visible (events.Snap d name) is fit = (decimal_visible d (omega arith), (snap_name_visible name is.1, tt))
 fields_visible events.Commit is fit = tt
+fields_visible (events.Show f a off len) is fit =
+    let range = shown_range off len fit in
+    (decimal_visible f (omega arith), (at_visible a is.1, (decimal_visible off (omega arith), (decimal_visible len (omega arith), tt))))
 
 -- the words of an event's text
 pub words_are : (e : Event) → IsEvent e → fits e ≡ true → words_in (event_text e) ≡ form_of e ∷ fields_of e
@@ -151,10 +167,21 @@ bytes_read bs bytes count =
 snap_name_read : (n : List ℕ) → is_name n ≡ true → name_in n ≡ Ok n
 snap_name_read n h = rw h refl
 
+-- digits don't begin with an `h`
+snap_read : (w : List ℕ) (s : ℕ) → all_ascii_digits w ≡ true → number_in 1 99999 w ≡ Ok s → at_in w ≡ Ok (at.Snap s)
+snap_read [] s digits h = cc h
+snap_read (c ∷ cs) s digits h =
+    let other : (c == 104) ≡ false = grind (arith, nat_tests) in
+    rw (other, h) refl
+
+at_read : (a : At) → IsAt a → at_in (at_text a) ≡ Ok a
+at_read at.Head h = refl
+at_read (at.Snap s) h = snap_read (decimal s) s (digits_decimal own s (omega arith)) (number_read 1 99999 s (omega arith) h.0 h.1)
+
 -- ---- each event is read from its words
 
 pub event_read : (e : Event) → IsEvent e → fits e ≡ true → event_of (form_of e ∷ fields_of e) ≡ Ok e
-unfolding event_of event_by file_of begin_of end_of write_of check_of flush_snaps_of grant_of revoke_of snap_of
+unfolding event_of event_by file_of begin_of end_of write_of check_of flush_snaps_of grant_of revoke_of snap_of show_of
 event_read (events.File f p) is fit =
     let range = and_parts (nat_le 2 f) (nat_le f 9999) fit in
     rw (number_read 2 9999 f (omega arith) (leb-true 2 f range.0) (leb-true f 9999 range.1), number_read 1 99999 p (omega arith) is.1.0 is.1.1) refl
@@ -190,6 +217,14 @@ event_read (events.Grant f bits max) is fit =
 event_read (events.Revoke f bits) is fit = rw (number_read 1 99999 f (omega arith) is.0 is.1, set_read bits fit) refl
 event_read (events.Snap d name) is fit = rw (number_read 1 99999 d (omega arith) is.0.0 is.0.1, snap_name_read name is.1) refl
 event_read events.Commit is fit = refl
+event_read (events.Show f a off len) is fit =
+    let range = shown_range off len fit in
+    rw (
+      number_read 1 99999 f (omega arith) is.0.0 is.0.1,
+      at_read a is.1,
+      number_read 0 1048575 off (omega arith) (omega arith) (omega arith),
+      number_read 1 most_shown len (omega arith) range.1 range.2,
+    ) refl
 
 -- each event that fits is read back from its text
 pub text_read : (e : Event) → IsEvent e → fits e ≡ true → event_of (words_in (event_text e)) ≡ Ok e

@@ -20,15 +20,17 @@ use Rattle.cs_laws.specs.declared.events.Event.{Event}
 use Rattle.cs_laws.specs.declared.events.Event.TheVariants as events
 use Rattle.cs_laws.specs.declared.events.RefName.{RefName}
 use Rattle.cs_laws.specs.declared.events.RefName.TheVariants as names
+use Rattle.cs_laws.specs.declared.objects.At.{At}
+use Rattle.cs_laws.specs.declared.objects.At.TheVariants as at
 use Rattle.cs_laws.specs.declared.faults.Kind.{Kind}
 use Rattle.cs_laws.specs.declared.faults.Kind.TheVariants as kinds
-use Rattle.cs_laws.specs.Fits.{fits, greatest_end}
-use Rattle.cs_laws.specs.Grammar.{Words, ◌>>=◌, words_in, number_in, number_at, set_of, set_at, name_of, name_at, bytes_of, bytes_at, only, file_of, begin_of, end_of, write_of, check_of, flush_snaps_of, grant_of, revoke_of, snap_of, is_later_word, event_by, event_of}
-use Rattle.cs_laws.specs.Texts.{event_text, name_text}
-use Rattle.cs_script.specs.Spelling.{IsBytes, IsName, IsEvent}
+use Rattle.cs_laws.specs.Fits.{fits, greatest_end, most_shown}
+use Rattle.cs_laws.specs.Grammar.{Words, ◌>>=◌, words_in, number_in, number_at, set_of, set_at, name_of, name_at, bytes_of, bytes_at, at_in, at_field, only, file_of, begin_of, end_of, write_of, check_of, flush_snaps_of, grant_of, revoke_of, snap_of, show_of, is_later_word, event_by, event_of}
+use Rattle.cs_laws.specs.Texts.{event_text, name_text, at_text}
+use Rattle.cs_script.specs.Spelling.{IsBytes, IsName, IsAt, IsEvent}
 use Rattle.cs_script.proofs.FieldFacts.{number_is, word_is, set_is, bytes_are, name_field_is, only_is}
 use Rattle.cs_script.proofs.Fitting.{event_fits}
-use Rattle.cs_script.proofs.FormFacts.{binds, file_is, begin_is, end_is, write_is, check_is, flush_snaps_is, grant_is, revoke_is, snap_is}
+use Rattle.cs_script.proofs.FormFacts.{binds, file_is, begin_is, end_is, write_is, check_is, flush_snaps_is, grant_is, revoke_is, snap_is, show_is}
 use Rattle.cs_script.proofs.Spelt.{form_of, fields_of, words_are, text_read}
 
 -- ---- each field's word is the field's one text
@@ -77,6 +79,24 @@ pub name_at_told : (i : ℕ) (ws : Words) (r : RefName) → name_at i ws ≡ Ok 
 name_at_told i ws r h =
     let w = word_is name_of (slice_get ws i) r h in
     let t = name_told w.word r w.reads in
+    (w.is ∙ ap Some (sym t.0), t.1)
+
+-- a snapshot's number, or the present, by whether it is the word `head`
+at_by : (b : Bool) (w : List ℕ) (a : At) → (b ≡ true → w ≡ codes "head")
+    → (if b then Ok at.Head else (number_in 1 99999 w >>= λ s. Ok (at.Snap s))) ≡ Ok a → (at_text a ≡ w) × IsAt a
+at_by true w a head h =
+    let e : a ≡ at.Head = cc h in
+    rw e (sym (head refl), tt)
+at_by false w a head h =
+    let s = binds (number_in 1 99999 w) (λ (s : ℕ). Ok (at.Snap s)) a h in
+    let t = number_told 1 99999 w s.value (omega arith) s.is in
+    let e : a ≡ at.Snap s.value = cc s.rest in
+    rw e t
+
+pub at_field_told : (i : ℕ) (ws : Words) (a : At) → at_field i ws ≡ Ok a → (slice_get ws i ≡ Some (at_text a)) × IsAt a
+at_field_told i ws a h =
+    let w = word_is at_in (slice_get ws i) a h in
+    let t = at_by (bytes_eq w.word (codes "head")) w.word a (bytes_eq-Decides w.word (codes "head")).0 w.reads in
     (w.is ∙ ap Some (sym t.0), t.1)
 
 hex_value_small : (c : ℕ) → is_hex_digit c ≡ true → hex_value c < 16
@@ -246,6 +266,19 @@ commit_tells ws first e h =
     let i = only_is 1 events.Commit e ws h in
     rw i.same (record { is = tt; words = words_told (codes "commit" ∷ []) ws (leb-true (length ws) 1 i.test) (first, tt) })
 
+show_tells : (ws : Words) → slice_get ws 0 ≡ Some (codes "show") → (e : Event) → show_of ws ≡ Ok e → Tells ws e
+show_tells ws first e h =
+    let i = show_is ws e h in
+    let f = number_at_told 1 1 99999 ws i.f (omega arith) i.file in
+    let a = at_field_told 2 ws i.a i.at in
+    let o = number_at_told 3 0 1048575 ws i.o (omega arith) i.off in
+    let n = number_at_told 4 1 most_shown ws i.n (omega arith) i.count in
+    rw i.is (record {
+      is = (f.1, a.1);
+      words = words_told (codes "show" ∷ fields_of (events.Show i.f i.a i.o i.n)) ws (leb-true (length ws) 5 i.few)
+          (first, (f.0, (a.0, (o.0, (n.0, tt)))));
+    })
+
 -- ---- all forms
 
 -- a reading that tells its event's words
@@ -280,7 +313,8 @@ event_by_tells ws w first =
     (named ws w (codes "revoke") _ _ first (revoke_tells ws)
     (named ws w (codes "snap") _ _ first (snap_tells ws)
     (named ws w (codes "commit") _ _ first (commit_tells ws)
-    (not_told ws (is_later_word w)))))))))))))
+    (named ws w (codes "show") _ _ first (show_tells ws)
+    (not_told ws (is_later_word w))))))))))))))
 
 event_tells : (ws : Words) → Telling ws (event_of ws)
 unfolding event_of

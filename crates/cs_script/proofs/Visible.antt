@@ -1,5 +1,5 @@
 -- Each byte of a word is above the space, so that splitting a line at its spaces gives its words.
-use Rattle.std.proofs.Common.{◌≡◌, ◌∙◌, ap, refl, ℕ, ◌/◌, ◌%◌, ◌^◌, ◌<◌, ◌==◌, Bool, true, false, cond, ◌&&◌, List, [], ◌∷◌, ◌++◌, length, map, filter, decimal, arith, nat_lt, nat_le, lit<, ◌≢◌}
+use Rattle.std.proofs.Common.{◌≡◌, ◌∙◌, ap, refl, ℕ, ◌/◌, ◌%◌, ◌^◌, ◌<◌, ◌==◌, Bool, true, false, cond, ◌&&◌, List, [], ◌∷◌, ◌++◌, length, map, filter, codes, decimal, arith, nat_lt, nat_le, lit<, ◌≢◌}
 use Rattle.std.specs.Prelude.{All}
 use Rattle.std.specs.List.{join_with_byte, list_all}
 use Rattle.std.specs.Str.{all_ascii_digits}
@@ -15,9 +15,11 @@ use Rattle.cs_text.specs.Hex.{hex_text, hex_digit}
 use Rattle.cs_text.proofs.Decimals.{own}
 use Rattle.cs_laws.specs.declared.events.RefName.{RefName}
 use Rattle.cs_laws.specs.declared.events.RefName.TheVariants as names
+use Rattle.cs_laws.specs.declared.objects.At.{At}
+use Rattle.cs_laws.specs.declared.objects.At.TheVariants as at
 use Rattle.cs_laws.specs.Grammar.{Words, words_in}
-use Rattle.cs_laws.specs.Texts.{name_text}
-use Rattle.cs_script.specs.Spelling.{IsName}
+use Rattle.cs_laws.specs.Texts.{name_text, at_text}
+use Rattle.cs_script.specs.Spelling.{IsName, IsAt}
 
 -- each byte of the word is above the space
 pub record IsVisible (w : List ℕ) : Type 0 where
@@ -76,6 +78,10 @@ decimal_visible n small = digits_visible (decimal n) (digits_decimal own n small
 pub name_visible : (r : RefName) → IsName r → IsVisible (name_text r)
 name_visible (names.Own n) h = decimal_visible n (omega arith)
 name_visible (names.Kept n) h = visible-cons 103 (decimal n) (omega arith) (decimal_visible n (omega arith))
+
+pub at_visible : (a : At) → IsAt a → IsVisible (at_text a)
+at_visible at.Head h = text_visible (codes "head") refl
+at_visible (at.Snap s) h = decimal_visible s (omega arith)
 
 -- ---- names of snapshots
 

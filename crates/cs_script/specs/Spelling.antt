@@ -6,6 +6,8 @@ use Rattle.cs_laws.specs.declared.events.Event.{Event}
 use Rattle.cs_laws.specs.declared.events.Event.TheVariants as events
 use Rattle.cs_laws.specs.declared.events.RefName.{RefName}
 use Rattle.cs_laws.specs.declared.events.RefName.TheVariants as names
+use Rattle.cs_laws.specs.declared.objects.At.{At}
+use Rattle.cs_laws.specs.declared.objects.At.TheVariants as at
 use Rattle.cs_laws.specs.Grammar.{in_time, is_setup, script_header}
 use Rattle.cs_laws.specs.Texts.{event_text}
 
@@ -18,6 +20,11 @@ IsCaller n = IsIn 0 32 n
 abbrev pub IsName : RefName → Type 0
 IsName (names.Own n) = IsIn 0 99999 n
 IsName (names.Kept n) = IsIn 0 99999 n
+
+-- the first snapshot is number 1
+abbrev pub IsAt : At → Type 0
+IsAt at.Head = Unit {0}
+IsAt (at.Snap s) = IsIn 1 99999 s
 
 abbrev pub IsBytes : List ℕ → Type 0
 IsBytes bs = All (λ b. b < 256) bs
@@ -36,6 +43,7 @@ IsEvent (events.Grant f bits max) = IsIno f
 IsEvent (events.Revoke f bits) = IsIno f
 IsEvent (events.Snap d name) = IsIno d × (is_name name ≡ true)
 IsEvent events.Commit = Unit {0}
+IsEvent (events.Show f a off len) = IsIno f × IsAt a
 
 -- a line for each event, with its newline
 abbrev pub lines_of : List Event → List ℕ

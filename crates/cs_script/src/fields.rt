@@ -1,13 +1,13 @@
 // The fields of a line, each at its place among the words.
 ghost use Rattle.std.specs.Prelude.{◌≡◌, ◌≤◌, Some};
-ghost use Rattle.cs_laws.specs.Fits.{greatest_end};
-ghost use Rattle.cs_laws.specs.Grammar.{number_in, number_at, set_at, name_at, name_of, bytes_of, bytes_at, name_field, only, ends_in_file};
+ghost use Rattle.cs_laws.specs.Fits.{greatest_end, most_shown};
+ghost use Rattle.cs_laws.specs.Grammar.{number_in, number_at, set_at, name_at, name_of, bytes_of, bytes_at, name_field, at_in, at_field, only, ends_in_file};
 ghost use Rattle.cs_script.specs.Reading.{Gives, Spells, texts};
 
 use crate::line_fault::LineFault;
 use cs_bits::Caps;
-use cs_ids::{Bytes, Caller, Ino, Name, RefNo, is_name};
-use cs_laws::{Event, Kind, RefName, is_built};
+use cs_ids::{Bytes, Caller, Ino, Name, RefNo, Snap, is_name};
+use cs_laws::{At, Event, Kind, RefName, is_built};
 use cs_text::{Dec, read_dec, read_hex};
 use std::alloc::Global;
 
@@ -56,6 +56,13 @@ pub fn off_at(words: &[&[u8]], i: usize) -> Result<u32, Kind>
     ensures { Gives (λ x. x) result (number_at i 0 1048575 (texts words.now)) }
 {
     let value = number_at(words, i, 0, 1_048_575)?;
+    Ok(value as u32)
+}
+
+pub fn len_at(words: &[&[u8]], i: usize) -> Result<u32, Kind>
+    ensures { Gives (λ x. x) result (number_at i 1 most_shown (texts words.now)) }
+{
+    let value = number_at(words, i, 1, 4096)?;
     Ok(value as u32)
 }
 
@@ -129,11 +136,33 @@ pub fn name_field(alloc: Global, words: &[&[u8]], i: usize) -> Result<Name, Line
     }
 }
 
+fn at_from(word: &[u8]) -> Result<At, Kind>
+    ensures { Gives (λ a. a) result (at_in word.now) }
+{
+    if word == b"head".as_slice() {
+        Ok(At::Head)
+    } else {
+        let value = number_of(word, 1, 99_999)?;
+        Ok(At::Snap(Snap::new(value).ok_or(Kind::Range)?))
+    }
+}
+
+/// A snapshot, or the present.
+pub fn at_field(words: &[&[u8]], i: usize) -> Result<At, Kind>
+    ensures { Gives (λ x. x) result (at_field i (texts words.now)) }
+{
+    match words.get(i) {
+        Some(word) => at_from(word),
+        None => Err(Kind::Word),
+    }
+}
+
 /// The event, unless there are more than `count` words.
 pub fn only(count: usize, event: Event, words: &[&[u8]]) -> Result<Event, LineFault>
     ensures { Spells result (only count event (texts words.now)) }
 {
     let _told: Option<RefName> = None;
+    let _at: Option<At> = None;
     if words.len() <= count {
         Ok(event)
     } else {
@@ -146,6 +175,7 @@ pub fn ends_in_file(off: u32, count: usize, event: Event) -> Result<Event, LineF
     ensures { Spells result (ends_in_file off count event) }
 {
     let _told: Option<RefName> = None;
+    let _at: Option<At> = None;
     if count.saturating_add(off as usize) <= 1_048_576 {
         Ok(event)
     } else {

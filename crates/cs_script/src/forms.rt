@@ -1,13 +1,14 @@
 // The forms of events, each by the fields behind its first word.
 ghost use Rattle.std.specs.Prelude.{◌≡◌};
-ghost use Rattle.cs_laws.specs.Grammar.{event_by, file_of, begin_of, end_of, write_of, check_of, flush_snaps_of, grant_of, revoke_of, snap_of, event_of, is_later_word, is_later_caller_word, is_later_client_word, is_later_server_word};
+ghost use Rattle.cs_laws.specs.Grammar.{event_by, file_of, begin_of, end_of, write_of, check_of, flush_snaps_of, grant_of, revoke_of, snap_of, show_of, event_of, is_later_word, is_later_caller_word, is_later_client_word, is_later_server_word};
 ghost use Rattle.cs_script.specs.Reading.{Spells, texts};
 
 use crate::fields::{
-    bytes_at, caller_at, end_at, ends_in_file, ino_at, name_at, name_field, off_at, only, set_at,
+    at_field, bytes_at, caller_at, end_at, ends_in_file, ino_at, len_at, name_at, name_field,
+    off_at, only, set_at,
 };
 use crate::line_fault::LineFault;
-use cs_laws::{Event, Kind, RefName};
+use cs_laws::{At, Event, Kind, RefName};
 use std::alloc::Global;
 
 #[tactic(auto, unfolding(cs_laws::specs::Grammar::file_of))]
@@ -53,6 +54,7 @@ fn write_from(alloc: Global, words: &[&[u8]]) -> Result<Event, LineFault>
     ensures { Spells result (write_of (texts words.now)) }
 {
     let _told: Option<RefName> = None;
+    let _at: Option<At> = None;
     let caller = caller_at(words, 1)?;
     let name = name_at(words, 2)?;
     let off = off_at(words, 3)?;
@@ -115,6 +117,18 @@ fn snap_from(alloc: Global, words: &[&[u8]]) -> Result<Event, LineFault>
     only(3, Event::Snap { dir, name }, words)
 }
 
+#[tactic(auto, unfolding(cs_laws::specs::Grammar::show_of))]
+fn show_from(words: &[&[u8]]) -> Result<Event, LineFault>
+    ensures { Spells result (show_of (texts words.now)) }
+{
+    let _at: Option<At> = None;
+    let file = ino_at(words, 1, 1, 99_999)?;
+    let at = at_field(words, 2)?;
+    let off = off_at(words, 3)?;
+    let len = len_at(words, 4)?;
+    only(5, Event::Show { file, at, off, len }, words)
+}
+
 fn is_later_caller_word(word: &[u8]) -> bool
     ensures { result ≡ is_later_caller_word word.now }
 {
@@ -123,7 +137,6 @@ fn is_later_caller_word(word: &[u8]) -> bool
         || word == b"lookup".as_slice()
         || word == b"req".as_slice()
         || word == b"clock".as_slice()
-        || word == b"show".as_slice()
         || word == b"names".as_slice()
 }
 
@@ -184,6 +197,8 @@ fn event_by(alloc: Global, word: &[u8], words: &[&[u8]]) -> Result<Event, LineFa
         snap_from(alloc, words)
     } else if word == b"commit".as_slice() {
         only(1, Event::Commit, words)
+    } else if word == b"show".as_slice() {
+        show_from(words)
     } else if is_later_word(word) {
         Err(LineFault::Kind(Kind::NotBuilt))
     } else {

@@ -33,9 +33,9 @@ fn a_script_is_read_and_printed(rt: HostRuntime) -> Result<(), Fail> {
     Ok(())
 }
 
-// The events of snapshots, a line for each. The name has all kinds of bytes, and 32 of them.
+// The events of snapshots, a line for each, and what is shown. The name has all kinds of bytes, and 32 of them.
 const SNAPSHOTS: &[u8] =
-    b"ceph-script 1\nflushsnaps 99999\ntomds\nsnap 1 0-to_9.of-32-bytes-abcdefghijklm\ncommit\n";
+    b"ceph-script 1\nflushsnaps 99999\ntomds\nsnap 1 0-to_9.of-32-bytes-abcdefghijklm\ncommit\nshow 1 head 0 1\nshow 99999 99999 1048575 4096\n";
 
 #[test]
 fn the_events_of_snapshots_are_read_and_printed(rt: HostRuntime) -> Result<(), Fail> {
@@ -45,7 +45,7 @@ fn the_events_of_snapshots_are_read_and_printed(rt: HostRuntime) -> Result<(), F
         print_event(event, &mut out)?;
         out.append(b"\n")?;
     }
-    assert_eq!(rt; script.len(), 4);
+    assert_eq!(rt; script.len(), 6);
     assert_eq!(rt; out.as_slice(), SNAPSHOTS);
     Ok(())
 }
@@ -98,6 +98,21 @@ fn a_bad_line_is_told_with_its_kind(rt: HostRuntime) -> Result<(), Fail> {
         ("snap 1 a/b", Kind::Word),
         ("snap 1 abcdefghijklmnopqrstuvwxyz0123456", Kind::Word),
         ("snap 1 a b", Kind::Extra),
+        ("show 0 head 0 1", Kind::Range),
+        ("show head head 0 1", Kind::Number),
+        ("show 100", Kind::Word),
+        ("show 100 ", Kind::Number),
+        ("show 100 heads 0 1", Kind::Number),
+        ("show 100 01 0 1", Kind::Number),
+        ("show 100 0 0 1", Kind::Range),
+        ("show 100 100000 0 1", Kind::Range),
+        ("show 100 head", Kind::Word),
+        ("show 100 head 1048576 1", Kind::Range),
+        ("show 100 head 0", Kind::Word),
+        ("show 100 head 0 0", Kind::Range),
+        ("show 100 head 0 4097", Kind::Range),
+        ("show 100 head 0 1 1", Kind::Extra),
+        ("names", Kind::NotBuilt),
     ] {
         assert_eq!(rt; kind_of(rt.alloc(), line.as_bytes())?, Some(kind), "{line}");
     }

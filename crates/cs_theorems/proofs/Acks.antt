@@ -1,6 +1,6 @@
 -- What is acknowledged is durable: each acknowledgement of a flush, told or on its way, is of a durable record.
-use Rattle.std.proofs.Common.{◌≡◌, refl, sym, ℕ, Bool, true, cond, ◌==◌, ◌&&◌, ◌||◌, List, [], ◌∷◌, ◌++◌, append_assoc, inl, ⊎_elim, subst}
-use Rattle.std.proofs.lemmas.Bool.{and_parts, eqb-true, eq-eqb, or_cases, true≢false}
+use Rattle.std.proofs.Common.{◌≡◌, refl, sym, ℕ, Bool, true, cond, ◌==◌, ◌&&◌, List, [], ◌∷◌, ◌++◌, append_assoc, inl, subst}
+use Rattle.std.proofs.lemmas.Bool.{and_parts, cond_both, eqb-true, eq-eqb, true≢false}
 use Rattle.cs_bits.specs.declared.Caps.{Caps}
 use Rattle.cs_snapctx.specs.declared.realm.RealmRecord.{RealmRecord}
 use Rattle.cs_parts.specs.Capabilities.{granted, revoked}
@@ -15,13 +15,16 @@ use Rattle.cs_laws.specs.declared.records.RecordBody.{RecordBody}
 use Rattle.cs_laws.specs.declared.records.RecordBody.TheVariants as bodies
 use Rattle.cs_laws.specs.Context.{empty_root}
 use Rattle.cs_laws.specs.Flight.{cap_message}
+use Rattle.cs_laws.specs.Flushes.{acked}
 use Rattle.cs_laws.specs.History.{server, to_client, durable, fresh}
 use Rattle.cs_laws.specs.Journal.{entry, history, journal}
 use Rattle.cs_laws.specs.Standing.{realm_then, realm_after, told_of, told}
-use Rattle.cs_theorems.specs.Flushes.{tids, acked}
+use Rattle.cs_theorems.specs.Flushes.{tids}
+use Rattle.cs_theorems.specs.Runs.{IsRun}
 use Rattle.cs_theorems.proofs.Listed.{Member, Each, each_nil, each_cons, each_append, each_end, each_tail, member_left, member_right}
 use Rattle.cs_theorems.proofs.Rising.{at_first}
 use Rattle.cs_theorems.proofs.Chains.{tids_append}
+use Rattle.cs_theorems.proofs.Runs.{of_run}
 use Rattle.cs_theorems.proofs.Inversions.{FirstIs, first_idle, first_cap, first_flush_ack, first_snap, first_is, GrantIs, grant_unknown, grant_sent, grant_is, revoke_is}
 
 -- an acknowledgement of a flush is of one among these records
@@ -66,16 +69,15 @@ acks_taken : (f : ℕ) (ds : List Record) (q : List Message) (was : ℕ → Bool
 acks_taken f ds q was m i = record { flying = each_tail (λ k. AckStands ds k) m q i.flying; told = i.told }
 
 acks_told : (f g t : ℕ) (ds : List Record) (q : List Message) (was : ℕ → Bool) → Acks f ds (messages.FlushAck g t ∷ q) was
-    → Acks f ds q (λ n. ((g == f) && (t == n)) || was n)
+    → Acks f ds q (λ n. cond ((g == f) && (t == n)) true (was n))
 acks_told f g t ds q was i =
     let first : Member t (tids g ds) = i.flying (messages.FlushAck g t) (inl refl) in
     record {
       flying = each_tail (λ k. AckStands ds k) (messages.FlushAck g t) q i.flying;
-      told = λ n is. ⊎_elim
-          (λ now. let same = and_parts (g == f) (t == n) now in
+      told = λ n. cond_both ((g == f) && (t == n)) true (was n) (λ k. k ≡ true → Member n (tids f ds))
+          (λ both _. let same = and_parts (g == f) (t == n) both in
           subst (λ k. Member k (tids f ds)) (eqb-true t n same.1) (subst (λ k. Member t (tids k ds)) (eqb-true g f same.0) first))
-          (λ before. i.told n before)
-          (or_cases ((g == f) && (t == n)) (was n) is);
+          (λ _. i.told n);
     }
 
 acks_commit : (f : ℕ) (ds fs : List Record) (q : List Message) (was : ℕ → Bool) (root : RealmRecord) → Acks f ds q was
@@ -112,14 +114,14 @@ step_to_client h x (first_cap g seq bits end q is) i = λ f.
     (λ j. acks_taken f (durable h) q was (messages.Cap g seq bits end) j) (i f)
 step_to_client h x (first_flush_ack g tid q is) i = λ f.
     let was : ℕ → Bool = λ n. acked h f n in
-    at_first (λ p. Left h f was p) (λ p. Left h f (λ n. ((g == f) && (tid == n)) || was n) p) (messages.FlushAck g tid) q (to_client h) is
+    at_first (λ p. Left h f was p) (λ p. Left h f (λ n. cond ((g == f) && (tid == n)) true (was n)) p) (messages.FlushAck g tid) q (to_client h) is
     (λ j. acks_told f g tid (durable h) q was j) (i f)
 step_to_client h x (first_snap number realm realms q is) i = λ f.
     let was : ℕ → Bool = λ n. acked h f n in
     at_first (λ p. Left h f was p) (λ p. Left h f was p) (messages.Snap number realm realms) q (to_client h) is
     (λ j. acks_taken f (durable h) q was (messages.Snap number realm realms) j) (i f)
 
-acked_step : (p : ℕ) (h : List Entry) (x : Event) → AllAcked h → AllAcked (entry p h x ∷ h)
+pub acked_step : (p : ℕ) (h : List Entry) (x : Event) → AllAcked h → AllAcked (entry p h x ∷ h)
 acked_step p h (e.Grant g bits end) i = step_grant h g bits end _ (grant_is h g bits end) i
 acked_step p h (e.Revoke g bits) i = step_revoke h g bits _ (revoke_is h g bits) i
 acked_step p h e.ToClient i = step_to_client h _ (first_is h) i
@@ -131,5 +133,11 @@ acked_steps : (p : ℕ) (es : List Event) (h : List Entry) → AllAcked h → Al
 acked_steps p [] h i = i
 acked_steps p (x ∷ es) h i = acked_steps p es (entry p h x ∷ h) (acked_step p h x i)
 
+pub acked_first : AllAcked []
+acked_first f = record { flying = each_nil (λ m. AckStands [] m); told = λ n is. absurd (true≢false (sym is)) }
+
 pub all_acked : (p : ℕ) (es : List Event) → AllAcked (journal p es)
-all_acked p es = acked_steps p es [] (λ f. record { flying = each_nil (λ m. AckStands [] m); told = λ n is. absurd (true≢false (sym is)) })
+all_acked p es = acked_steps p es [] acked_first
+
+pub run_acked : (p : ℕ) (h : List Entry) → IsRun p h → AllAcked h
+run_acked p h run = of_run p AllAcked acked_first (λ g x fit before i. acked_step p g x i) h run

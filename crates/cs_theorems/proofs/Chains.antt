@@ -15,7 +15,9 @@ use Rattle.cs_laws.specs.History.{to_server, durable, fresh, stand, writes, queu
 use Rattle.cs_laws.specs.Journal.{entry, history, journal}
 use Rattle.cs_laws.specs.Standing.{recorded}
 use Rattle.cs_theorems.specs.Flushes.{tid_of, tids}
+use Rattle.cs_theorems.specs.Runs.{IsRun}
 use Rattle.cs_theorems.proofs.Rising.{RisesTo, rises_end, rises_more, at_first}
+use Rattle.cs_theorems.proofs.Runs.{of_run}
 use Rattle.cs_theorems.proofs.Inversions.{CheckIs, check_unknown, check_nothing, check_hold, check_ack, check_is, FlushSnapsIs, flush_unknown, flush_none, flush_writing, flush_sent, flush_snaps_is, ReceivedIs, received_idle, received_ack, received_flush, received_is, SnapIs, snap_unknown, snap_exists, snap_taken, snap_is}
 
 -- the number of a message that is a flush of the file, alone
@@ -110,7 +112,7 @@ step_snap h d name x snap_unknown i = i
 step_snap h d name x snap_exists i = i
 step_snap h d name x (snap_taken directory free) i = λ f. chain_moved f (durable h) (fresh h) _ (to_server h) (to_server h) (length (sent h)) refl (i f)
 
-rise_step : (p : ℕ) (h : List Entry) (x : Event) → AllRise h → AllRise (entry p h x ∷ h)
+pub rise_step : (p : ℕ) (h : List Entry) (x : Event) → AllRise h → AllRise (entry p h x ∷ h)
 rise_step p h (e.Check g) i = step_check h g _ (check_is h g) i
 rise_step p h (e.FlushSnaps g) i = step_flush_snaps h g _ (flush_snaps_is h g) i
 rise_step p h e.ToMds i = step_to_server h _ (received_is h) i
@@ -122,5 +124,11 @@ rise_steps : (p : ℕ) (es : List Event) (h : List Entry) → AllRise h → AllR
 rise_steps p [] h i = i
 rise_steps p (x ∷ es) h i = rise_steps p es (entry p h x ∷ h) (rise_step p h x i)
 
+pub rise_first : AllRise []
+rise_first f = record { rises = omega arith }
+
 pub all_rise : (p : ℕ) (es : List Event) → AllRise (journal p es)
-all_rise p es = rise_steps p es [] (λ f. record { rises = omega arith })
+all_rise p es = rise_steps p es [] rise_first
+
+pub run_rise : (p : ℕ) (h : List Entry) → IsRun p h → AllRise h
+run_rise p h run = of_run p AllRise rise_first (λ g x fit before i. rise_step p g x i) h run

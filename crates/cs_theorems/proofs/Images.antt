@@ -16,15 +16,15 @@ use Rattle.cs_laws.specs.declared.objects.At.TheVariants as at
 use Rattle.cs_laws.specs.declared.objects.ObjOp.{ObjOp}
 use Rattle.cs_laws.specs.Events.{clock}
 use Rattle.cs_laws.specs.History.{live, writes}
-use Rattle.cs_laws.specs.Image.{Write, byte_over, image}
-use Rattle.cs_laws.specs.Journal.{history, journal, entry}
+use Rattle.cs_laws.specs.Image.{Write, byte_over, image, older}
+use Rattle.cs_laws.specs.Journal.{entry}
 use Rattle.cs_laws.specs.Objects.{all_below, before, byte_of, object, same_object}
 use Rattle.cs_laws.specs.Operations.{applied, begun_under, operations, operations_drawn, written_on}
 use Rattle.cs_laws.specs.Writes.{with_write}
-use Rattle.cs_theorems.specs.Contents.{ObjectsHoldWrites, older}
+use Rattle.cs_theorems.specs.Contents.{ObjectsHoldWrites}
 use Rattle.cs_theorems.specs.Order.{TagsFall}
 use Rattle.cs_theorems.specs.Snapshots.{TagsAreOfTheBegin}
-use Rattle.cs_theorems.proofs.Course.{Course, course, course_first, course_step}
+use Rattle.cs_theorems.proofs.Course.{Course}
 use Rattle.cs_theorems.proofs.Inversions.{WriteIs, write_unknown, write_no_bit, write_past, wrote, write_is}
 use Rattle.cs_theorems.proofs.Listed.{Each, each_nil, each_cons, each_append, each_reverse, each_tail}
 use Rattle.cs_theorems.proofs.Pieces.{object_append, pieces_over}
@@ -163,25 +163,18 @@ holds_write h c name off bytes x (wrote r is may) shares i = λ f p j small.
     (holds_written f p j (operations_drawn h + 1) off bytes (clock h) r (begun_under h r.caller r.number) (writes h f) (applied h) small
     (shares r (named_is c name r (live h) is).1).0 (i f p j small))
 
-holds_step : (p : ℕ) (h : List Entry) (x : Event) → TagsAreOfTheBegin h → HoldsAt h → HoldsAt (entry p h x ∷ h)
+pub holds_step : (p : ℕ) (h : List Entry) (x : Event) → TagsAreOfTheBegin h → HoldsAt h → HoldsAt (entry p h x ∷ h)
 holds_step p h (e.Write c name off bytes) shares i = holds_write h c name off bytes _ (write_is h c name off bytes) shares i
 holds_step p h _ shares i = i
 
-holds_steps : (p : ℕ) (es : List Event) (h : List Entry) → Course h → HoldsAt h → HoldsAt (history p h es)
-holds_steps p [] h c i = i
-holds_steps p (x ∷ es) h c i = holds_steps p es (entry p h x ∷ h) (course_step p h x c) (holds_step p h x c.shares i)
-
-pub holds : (p : ℕ) (es : List Event) → HoldsAt (journal p es)
-holds p es = holds_steps p es [] course_first (λ f q j small. refl)
+pub holds_first : HoldsAt []
+holds_first f p j small = refl
 
 -- Contents
 
-contents_of : (h : List Entry) → Course h → HoldsAt h → ObjectsHoldWrites h
+pub contents_of : (h : List Entry) → Course h → HoldsAt h → ObjectsHoldWrites h
 contents_of h c i at.Head f k =
     bytes_are _ _ (writes h f) _ (i f (k / OBJECT_SIZE) (k % OBJECT_SIZE) (omega arith)) ∙ ap (λ n. image (writes h f) n) (omega arith)
 contents_of h c i (at.Snap s) f k =
     bytes_are _ _ (older s (writes h f)) _ (before_are _ _ s (writes h f) _ (i f (k / OBJECT_SIZE) (k % OBJECT_SIZE) (omega arith)) (c.order.1 f).tags.fall)
     ∙ ap (λ n. image (older s (writes h f)) n) (omega arith)
-
-pub hold_writes : (p : ℕ) (es : List Event) → ObjectsHoldWrites (journal p es)
-hold_writes p es = contents_of (journal p es) (course p es) (holds p es)

@@ -1,13 +1,14 @@
 -- The first law of flushes: those of a file stand in the order of their numbers, and each that was acked once.
-use Rattle.std.proofs.Common.{◌≡◌, refl, sym, ℕ, Bool, true, false, ◌==◌, ◌&&◌, ◌||◌, List, [], ◌∷◌, ◌++◌, subst}
+use Rattle.std.proofs.Common.{◌≡◌, refl, sym, ℕ, Bool, true, false, cond, ◌==◌, ◌&&◌, List, [], ◌∷◌, ◌++◌, subst}
 use Rattle.cs_laws.specs.declared.events.Event.{Event}
 use Rattle.cs_laws.specs.declared.events.Event.TheVariants as e
 use Rattle.cs_laws.specs.declared.answers.Answer.{Answer}
 use Rattle.cs_laws.specs.declared.answers.Answer.TheVariants as a
 use Rattle.cs_laws.specs.declared.answers.Entry.{Entry}
+use Rattle.cs_laws.specs.Flushes.{acked, acked_then}
 use Rattle.cs_laws.specs.History.{to_server, durable, fresh, stand}
 use Rattle.cs_laws.specs.Journal.{entry, history, journal}
-use Rattle.cs_theorems.specs.Flushes.{tids, acked, acked_then, AckedStandOnce, FlushesStandOnce}
+use Rattle.cs_theorems.specs.Flushes.{tids, AckedStandOnce, FlushesStandOnce}
 use Rattle.cs_theorems.specs.Lists.{RisesFrom}
 use Rattle.cs_theorems.proofs.Listed.{Member, member_left}
 use Rattle.cs_theorems.proofs.Numbers.{times_once}
@@ -15,7 +16,7 @@ use Rattle.cs_theorems.proofs.Rising.{rises_front}
 use Rattle.cs_theorems.proofs.Chains.{AllRise, all_rise, flight, tids_append}
 use Rattle.cs_theorems.proofs.Acks.{AllAcked, all_acked}
 
-still : (b was : Bool) → was ≡ true → (b || was) ≡ true
+still : (b was : Bool) → was ≡ true → cond b true was ≡ true
 still true was is = refl
 still false was is = is
 

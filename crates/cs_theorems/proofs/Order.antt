@@ -1,5 +1,5 @@
 -- After each event the references, the tags and the cap snaps of every file stand in order.
-use Rattle.std.proofs.Common.{◌≡◌, refl, sym, ℕ, ◌+◌, ◌<◌, ◌≤◌, true, false, cond, not, ◌&&◌, ◌||◌, ◌==◌, nat_eq, List, [], ◌∷◌, ◌++◌, drop, Some, arith, inl, inr, ⊎_elim, subst}
+use Rattle.std.proofs.Common.{◌≡◌, refl, sym, ℕ, ◌+◌, ◌<◌, ◌≤◌, true, false, cond, not, ◌&&◌, ◌||◌, ◌==◌, nat_eq, List, [], ◌∷◌, ◌++◌, drop, Some, arith, inl, inr, ◌⊎◌, ⊎_elim, subst}
 use Rattle.std.specs.Cmp.Lexicographic.{pointwise}
 use Rattle.std.proofs.lemmas.Bool.{cond_both, and_cases, and_from, and_left, and_parts, or_parts, both_ways, eq-eqb, eqb-true, ne_eqb, not-false, not-true, not_from_false}
 use Rattle.cs_bits.specs.declared.Caps.{Caps}
@@ -55,19 +55,33 @@ seqs_differ a b up =
     not_from_false (nat_eq a.seq b.seq && pointwise nat_eq a.snaps b.snaps)
     (and_left (nat_eq a.seq b.seq) (pointwise nat_eq a.snaps b.snaps) (ne_eqb a.seq b.seq (λ same. omega arith)))
 
--- why no cap snap is made
+-- why no cap snap is made: one is writing, or nothing of the file is left to flush
+pub why_none : (f : ℕ) (old new : Context) (rs : List Live) (d : Caps) (xs : List CapSnap) → old.seq < new.seq → makes f old new rs d xs ≡ false
+    → (is_writing rs xs ≡ true) ⊎ ((has_writer f rs ≡ false) × (is_empty d ≡ true))
+why_none f old new rs d xs up none =
+    ⊎_elim
+    (λ free. ⊎_elim
+    (λ alike. absurd (both_ways (differs old new) alike (seqs_differ old new up)))
+    (λ writing. inl (not-false (is_writing rs xs) writing))
+    (and_cases (differs old new) (not (is_writing rs xs)) free))
+    (λ idle. let parts = or_parts (has_writer f rs) (not (is_empty d)) idle in inr (parts.0, not-false (is_empty d) parts.1))
+    (and_cases (differs old new && not (is_writing rs xs)) (has_writer f rs || not (is_empty d)) none)
+
+-- where one is writing, a writer is older than it
+abbrev pub Written : ℕ → List Live → List CapSnap → Type 0
+Written f rs xs = (x : CapSnap) × Member x xs × HasOlder f x.follows rs
+
+pub written_on : (f : ℕ) (n : ℕ → ℕ) (rs : List Live) (xs : List CapSnap) → Opens f n rs xs → is_writing rs xs ≡ true → Written f rs xs
+written_on f n rs xs i writing =
+    let some = any_some (is_open rs) xs writing in (some.0, some.1, open_has f n rs xs some.0 i some.1 some.2)
+
 unmade : (f : ℕ) (n : ℕ → ℕ) (old new : Context) (rs : List Live) (d : Caps) (xs : List CapSnap) → old.seq < new.seq → Opens f n rs xs
     → makes f old new rs d xs ≡ false → Unmade f rs xs
 unmade f n old new rs d xs up i none =
     ⊎_elim
-    (λ free. ⊎_elim
-    (λ alike. absurd (both_ways (differs old new) alike (seqs_differ old new up)))
-    (λ writing. let some = any_some (is_open rs) xs (not-false (is_writing rs xs) writing) in
-    inl (some.0, some.1, open_has f n rs xs some.0 i some.1 some.2))
-    (and_cases (differs old new) (not (is_writing rs xs)) free))
-    (λ idle. inr (λ r m writer. both_ways (is_writer_of f r)
-    (any_none (is_writer_of f) rs (or_parts (has_writer f rs) (not (is_empty d)) idle).0 r m) writer))
-    (and_cases (differs old new && not (is_writing rs xs)) (has_writer f rs || not (is_empty d)) none)
+    (λ writing. inl (written_on f n rs xs i writing))
+    (λ idle. inr (λ r m writer. both_ways (is_writer_of f r) (any_none (is_writer_of f) rs idle.0 r m) writer))
+    (why_none f old new rs d xs up none)
 
 -- where one is made none is writing
 made_free : (f : ℕ) (old new : Context) (rs : List Live) (d : Caps) (xs : List CapSnap) → makes f old new rs d xs ≡ true → is_writing rs xs ≡ false

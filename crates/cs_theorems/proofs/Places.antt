@@ -164,7 +164,7 @@ step_snap h d name x (snap_taken directory free) i =
     subst (λ rs. Places (sent h) (to_server h) rs) (append_assoc (durable h) (fresh h) _)
     (places_snap (sent h) (to_server h) (stand h) (greatest_snap (stand h) + 1) d name i)
 
-place_step : (p : ℕ) (h : List Entry) (x : Event) → AllPlaced h → AllPlaced (entry p h x ∷ h)
+pub place_step : (p : ℕ) (h : List Entry) (x : Event) → AllPlaced h → AllPlaced (entry p h x ∷ h)
 place_step p h (e.Check g) i = step_check h g _ (check_is h g) i
 place_step p h (e.FlushSnaps g) i = step_flush_snaps h g _ (flush_snaps_is h g) i
 place_step p h e.ToMds i = step_to_server h _ (received_is h) i
@@ -172,7 +172,7 @@ place_step p h (e.Snap d name) i = step_snap h d name _ (snap_is h d name) i
 place_step p h e.Commit i = subst (λ rs. Places (sent h) (to_server h) rs) (sym (append-nil (stand h))) i
 place_step p h _ i = i
 
-places_start : AllPlaced []
+pub places_start : AllPlaced []
 places_start = record {
   snap = each_nil (λ x. x.snap ≡ true);
   sent = each_nil (λ x. Place x [] []);

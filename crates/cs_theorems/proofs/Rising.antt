@@ -27,6 +27,12 @@ rises_member s t n (x ∷ xs) up (inl is) = (omega (arith, is, up.0), omega (ari
 rises_member s t n (x ∷ xs) up (inr there) =
     let found = rises_member x t n xs up.1 there in (omega (arith, up.0, found.0), found.1)
 
+-- no number is in a front and in what is behind it
+pub rises_apart : (s t n : ℕ) (xs ys : List ℕ) → RisesTo s (xs ++ ys) t → Member n xs → Member n ys → ⊥
+rises_apart s t n [] ys up here there = here
+rises_apart s t n (x ∷ xs) ys up (inl is) there = omega (arith, is, (rises_member x t n (xs ++ ys) up.1 (member_right n xs ys there)).0)
+rises_apart s t n (x ∷ xs) ys up (inr here) there = rises_apart x t n xs ys up.1 here there
+
 pub rises_front : (s t : ℕ) (xs ys : List ℕ) → RisesTo s (xs ++ ys) t → RisesFrom s xs
 rises_front s t [] ys up = tt
 rises_front s t (x ∷ xs) ys up = (up.0, rises_front x t xs ys up.1)

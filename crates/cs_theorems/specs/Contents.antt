@@ -1,22 +1,13 @@
 -- What the objects of a file hold: the bytes of its writes.
-use Rattle.std.specs.Prelude.{◌≡◌, ℕ, ◌/◌, ◌%◌, List, filter, nat_lt}
+use Rattle.std.specs.Prelude.{◌≡◌, ℕ, ◌/◌, ◌%◌, List}
 use Rattle.cs_geom.specs.declared.places.TheConstants.{OBJECT_SIZE}
 use Rattle.cs_laws.specs.declared.answers.Entry.{Entry}
 use Rattle.cs_laws.specs.declared.objects.At.{At}
-use Rattle.cs_laws.specs.declared.objects.At.TheVariants as at
 use Rattle.cs_laws.specs.History.{writes}
-use Rattle.cs_laws.specs.Image.{Write, image}
+use Rattle.cs_laws.specs.Image.{image}
 use Rattle.cs_laws.specs.Objects.{object_byte}
 use Rattle.cs_laws.specs.Operations.{applied}
-
--- the writes with a tag below s
-abbrev pub older : ℕ → List Write → List Write
-older s ws = filter (λ w. nat_lt w.tag s) ws
-
--- the writes that a snapshot has in it: those that are older; the head has all
-abbrev pub writes_at : At → List Write → List Write
-writes_at at.Head ws = ws
-writes_at (at.Snap s) ws = older s ws
+use Rattle.cs_laws.specs.Shown.{writes_at}
 
 -- the byte of a file at a place, in its objects
 abbrev pub stored_byte : At → List Entry → ℕ → ℕ → ℕ

@@ -1,17 +1,13 @@
 -- The law of flushes: where they stand in the server's log, and how they are numbered.
-use Rattle.std.specs.Prelude.{◌≡◌, ℕ, ◌+◌, ◌==◌, ◌&&◌, ◌||◌, Bool, true, false, List, [], ◌∷◌, ◌++◌, map, length, if◌then◌else◌}
+use Rattle.std.specs.Prelude.{◌≡◌, ℕ, ◌+◌, ◌==◌, true, List, [], ◌∷◌, ◌++◌, map, length, if◌then◌else◌}
 use Rattle.std.specs.List.{flat_map, range_with_len}
-use Rattle.cs_laws.specs.declared.events.Event.{Event}
-use Rattle.cs_laws.specs.declared.events.Event.TheVariants as events
-use Rattle.cs_laws.specs.declared.answers.Answer.{Answer}
-use Rattle.cs_laws.specs.declared.answers.Answer.TheVariants as answers
 use Rattle.cs_laws.specs.declared.answers.Entry.{Entry}
 use Rattle.cs_laws.specs.declared.messages.Message.{Message}
 use Rattle.cs_laws.specs.declared.messages.Message.TheVariants as messages
 use Rattle.cs_laws.specs.declared.records.Record.{Record}
 use Rattle.cs_laws.specs.declared.records.RecordBody.{RecordBody}
 use Rattle.cs_laws.specs.declared.records.RecordBody.TheVariants as bodies
-use Rattle.cs_laws.specs.Flushes.{Flush}
+use Rattle.cs_laws.specs.Flushes.{Flush, acked}
 use Rattle.cs_laws.specs.History.{sent, stand, to_server}
 use Rattle.cs_theorems.specs.Lists.{Each, Member, RisesFrom}
 
@@ -23,15 +19,6 @@ tid_of f (bodies.Snap number d name) = []
 -- the numbers of a file's flushes among these records, in order
 abbrev pub tids : ℕ → List Record → List ℕ
 tids f rs = flat_map (λ r. tid_of f r.body) rs
-
-abbrev pub acked_then : Event → Answer → ℕ → ℕ → Bool → Bool
-acked_then events.ToClient (answers.FlushAck g t) f tid was = ((g == f) && (t == tid)) || was
-acked_then _ _ f tid was = was
-
--- the client was told that the file's flush of this number is durable
-abbrev pub acked : List Entry → ℕ → ℕ → Bool
-acked [] f tid = false
-acked (x ∷ h) f tid = acked_then x.event x.answer f tid (acked h f tid)
 
 -- how often a number stands in a list
 abbrev pub times : ℕ → List ℕ → ℕ

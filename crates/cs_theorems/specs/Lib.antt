@@ -4,11 +4,14 @@ pub mod Flushes
 pub mod Held
 pub mod Lawful
 pub mod Lists
+pub mod Metadata
 pub mod Order
 pub mod Queues
+pub mod Recorded
 pub mod References
 pub mod Refusals
 pub mod Runs
 pub mod Snapshots
+pub mod Told
 pub mod Underway
 pub mod Uses

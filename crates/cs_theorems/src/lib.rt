@@ -6,6 +6,7 @@
 mod capabilities;
 mod contents;
 mod flushes;
+mod metadata;
 mod references;
 mod refusals;
 mod snapshots;
@@ -13,6 +14,7 @@ mod snapshots;
 pub use capabilities::{acks_are_free, held_covers_implemented, lawful_journals};
 pub use contents::objects_hold_the_writes;
 pub use flushes::{acked_flushes_stay, flushes_are_numbered, flushes_stand_once};
+pub use metadata::{metadata_is_of_the_writes, states_read_back};
 pub use references::{live_references_were_issued, numbers_are_drawn_once, uses_are_issued};
 pub use refusals::refused_events_change_the_journal_alone;
 pub use snapshots::{

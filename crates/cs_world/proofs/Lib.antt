@@ -13,5 +13,9 @@ pub mod Kept
 pub mod Logs
 pub mod NewFiles
 pub mod Pieces
+pub mod Reading
+pub mod Received
 pub mod Rows
+pub mod Showing
+pub mod ToldAt
 pub mod Written

@@ -9,8 +9,10 @@ use Rattle.cs_laws.specs.declared.answers.Answer.TheVariants as answers
 use Rattle.cs_laws.specs.declared.answers.Entry.{Entry}
 use Rattle.cs_laws.specs.Answers.{answer_file}
 use Rattle.cs_laws.specs.Events.{setup_file, files}
+use Rattle.cs_theorems.specs.Recorded.{told}
 use Rattle.cs_theorems.specs.Runs.{IsRun}
 use Rattle.cs_theorems.proofs.QueueAnswers.{mode_is}
+use Rattle.cs_theorems.proofs.Recorded.{told_none}
 use Rattle.cs_theorems.proofs.Untouched.{IsUntouchedAt, untouched}
 use Rattle.cs_world.specs.declared.state.State.{State}
 use Rattle.cs_world.specs.declared.state.FileState.{FileState}
@@ -26,8 +28,8 @@ pub made_is : (h : List Entry) (f d : ℕ) → setup_file h f ≡ false → (d =
 made_is h f d unknown root = rw (unknown, root) refl
 
 -- a file that isn't known has the new row
-row_is_new : (h : List Entry) (f : ℕ) → IsUntouchedAt h f → new_row ≡ row h f
-row_is_new h f i = rw (i.client, i.server, i.writes, i.dirty, i.snaps, mode_is h f) refl
+row_is_new : (h : List Entry) (f : ℕ) → IsUntouchedAt h f → told h f ≡ [] → new_row ≡ row h f
+row_is_new h f i none = rw (i.client, i.server, i.writes, i.dirty, i.snaps, none, mode_is h f) refl
 
 row_made : (b : Bool) (h : List Entry) (f g : ℕ) → (f == g) ≡ b → new_row ≡ row h f
     → cond b (Some new_row) (row_of h g) ≡ cond (cond b true (setup_file h g)) (Some (row h g)) None
@@ -38,7 +40,7 @@ pub made_refines : (h : List Entry) (s : State) (f d : ℕ) (table : Files) (mad
     → PutsRow s.files table f new_row → made.items ≡ s.made.items ++ f ∷ []
     → Refines (record { event = events.File f d; answer = answers.Made } ∷ h) (record s { files = table; made = made })
 made_refines h s f d table made t run unknown put grown =
-    let new : new_row ≡ row h f = row_is_new h f (untouched s.pages h run f unknown) in
+    let new : new_row ≡ row h f = row_is_new h f (untouched s.pages h run f unknown) (told_none s.pages h run f unknown) in
     record {
       rows = λ g. put g ∙ (ap (λ o. cond (f == g) (Some new_row) o) (t.rows g) ∙ row_made (f == g) h f g refl new);
       made = grown ∙ (ap (λ fs. fs ++ f ∷ []) t.made ∙ sym (reverse_onto (files h) f []));

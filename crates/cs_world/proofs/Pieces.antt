@@ -21,12 +21,12 @@ pub record IsPieceOf (off len : ℕ) (p : Piece) : Type 0 where
   pub to : end_of p ≤ off + len
   pub object : p.obj_off + p.len ≤ 65536
 
-covers_up : (low high : ℕ) (ps : List Piece) → CoversOnce low high ps → low ≤ high
+pub covers_up : (low high : ℕ) (ps : List Piece) → CoversOnce low high ps → low ≤ high
 covers_up low high [] c = omega (arith, c)
 covers_up low high (p ∷ ps) c = omega (arith, c.0, covers_up (end_of p) high ps c.1)
 
 -- a piece in one object ends where the object does, or before
-in_object : (p : Piece) → HasPlaces p → LiesInOne OBJECT_SIZE p → p.obj_off + p.len ≤ 65536
+pub in_object : (p : Piece) → HasPlaces p → LiesInOne OBJECT_SIZE p → p.obj_off + p.len ≤ 65536
 in_object p placed within = omega (arith, placed.in_object, placed.same_offset, within.1, within.2)
 
 each_piece : (off len low : ℕ) (ps : List Piece) → off ≤ low → CoversOnce low (off + len) ps → All HasPlaces ps → All (LiesInOne OBJECT_SIZE) ps

@@ -23,6 +23,7 @@ use Rattle.cs_laws.specs.Operations.{begun_under, operations, written_on, operat
 use Rattle.cs_laws.specs.References.{named}
 use Rattle.cs_objstore.specs.Stores.{has_tid}
 use Rattle.cs_theorems.specs.Queues.{snaps, written_meta}
+use Rattle.cs_theorems.specs.Recorded.{told}
 use Rattle.cs_theorems.specs.Runs.{IsRun}
 use Rattle.cs_theorems.proofs.Known.{live_known}
 use Rattle.cs_theorems.proofs.Listed.{Each, Member, each_tail}
@@ -87,6 +88,7 @@ row_after b h w f = record {
   meta = written_meta (mode h f) (cond b (w ∷ writes h f) (writes h f));
   dirty = cond b (union (dirty h f) file_write) (dirty h f);
   snaps = snaps h f;
+  told = told h f;
 }
 
 row_at : (b : Bool) (h : List Entry) (w : Write) (f g : ℕ) → (f == g) ≡ b → setup_file h f ≡ true

@@ -23,4 +23,5 @@ pub record AppliesFront (ops old new : List ObjOp) : Type 0 where
 -- an event that is answered so calls the store
 abbrev pub calls_store : Event → Answer → Bool
 calls_store (events.Write caller name off bytes) answers.Wrote = true
+calls_store (events.Show f a off len) (answers.Size meta bytes) = true
 calls_store _ _ = false

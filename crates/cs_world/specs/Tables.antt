@@ -20,6 +20,7 @@ use Rattle.cs_laws.specs.Operations.{operations_drawn}
 use Rattle.cs_refs.specs.Table.{begun_of}
 use Rattle.cs_theorems.specs.Queues.{snaps, written_meta}
 use Rattle.cs_theorems.specs.Runs.{IsRun}
+use Rattle.cs_theorems.specs.Recorded.{told}
 use Rattle.cs_world.specs.declared.state.State.{State}
 use Rattle.cs_world.specs.declared.state.FileState.{FileState}
 
@@ -32,11 +33,11 @@ abbrev pub meta : List Entry → ℕ → FileMeta
 meta h f = written_meta (mode h f) (writes h f)
 
 abbrev pub row : List Entry → ℕ → FileState
-row h f = record { client = client h f; server = server h f; meta = meta h f; dirty = dirty h f; snaps = snaps h f }
+row h f = record { client = client h f; server = server h f; meta = meta h f; dirty = dirty h f; snaps = snaps h f; told = told h f }
 
 -- the row of a file of which nothing was granted, and to which nothing was written
 abbrev pub new_row : FileState
-new_row = record { client = no_client_caps; server = no_server_caps; meta = record { size = 0; mtime = 0; mode = 420 }; dirty = no_caps; snaps = [] }
+new_row = record { client = no_client_caps; server = no_server_caps; meta = record { size = 0; mtime = 0; mode = 420 }; dirty = no_caps; snaps = []; told = [] }
 
 -- what the table of files has at a file
 abbrev pub row_of : List Entry → ℕ → Option FileState

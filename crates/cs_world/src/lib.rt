@@ -7,11 +7,13 @@ mod records;
 mod references;
 mod server;
 mod setup;
+mod shows;
 mod snaps;
 mod state;
 mod step;
 #[cfg(test)]
 mod tests;
+mod told;
 mod world;
 mod writes;
 

@@ -4,10 +4,10 @@ ghost use Rattle.cs_laws.specs.declared.records.Record.{Record};
 ghost use Rattle.cs_laws.specs.declared.records.RecordBody.TheVariants as bodies;
 ghost use Rattle.cs_laws.specs.Context.{empty_root};
 ghost use Rattle.cs_laws.specs.Standing.{greatest_snap, has_snap_named, realm_after, realm_then, told, told_of};
-ghost use Rattle.cs_world.specs.Records.{all};
+ghost use Rattle.cs_world.specs.Records.{all, is_drawn};
 
 use cs_ids::{FileMeta, Ino, Memory, Name, Seq, Snap, Tid};
-use cs_laws::{Message, RealmRecordList, Record, RecordBody};
+use cs_laws::{At, Message, RealmRecordList, Record, RecordBody};
 use cs_snapctx::{RealmRecord, SnapList};
 use indexmap::IndexSet;
 use std::alloc::Global;
@@ -54,6 +54,17 @@ impl Records {
             root: empty_root(alloc),
             greatest: 0,
             names: IndexSet::new(alloc),
+        }
+    }
+
+    /// Whether the state is the present one, or that of a snapshot that stands: numbers are drawn from
+    /// 1 on, and none is removed. It takes no memory.
+    pub fn stands(&self, at: At) -> bool
+        ensures { result ≡ is_drawn at (greatest_snap (all self.now)) }
+    {
+        match at {
+            At::Head => true,
+            At::Snap(s) => 1 <= s.get() && s.get() <= self.greatest,
         }
     }
 

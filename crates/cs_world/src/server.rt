@@ -113,7 +113,11 @@ fn receive_flush(
     ensures ok { IfOk result (λ a. Steps state.old state.new events.ToMds a) }
     ensures err { OnErr result (KeepsJournal state.old state.new) }
 {
+    let Some(row) = state.files.get_mut(&file) else {
+        unreachable!()
+    };
     state.records.add_flush(file, tid, follows, meta)?;
+    row.told.push(follows, meta)?;
     let _ = state.to_server.pop_front();
     Ok(Answer::Flushed { file, tid })
 }

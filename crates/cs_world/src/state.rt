@@ -5,6 +5,7 @@ ghost use Rattle.cs_laws.specs.Flight.{cap_message};
 ghost use Rattle.cs_world.specs.Tables.{Refines, PutsRow, new_row};
 
 use crate::records::Records;
+use crate::told::Told;
 use cs_bits::Caps;
 use cs_caps::{Cap, Held};
 use cs_capsnap::CapSnaps;
@@ -31,6 +32,8 @@ pub struct FileState {
     pub dirty: Caps,
     /// Its metadata under earlier snapshot contexts, as far as the server hasn't acknowledged it.
     pub snaps: CapSnaps,
+    /// Its flushes that the server recorded.
+    pub told: Told,
 }
 
 /// The entries of the journal, the oldest first, and what each event reads and writes of them.
@@ -97,6 +100,7 @@ pub fn add_file(
         },
         dirty: Caps::none(),
         snaps: CapSnaps::new(alloc),
+        told: Told::new(alloc),
     };
     files.insert(file, state)?;
     Ok(())

@@ -12,11 +12,12 @@ use crate::client::{check, to_client};
 use crate::references::{begin, end};
 use crate::server::{commit, grant, revoke, snap, to_mds};
 use crate::setup::file;
+use crate::shows::show;
 use crate::snaps::flush_snaps;
 use crate::state::State;
 use crate::writes::write;
 use cs_ids::Memory;
-use cs_laws::{Answer, Entry, Event, RefName, StepFault};
+use cs_laws::{Answer, At, Entry, Event, RefName, StepFault};
 use cs_objstore::ObjStore;
 
 #[tactic(auto, using(crate::proofs::Fronts::front_none))]
@@ -40,6 +41,7 @@ pub fn answer<O: ObjStore>(
 {
     // The proof of a move of an event needs the type of a reference's name named, here and below.
     let _told: Option<RefName> = None;
+    let _at: Option<At> = None;
     match event {
         Event::File { file: made, parent } => Ok(file(state, *made, *parent)?),
         Event::Begin {
@@ -63,6 +65,7 @@ pub fn answer<O: ObjStore>(
         Event::Revoke { file, bits } => Ok(revoke(state, *file, *bits)?),
         Event::Snap { dir, name } => Ok(snap(state, *dir, name)?),
         Event::Commit => Ok(commit(state)?),
+        Event::Show { file, at, off, len } => show(state, store, *file, at, *off, *len),
     }
 }
 
@@ -79,6 +82,7 @@ fn enter(entries: &mut Vec<Entry>, event: Event, answer: Answer)
     ensures { entries.new.items ≡ entries.old.items ++ record { event = event; answer = answer } ∷ [] }
 {
     let _told: Option<RefName> = None;
+    let _at: Option<At> = None;
     match entries.push(Entry { event, answer }) {
         Ok(()) => {}
         Err(_) => unreachable!(),
@@ -109,6 +113,7 @@ pub fn step<O: ObjStore>(
     ensures unlogged { IsErrOf result StepFault.Log → ⊥ }
 {
     let _told: Option<RefName> = None;
+    let _at: Option<At> = None;
     reserve(&mut state.entries)?;
     let entered = event.copy(state.alloc)?;
     let answer = answer(state, store, event)?;

@@ -1,6 +1,7 @@
 // The world, as the layer above sees it.
 ghost use Rattle.std.specs.Prelude.{◌≡◌, ◌<◌, ◌≤◌, [], ◌∷◌, true, false, reverse, length, IfOk, OnOk, IfErr, OnErr, IsErrOf};
 ghost use Rattle.cs_ids.specs.Devices.{Rose};
+ghost use Rattle.cs_laws.specs.Agreement.{Agrees};
 ghost use Rattle.cs_laws.specs.Answers.{answer};
 ghost use Rattle.cs_laws.specs.Fits.{fits};
 ghost use Rattle.cs_laws.specs.Journal.{entry};
@@ -66,11 +67,12 @@ impl<O: ObjStore, L> World<O, L> {
     }
 
     /// Does one event, and enters it with its answer. A line of a script has to spell the event. The
-    /// store then has the operations that the journal implies; it is called only at a write that is
-    /// answered `wrote`.
+    /// store then has the operations that the journal implies, and agrees with the journal: each file,
+    /// at present and at each snapshot that isn't owed, reads back as exactly the writes of before. It
+    /// is called only at a write that is answered `wrote` and at a `show` that is answered `size`.
     ///
-    /// `Store` comes only where the store's count of faults rose in this step, and only at a write
-    /// that would be answered `wrote`; `Log` never comes. After a fault the history and the log are
+    /// `Store` comes only where the store's count of faults rose in this step, and only where it is
+    /// called; `Log` never comes. After a fault the history and the log are
     /// as before, the store has a front of the event's operations behind those before, and the world
     /// is no longer live. The room for the entry is taken first, so that a refused event meets
     /// `Memory` only there.
@@ -81,6 +83,7 @@ impl<O: ObjStore, L> World<O, L> {
         ensures answer { IfOk result (λ a. a ≡ answer self.old.pages self.old.history event.now) }
         ensures history { OnOk result (self.new ≡ record self.old { history = entry self.old.pages self.old.history event.now ∷ self.old.history; store = self.new.store }) }
         ensures listed { OnOk result (O.ops self.new.store ≡ applied self.new.history) }
+        ensures agrees { OnOk result (Agrees (O.ops self.new.store) self.new.history) }
         ensures quiet { IfOk result (λ a. calls_store event.now a ≡ false → self.new.store ≡ self.old.store) }
         ensures refused { IfOk result (λ a. is_refusal event.now a ≡ true → IsAsBefore self.old.history self.new.history) }
         ensures err { OnErr result (self.new ≡ record self.old { live = false; store = self.new.store }) }

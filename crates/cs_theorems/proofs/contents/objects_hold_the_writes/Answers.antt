@@ -1,4 +1,4 @@
-use Rattle.cs_theorems.proofs.Images.{hold_writes}
+use Rattle.cs_theorems.proofs.Agreeing.{hold_writes}
 use Rattle.cs_theorems.proofs.contents.objects_hold_the_writes.Goals as goal
 
 pub returns : goal.returns

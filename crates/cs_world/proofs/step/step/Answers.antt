@@ -1,6 +1,9 @@
 use Rattle.std.proofs.Common.{◌≡◌, ap, reverse}
 use Rattle.cs_theorems.specs.Runs.{IsRun}
 use Rattle.cs_world.proofs.Kept.{after_entry, after_run}
+use Rattle.cs_world.proofs.Fronts.{front_listed}
+use Rattle.cs_world.proofs.Pieces.{any_err}
+use Rattle.cs_world.specs.Tables.{past}
 use Rattle.cs_world.proofs.step.step.Goals as goal
 
 pub returns-clause-kept : goal.returns-clause-kept
@@ -18,3 +21,10 @@ returns-clause-kept g c =
           c.in_ok-answer.answer c.in_ok-told.told (rw entries at c.enter.ensures) c.in_ok-entered.ensures c.in_ok-told.ensures
           c.requires.fits step.answer before);
     }
+
+pub returns-in_err-told-clause-front : goal.returns-in_err-told-clause-front
+returns-in_err-told-clause-front g c =
+    let s = c.args.state.now in
+    any_err c.from_residual-in_err-told.result
+    (front_listed s.pages (past s) c.args.event.now c.in_ok-answer.answer (g.O.ObjStore.ops c.args.store.now) (g.O.ObjStore.ops c.answer.new.store)
+    c.requires.listed (rw c.reserve.ensures.entries at c.in_ok-answer.ensures.ok.answer) (rw c.reserve.ensures.entries at c.in_ok-answer.ensures.listed))

@@ -1,0 +1,34 @@
+-- When the object store and the server's records hold what a history says.
+use Rattle.std.specs.Prelude.{◌≡◌, ℕ, ◌<◌, ◌/◌, ◌%◌, List, true, false}
+use Rattle.cs_ids.specs.declared.objects.FileMeta.{FileMeta}
+use Rattle.cs_laws.specs.declared.answers.Entry.{Entry}
+use Rattle.cs_laws.specs.declared.objects.At.{At}
+use Rattle.cs_laws.specs.declared.objects.ObjOp.{ObjOp}
+use Rattle.cs_laws.specs.Answers.{stands}
+use Rattle.cs_laws.specs.Events.{server_knows}
+use Rattle.cs_laws.specs.History.{stand, writes}
+use Rattle.cs_laws.specs.Image.{Write, image}
+use Rattle.cs_laws.specs.Image as images
+use Rattle.cs_laws.specs.Metadata.{meta_at}
+use Rattle.cs_laws.specs.Objects.{object_byte}
+use Rattle.cs_laws.specs.Operations.{applied}
+use Rattle.cs_laws.specs.Owed.{mode_at, owed}
+use Rattle.cs_laws.specs.Shown.{writes_at}
+
+-- the metadata is that of these writes, with this mode, and each byte that it counts is theirs; ops are applied to the store
+pub record ReadsBack (f : ℕ) (a : At) (ops : List ObjOp) (meta : FileMeta) (ws : List Write) (bits : ℕ) : Type 0 where
+  pub size : meta.size ≡ images.size ws
+  pub mtime : meta.mtime ≡ images.mtime ws
+  pub mode : meta.mode ≡ bits
+  pub bytes : (i : ℕ) → i < meta.size → object_byte a (record { ino = f; index = i / 65536 }) ops (i % 65536) ≡ image ws i
+
+-- each file that the server knows, at each state that stands and isn't owed, reads back as exactly the writes of before
+abbrev pub StatesReadBack : List ObjOp → List Entry → Type 0
+StatesReadBack ops h =
+    (f : ℕ) (a : At) → server_knows h f ≡ true → stands a (stand h) ≡ true → owed h f a ≡ false
+    → ReadsBack f a ops (meta_at f a (stand h)) (writes_at a (writes h f)) (mode_at h f a)
+
+-- the store lists exactly the operations that the history implies, and reads back with the records
+pub record Agrees (ops : List ObjOp) (h : List Entry) : Type 0 where
+  pub operations : ops ≡ applied h
+  pub states : StatesReadBack ops h

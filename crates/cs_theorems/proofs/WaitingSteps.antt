@@ -1,0 +1,103 @@
+-- After each event every file's queue has the flushes that were sent and aren't acknowledged.
+use Rattle.std.proofs.Common.{◌≡◌, refl, sym, subst, ℕ, ◌+◌, Bool, true, false, cond, not, ◌&&◌, ◌==◌, List, [], ◌∷◌, ◌++◌, Option, Some, None, length, arith}
+use Rattle.std.proofs.lemmas.Bool.{both_ways, cond_both, eqb-true, eq-eqb, false_from_ne_true}
+use Rattle.cs_parts.specs.declared.references.Live.{Live}
+use Rattle.cs_capsnap.specs.declared.snap.CapSnap.{CapSnap as Snap}
+use Rattle.cs_capsnap.specs.CapSnaps as kept
+use Rattle.cs_capsnap.specs.Order.{IsInOrder}
+use Rattle.cs_laws.specs.declared.events.Event.{Event}
+use Rattle.cs_laws.specs.declared.events.Event.TheVariants as e
+use Rattle.cs_laws.specs.declared.events.RefName.{RefName}
+use Rattle.cs_laws.specs.declared.answers.Answer.{Answer}
+use Rattle.cs_laws.specs.declared.answers.Entry.{Entry}
+use Rattle.cs_laws.specs.CapSnaps.{has_writer, makes}
+use Rattle.cs_laws.specs.Context.{root_context, root_told}
+use Rattle.cs_laws.specs.Events.{mode}
+use Rattle.cs_laws.specs.Flushes.{Flush, acked, first_mode, flush_snap}
+use Rattle.cs_laws.specs.History.{context, dirty, durable, fresh, live, queued, root, sent, stand, to_client, to_server, writes}
+use Rattle.cs_laws.specs.Image.{Write, size, mtime}
+use Rattle.cs_laws.specs.Journal.{entry}
+use Rattle.cs_laws.specs.References.{named, without_named}
+use Rattle.cs_theorems.specs.Flushes.{tids}
+use Rattle.cs_theorems.specs.Queues.{snaps, with_ended, written_meta}
+use Rattle.cs_theorems.specs.Runs.{IsRun}
+use Rattle.cs_theorems.proofs.Acks.{run_acked}
+use Rattle.cs_theorems.proofs.Chains.{flight, run_rise, tids_append}
+use Rattle.cs_theorems.proofs.Inversions.{FlushSnapsIs, flush_unknown, flush_none, flush_writing, flush_sent, flush_snaps_is, FirstIs, first_idle, first_cap, first_flush_ack, first_snap, first_is, EndIs, end_unknown, ended, end_is}
+use Rattle.cs_theorems.proofs.Listed.{Member, member_left}
+use Rattle.cs_theorems.proofs.QueueAnswers.{queue_first, queue_order}
+use Rattle.cs_theorems.proofs.Queues.{IsFirst}
+use Rattle.cs_theorems.proofs.Rising.{rises_member}
+use Rattle.cs_theorems.proofs.Runs.{of_run}
+use Rattle.cs_theorems.proofs.Waiting.{Waiting, waiting_beside, waiting_finished, waiting_first, waiting_left, waiting_made, waiting_sent}
+
+abbrev pub AllWaiting : List Entry → Type 0
+AllWaiting h = (f : ℕ) → Waiting f (snaps h f) (sent h) (λ n. acked h f n)
+
+-- a reference ends
+waiting_ended : (f : ℕ) (o : Option Live) (left : List Live) (ws : List Write) (xs : List Snap) (ss : List Flush) (was : ℕ → Bool) → Waiting f xs ss was
+    → Waiting f (with_ended o f left ws xs) ss was
+waiting_ended f None left ws xs ss was i = i
+waiting_ended f (Some r) left ws xs ss was i =
+    cond_both ((r.file == f) && (kept.is_writing xs && not (has_writer f left))) (kept.finished (size ws) (mtime ws) xs) xs (λ ys. Waiting f ys ss was)
+    (λ _. waiting_finished f xs ss was (size ws) (mtime ws) i) (λ _. i)
+
+-- a flush is acknowledged
+waiting_acked : (b : Bool) (f t : ℕ) (xs : List Snap) (ss : List Flush) (was : ℕ → Bool) → IsInOrder xs → Waiting f xs ss was
+    → Waiting f (cond b (kept.without_tid t xs) xs) ss (λ n. cond (b && (t == n)) true (was n))
+waiting_acked true f t xs ss was order i = waiting_left f t xs ss was order i
+waiting_acked false f t xs ss was order i = i
+
+-- the number of the next flush isn't acknowledged
+next_unacked : (p : ℕ) (h : List Entry) → IsRun p h → (f : ℕ) → acked h f (length (sent h) + 1) ≡ false
+next_unacked p h run f =
+    false_from_ne_true (acked h f (length (sent h) + 1)) (λ told.
+    let n : ℕ = length (sent h) + 1 in
+    let there : Member n (tids f (stand h) ++ flight f (to_server h))
+    = member_left n (tids f (stand h)) (flight f (to_server h))
+    (subst (λ ns. Member n ns) (sym (tids_append f (durable h) (fresh h)))
+    (member_left n (tids f (durable h)) (tids f (fresh h)) ((run_acked p h run f).told n told))) in
+    absurd (omega (arith, (rises_member 0 (length (sent h)) n _ (run_rise p h run f).rises there).1)))
+
+-- Steps
+
+step_end : (h : List Entry) (c : ℕ) (name : RefName) (x : Answer) → EndIs h c name x → AllWaiting h
+    → AllWaiting (record { event = e.End c name; answer = x } ∷ h)
+step_end h c name x end_unknown i = i
+step_end h c name x (ended can) i = λ f.
+    waiting_ended f (named c name (live h)) (without_named c name (live h)) (writes h f) (snaps h f) (sent h) (λ n. acked h f n) (i f)
+
+step_client : (p : ℕ) (h : List Entry) (x : Answer) → IsRun p h → FirstIs h x → AllWaiting h → AllWaiting (record { event = e.ToClient; answer = x } ∷ h)
+step_client p h x run first_idle i = i
+step_client p h x run (first_cap g seq bits end q there) i = i
+step_client p h x run (first_flush_ack g tid q there) i = λ f.
+    waiting_acked (g == f) f tid (snaps h f) (sent h) (λ n. acked h f n) (queue_order p h run f) (i f)
+step_client p h x run (first_snap n d realms q there) i = λ f.
+    let y : Snap = kept.queued (context h f) (has_writer f (live h)) (written_meta (mode h f) (writes h f)) in
+    cond_both (makes f (context h f) (root_context (root_told (to_client h) (root h))) (live h) (dirty h f) (queued h f)) (snaps h f ++ y ∷ []) (snaps h f)
+    (λ ys. Waiting f ys (sent h) (λ k. acked h f k))
+    (λ _. waiting_made f (snaps h f) (sent h) (λ k. acked h f k) y refl (i f)) (λ _. i f)
+
+step_flush_snaps : (p : ℕ) (h : List Entry) (g : ℕ) (x : Answer) → IsRun p h → FlushSnapsIs h g x → AllWaiting h
+    → AllWaiting (record { event = e.FlushSnaps g; answer = x } ∷ h)
+step_flush_snaps p h g x run flush_unknown i = i
+step_flush_snaps p h g x run flush_none i = i
+step_flush_snaps p h g x run flush_writing i = i
+step_flush_snaps p h g x run (flush_sent q qs known there closed) i = λ f.
+    let n : ℕ = length (sent h) + 1 in
+    let y : Flush = flush_snap g n q.follows (first_mode (queued h g)) (writes h g) in
+    cond_both (g == f) (kept.with_first_sent n (snaps h f)) (snaps h f) (λ ys. Waiting f ys (sent h ++ y ∷ []) (λ k. acked h f k))
+    (λ own.
+    let first : IsFirst (live h) (writes h f) q (snaps h f) = queue_first p h run f q qs (subst (λ k. queued h k ≡ q ∷ qs) (eqb-true g f own) there) in
+    waiting_sent f n (snaps h f) (sent h) (λ k. acked h f k) y first.snap (eqb-true g f own) refl (next_unacked p h run f) first.is first.seen.follows (i f))
+    (λ other. waiting_beside f (snaps h f) (sent h) (λ k. acked h f k) y (λ own. both_ways (g == f) other (eq-eqb g f own)) (i f))
+
+waiting_step : (p : ℕ) (h : List Entry) (x : Event) → IsRun p h → AllWaiting h → AllWaiting (entry p h x ∷ h)
+waiting_step p h (e.End c name) run i = step_end h c name _ (end_is h c name) i
+waiting_step p h e.ToClient run i = step_client p h _ run (first_is h) i
+waiting_step p h (e.FlushSnaps g) run i = step_flush_snaps p h g _ run (flush_snaps_is h g) i
+waiting_step p h _ run i = i
+
+pub all_waiting : (p : ℕ) (h : List Entry) → IsRun p h → AllWaiting h
+all_waiting p h run =
+    of_run p AllWaiting (λ f. waiting_first f (λ n. false)) (λ g x fit before i. waiting_step p g x before i) h run

@@ -1,0 +1,32 @@
+-- A file's standing flushes as the server's table keeps them: of each the number that it follows, and the metadata.
+use Rattle.std.specs.Prelude.{ℕ, ◌==◌, Bool, List, [], ◌∷◌, Option, Some, None, unwrap_or, if◌then◌else◌}
+use Rattle.std.specs.List.{flat_map}
+use Rattle.cs_ids.specs.declared.objects.FileMeta.{FileMeta}
+use Rattle.cs_laws.specs.declared.objects.At.{At}
+use Rattle.cs_laws.specs.declared.records.Record.{Record}
+use Rattle.cs_laws.specs.declared.records.RecordBody.{RecordBody}
+use Rattle.cs_laws.specs.declared.records.RecordBody.TheVariants as bodies
+use Rattle.cs_laws.specs.Metadata.{no_meta}
+use Rattle.cs_laws.specs.Shown.{is_before}
+
+-- what the table has of a record
+abbrev pub told_of : ℕ → RecordBody → List (ℕ × FileMeta)
+told_of f (bodies.Flush snap g tid follows meta) = if g == f then (follows, meta) ∷ [] else []
+told_of f (bodies.Snap number d name) = []
+
+-- the table of these records
+abbrev pub told_in : ℕ → List Record → List (ℕ × FileMeta)
+told_in f rs = flat_map (λ r. told_of f r.body) rs
+
+-- the metadata that stands later, or, where there is none, this one, if it is of the time before the state
+abbrev pub last_of : Option FileMeta → Bool → FileMeta → Option FileMeta
+last_of (Some later) before meta = Some later
+last_of None before meta = if before then Some meta else None
+
+-- the metadata of the last one that is of the time before the state
+abbrev pub last_before : At → List (ℕ × FileMeta) → Option FileMeta
+last_before a [] = None
+last_before a (x ∷ xs) = last_of (last_before a xs) (is_before a x.0) x.1
+
+abbrev pub last_told : At → List (ℕ × FileMeta) → FileMeta
+last_told a xs = unwrap_or (last_before a xs) no_meta
