@@ -84,7 +84,7 @@ unmade f n old new rs d xs up i none =
     (why_none f old new rs d xs up none)
 
 -- where one is made none is writing
-made_free : (f : ℕ) (old new : Context) (rs : List Live) (d : Caps) (xs : List CapSnap) → makes f old new rs d xs ≡ true → is_writing rs xs ≡ false
+pub made_free : (f : ℕ) (old new : Context) (rs : List Live) (d : Caps) (xs : List CapSnap) → makes f old new rs d xs ≡ true → is_writing rs xs ≡ false
 made_free f old new rs d xs made =
     let outer = and_parts (differs old new && not (is_writing rs xs)) (has_writer f rs || not (is_empty d)) made in
     not-true (is_writing rs xs) (and_parts (differs old new) (not (is_writing rs xs)) outer.0).1

@@ -32,7 +32,7 @@ use Rattle.cs_theorems.proofs.Course.{Course, course_run, course_step}
 use Rattle.cs_theorems.proofs.Inversions.{BeginIs, begin_unknown, begin_caps, begin_snap, begin_max, begin_full, begun_ref, begin_is, EndIs, end_unknown, ended, end_is, WriteIs, write_unknown, write_no_bit, write_past, wrote, write_is, FlushSnapsIs, flush_unknown, flush_none, flush_writing, flush_sent, flush_snaps_is, FirstIs, first_idle, first_cap, first_flush_ack, first_snap, first_is}
 use Rattle.cs_theorems.proofs.Listed.{Member, Each, each_end, member_left}
 use Rattle.cs_theorems.proofs.Opens.{Names, Opens, older_opens, open_has, opens_made}
-use Rattle.cs_theorems.proofs.Order.{InOrder, Ordered}
+use Rattle.cs_theorems.proofs.Order.{InOrder, Ordered, made_free}
 use Rattle.cs_theorems.proofs.Queues.{Queue, Closes, queue_empty, queue_finished, queue_left, queue_made, queue_more, queue_sent, queue_stays, upto_none, writing_is, written_upto}
 use Rattle.cs_theorems.proofs.Runs.{of_run}
 use Rattle.cs_theorems.proofs.Tests.{any_none, any_some, any_true, member_end}
@@ -178,11 +178,6 @@ queue_written f s k n rs ws qs xs r off bytes time m may before i =
 
 -- A snapshot is told
 
-free_made : (f : ℕ) (old new : Context) (rs : List Live) (d : Caps) (qs : List CapSnap) → makes f old new rs d qs ≡ true → is_writing rs qs ≡ false
-free_made f old new rs d qs made =
-    let outer = and_parts (differs old new && not (is_writing rs qs)) (has_writer f rs || not (is_empty d)) made in
-    not-true (is_writing rs qs) (and_parts (differs old new) (not (is_writing rs qs)) outer.0).1
-
 -- a new cap snap is open where there is a writer
 open_new : (f s mode : ℕ) (n : ℕ → ℕ) (rs : List Live) (ws : List Write) (qs : List CapSnap) → Names n rs → InOrder f s n rs ws qs
     → has_writer f rs ≡ is_open rs (record { follows = s; mode = mode; writers = writers f rs })
@@ -200,7 +195,7 @@ queue_told : (f k : ℕ) (n : ℕ → ℕ) (old new : Context) (rs : List Live) 
     → Queue k rs ws (cond b (qs ++ record { follows = old.seq; mode = mode; writers = writers f rs } ∷ []) qs)
     (cond b (xs ++ kept.queued old (has_writer f rs) (written_meta mode ws) ∷ []) xs)
 queue_told f k n old new rs ws qs xs d mode names before true made i =
-    queue_made k rs ws qs xs _ _ refl (free_made f old new rs d qs made)
+    queue_made k rs ws qs xs _ _ refl (made_free f old new rs d qs made)
     (record {
       follows = refl;
       mode = refl;
