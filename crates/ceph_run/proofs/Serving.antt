@@ -88,6 +88,7 @@ refused_small (refusals.Faulty f) = omega arith
 refused_small refusals.TooLong = omega arith
 refused_small refusals.TooManyEvents = omega arith
 refused_small refusals.TooManyFiles = omega arith
+refused_small refusals.TooManyDirs = omega arith
 
 stop_of : (k s : ℕ) → (s ≡ k) ⊎ ((s ≡ 5) ⊎ (s ≡ 8)) → (s ≡ k) ⊎ IsStopStatus s
 stop_of k s (inl e) = inl e
@@ -184,6 +185,7 @@ whole_status (Refused (refusals.Faulty f)) = inr (inl refl)
 whole_status (Refused refusals.TooLong) = inr (inr refl)
 whole_status (Refused refusals.TooManyEvents) = inr (inr refl)
 whole_status (Refused refusals.TooManyFiles) = inr (inr refl)
+whole_status (Refused refusals.TooManyDirs) = inr (inr refl)
 
 -- the status is the one of a whole run, or one of a run that stopped
 abbrev Known : ℕ → ℕ → Type 0

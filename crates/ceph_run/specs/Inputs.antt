@@ -19,12 +19,18 @@ abbrev pub is_file : Event → Bool
 is_file (events.File f p) = true
 is_file _ = false
 
--- an input that isn't too long: it is in the grammar, and then it has so many events, and makes so many files, whatever the answers
+abbrev pub is_dir : Event → Bool
+is_dir (events.Dir d p) = true
+is_dir _ = false
+
+-- an input that isn't too long: it is in the grammar, and then it has so many events, and makes so many files and directories,
+-- whatever the answers
 abbrev pub judged_script : Result (List Event) ScriptFault → Input
 judged_script (Err f) = Refused (refusals.Faulty f)
 judged_script (Ok es) =
     if nat_lt 10000 (length es) then Refused refusals.TooManyEvents
     else if nat_lt 64 (count_by is_file es) then Refused refusals.TooManyFiles
+    else if nat_lt 64 (count_by is_dir es) then Refused refusals.TooManyDirs
     else Runs es
 
 -- what an input is

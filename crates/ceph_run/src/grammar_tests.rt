@@ -8,7 +8,7 @@ const HEADER: &[u8] = b"ceph-script 1\n";
 
 #[test]
 fn a_faulty_line_is_told_with_its_kind(rt: HostRuntime) -> Result<(), Fail> {
-    let table: [(&[u8], &[u8]); 30] = [
+    let table: [(&[u8], &[u8]); 33] = [
         (b"begin 33 100 Fw 8", b"2 range"),
         (b"begin 1 100 wF 8", b"2 word"),
         (b"begin 01 100 Fw 8", b"2 number"),
@@ -30,7 +30,10 @@ fn a_faulty_line_is_told_with_its_kind(rt: HostRuntime) -> Result<(), Fail> {
         (b"grant 100 Fbw 8", b"2 word"),
         (b"toclient\nfile 100 1", b"3 late"),
         (b"toclient\nfile 100 1 4096", b"3 extra"),
+        (b"toclient\ndir 2 1", b"3 late"),
         (b"# a comment\n\nfile 1 1", b"4 range"),
+        (b"dir 1 1", b"2 range"),
+        (b"rmsnap 0", b"2 range"),
         (b"check", b"2 word"),
         (b"check ", b"2 number"),
         (b"check 1111111111111111111111111", b"2 range"),
@@ -75,15 +78,18 @@ fn bytes_are_misspelt_before_they_are_too_many(rt: HostRuntime) -> Result<(), Fa
 }
 
 #[test]
-fn files_are_counted_whatever_their_answers(rt: HostRuntime) -> Result<(), Fail> {
-    let table: [(u32, &[u8], u8, &[u8]); 4] = [
-        (64, b"", 0, b"ceph-journal 1\n1 file 100 5 -> nodir\n"),
-        (65, b"", 3, b"ceph-fault limit files\n"),
-        (65, b"toserver\n", 2, b"ceph-fault script 67 word\n"),
-        (10_001, b"", 3, b"ceph-fault limit events\n"),
+fn files_and_directories_are_counted_whatever_their_answers(rt: HostRuntime) -> Result<(), Fail> {
+    let table: [(u32, u32, &[u8], u8, &[u8]); 6] = [
+        (64, 64, b"", 0, b"ceph-journal 1\n1 file 100 5 -> nodir\n"),
+        (65, 0, b"", 3, b"ceph-fault limit files\n"),
+        (0, 65, b"", 3, b"ceph-fault limit dirs\n"),
+        (65, 65, b"", 3, b"ceph-fault limit files\n"),
+        (65, 65, b"toserver\n", 2, b"ceph-fault script 132 word\n"),
+        (10_001, 65, b"", 3, b"ceph-fault limit events\n"),
     ];
-    for (times, end, wanted, text) in table.iter() {
-        let script = repeated(rt.alloc(), HEADER, b"file 100 5\n", *times, end)?;
+    for (files, dirs, end, wanted, text) in table.iter() {
+        let front = repeated(rt.alloc(), HEADER, b"file 100 5\n", *files, b"")?;
+        let script = repeated(rt.alloc(), front.as_slice(), b"dir 2 5\n", *dirs, end)?;
         let (status, sink) = run(rt.alloc(), script.as_slice())?;
         assert_eq!(rt; status, *wanted);
         assert!(rt; sink.bytes().starts_with(text));

@@ -1,7 +1,7 @@
 // Reads the input of a run and judges it.
 ghost use Rattle.std.specs.Prelude.{◌≡◌, ◌≤◌, Some, IfOk, IsErrOf, count_by};
 ghost use Rattle.cs_ids.specs.Devices.{Rose};
-ghost use Rattle.ceph_run.specs.Inputs.{JudgesWhole, JudgesScript, IsWithinLimit, is_file};
+ghost use Rattle.ceph_run.specs.Inputs.{JudgesWhole, JudgesScript, IsWithinLimit, is_dir, is_file};
 ghost use Rattle.ceph_run.specs.Refusals.{refusal_text, refusal_status};
 
 use cs_ids::Memory;
@@ -17,8 +17,11 @@ const MOST_BYTES: usize = 1_048_576;
 /// The most events of a script.
 const MOST_EVENTS: usize = 10_000;
 
-/// The most files that a script makes.
+/// The most `file` lines of a script.
 const MOST_FILES: usize = 64;
+
+/// The most `dir` lines of a script.
+const MOST_DIRS: usize = 64;
 
 /// Why an input isn't run.
 #[derive(Clone, Copy)]
@@ -31,6 +34,8 @@ pub enum Refusal {
     TooManyEvents,
     /// It is a script of over 64 `file` lines, whatever they would be answered.
     TooManyFiles,
+    /// It is a script of over 64 `dir` lines, whatever they would be answered.
+    TooManyDirs,
 }
 
 impl fmt::Display for Refusal {
@@ -46,6 +51,7 @@ impl fmt::Display for Refusal {
             }
             Refusal::TooManyEvents => write!(f, "ceph-fault limit events"),
             Refusal::TooManyFiles => write!(f, "ceph-fault limit files"),
+            Refusal::TooManyDirs => write!(f, "ceph-fault limit dirs"),
         }
     }
 }
@@ -57,7 +63,10 @@ impl Refusal {
     {
         match self {
             Refusal::Faulty(_) => 2,
-            Refusal::TooLong | Refusal::TooManyEvents | Refusal::TooManyFiles => 3,
+            Refusal::TooLong
+            | Refusal::TooManyEvents
+            | Refusal::TooManyFiles
+            | Refusal::TooManyDirs => 3,
         }
     }
 }
@@ -97,6 +106,8 @@ fn judge(alloc: Global, bytes: &[u8]) -> Result<Input, Memory>
                 Ok(Input::Refused(Refusal::TooManyEvents))
             } else if count_files(script.events()) > MOST_FILES {
                 Ok(Input::Refused(Refusal::TooManyFiles))
+            } else if count_dirs(script.events()) > MOST_DIRS {
+                Ok(Input::Refused(Refusal::TooManyDirs))
             } else {
                 Ok(Input::Runs(script))
             }
@@ -111,5 +122,15 @@ fn count_files(events: &[Event]) -> usize
     events
         .iter()
         .filter(|event| matches!(event, Event::File { .. }))
+        .count()
+}
+
+// How many `dir` lines a script has.
+fn count_dirs(events: &[Event]) -> usize
+    ensures { result ≡ count_by is_dir events.now }
+{
+    events
+        .iter()
+        .filter(|event| matches!(event, Event::Dir { .. }))
         .count()
 }

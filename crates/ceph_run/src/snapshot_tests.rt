@@ -38,14 +38,22 @@ const REFUSED: &[u8] =
 const REFUSALS: &[u8] =
     b"ceph-journal 1\n1 file 100 1 -> made\n2 grant 100 Frw 8 -> sent 1 held Frw\n3 toclient -> cap 100 1 Frw 8\n4 snap 2 a -> unknown\n5 snap 1 a -> snap 1\n6 snap 1 a -> exists\n7 flushsnaps 101 -> unknown\n8 flushsnaps 100 -> none\n9 commit -> commit 1\n10 begin 1 100 Fw 8 -> ref 1\n11 toclient -> snap 1 1 1\n12 flushsnaps 100 -> writing\n13 tomds -> idle\nend 13\n";
 
+// Two realms, and the removal of a snapshot of one of them.
+const REALMS: &[u8] =
+    b"ceph-script 1\ndir 2 1\nfile 100 2\nfile 101 1\nsnap 2 a\nsnap 1 b\ncommit\ntoclient\ntoclient\nshow 101 1 0 4\nshow 100 1 0 4\nrmsnap 1\nshow 100 1 0 4\ncommit\ntoclient\n";
+
+const COVERED: &[u8] =
+    b"ceph-journal 1\n1 dir 2 1 -> made\n2 file 100 2 -> made\n3 file 101 1 -> made\n4 snap 2 a -> snap 1\n5 snap 1 b -> snap 2\n6 commit -> commit 2\n7 toclient -> snap 1 2 0\n8 toclient -> snap 2 1 0\n9 show 101 1 0 4 -> nosnap\n10 show 100 1 0 4 -> size 0 mtime 0 mode 0644 bytes -\n11 rmsnap 1 -> removed 1 3\n12 show 100 1 0 4 -> gone\n13 commit -> commit 1\n14 toclient -> snap 3 2 0\nend 14\n";
+
 #[test]
 fn snapshots_are_answered(rt: HostRuntime) -> Result<(), Fail> {
-    let table: [(&[u8], &[u8], usize); 5] = [
+    let table: [(&[u8], &[u8], usize); 6] = [
         (UNDER_A_WRITER, SHOWN, 2),
         (LATER_WRITES, HEAD_PENDING, 3),
         (TWO_SNAPSHOTS, ONE_CAP_SNAP, 1),
         (WRITE_AFTER, SHOWN_EMPTY, 1),
         (REFUSED, REFUSALS, 0),
+        (REALMS, COVERED, 0),
     ];
     for (input, wanted, ops) in table.iter() {
         let (status, store, sink) = run_over(rt.alloc(), input, MemStore::new(rt.alloc()))?;

@@ -4,7 +4,7 @@ use Rattle.cs_ids.specs.declared.objects.FileMeta.{FileMeta}
 use Rattle.cs_laws.specs.declared.answers.Entry.{Entry}
 use Rattle.cs_laws.specs.declared.objects.At.{At}
 use Rattle.cs_laws.specs.declared.objects.ObjOp.{ObjOp}
-use Rattle.cs_laws.specs.Answers.{stands}
+use Rattle.cs_laws.specs.Answers.{covers_file, is_gone, standing_context, stands}
 use Rattle.cs_laws.specs.Events.{server_knows}
 use Rattle.cs_laws.specs.History.{stand, writes}
 use Rattle.cs_laws.specs.Image.{Write, image}
@@ -22,10 +22,11 @@ pub record ReadsBack (f : ℕ) (a : At) (ops : List ObjOp) (meta : FileMeta) (ws
   pub mode : meta.mode ≡ bits
   pub bytes : (i : ℕ) → i < meta.size → object_byte a (record { ino = f; index = i / 65536 }) ops (i % 65536) ≡ image ws i
 
--- each file that the server knows, at each state that stands and isn't owed, reads back as exactly the writes of before
+-- each file that the server knows, at each state that stands, isn't removed, covers it and isn't owed, reads back as exactly the writes of before
 abbrev pub StatesReadBack : List ObjOp → List Entry → Type 0
 StatesReadBack ops h =
-    (f : ℕ) (a : At) → server_knows h f ≡ true → stands a (stand h) ≡ true → owed h f a ≡ false
+    (f : ℕ) (a : At) → server_knows h f ≡ true → stands a (stand h) ≡ true → is_gone a (stand h) ≡ false
+    → covers_file a (standing_context h f) ≡ true → owed h f a ≡ false
     → ReadsBack f a ops (meta_at f a (stand h)) (writes_at a (writes h f)) (mode_at h f a)
 
 -- the store lists exactly the operations that the history implies, and reads back with the records

@@ -1,5 +1,5 @@
 -- The answer to each event, by tests in the order in which they are made.
-use Rattle.std.specs.Prelude.{ℕ, zero, suc, ◌+◌, ◌-◌, min, ◌==◌, ◌&&◌, Bool, true, List, [], ◌∷◌, Option, Some, None, if◌then◌else◌, nat_lt, nat_le, length}
+use Rattle.std.specs.Prelude.{ℕ, zero, suc, ◌+◌, ◌-◌, min, ◌==◌, ◌&&◌, Bool, true, false, List, [], ◌∷◌, Option, Some, None, if◌then◌else◌, nat_lt, nat_le, length, ◌||◌}
 use Rattle.cs_bits.specs.declared.Caps.{Caps}
 use Rattle.cs_bits.specs.Bits.{is_empty, covers, file_write}
 use Rattle.cs_parts.specs.declared.capabilities.ClientCaps.{ClientCaps}
@@ -21,19 +21,27 @@ use Rattle.cs_laws.specs.declared.answers.Why.TheVariants as why
 use Rattle.cs_laws.specs.declared.messages.Message.{Message}
 use Rattle.cs_laws.specs.declared.messages.Message.TheVariants as messages
 use Rattle.cs_snapctx.specs.Context.{Context}
+use Rattle.cs_snapctx.specs.Records.{with_records}
 use Rattle.cs_laws.specs.CapSnaps.{CapSnap, is_open, is_writing, makes}
-use Rattle.cs_laws.specs.Context.{last_record, root_context}
-use Rattle.cs_laws.specs.Events.{setup_file, files, client_knows, server_knows, is_directory, begun}
-use Rattle.cs_laws.specs.History.{client, server, to_client, to_server, root, context, live, writes, dirty, queued, fresh, stand, sent, used}
+use Rattle.cs_laws.specs.Context.{path_context}
+use Rattle.cs_laws.specs.Realms.{realm_records}
+use Rattle.cs_laws.specs.Tree.{directories, file_path, is_directory, path}
+use Rattle.cs_laws.specs.Events.{setup_file, files, client_knows, server_knows, begun}
+use Rattle.cs_laws.specs.History.{client, server, to_client, to_server, realms, context, live, writes, dirty, queued, fresh, stand, sent, used}
 use Rattle.cs_laws.specs.References.{can_end, named}
 use Rattle.cs_laws.specs.Image.{Write, image}
 use Rattle.cs_laws.specs.Metadata.{meta_at}
 use Rattle.cs_laws.specs.Owed.{owed}
 use Rattle.cs_laws.specs.Shown.{writes_at}
-use Rattle.cs_laws.specs.Standing.{greatest_snap, has_snap_named, number_of}
+use Rattle.cs_laws.specs.Standing.{greatest_number, has_snap, has_snap_named, is_removed}
 
-abbrev pub answer_file : List Entry → ℕ → ℕ → Answer
-answer_file h f p = if setup_file h f then answers.Exists else if is_directory h p then answers.Made else answers.NoDir
+-- a directory or a file has the inode
+abbrev pub is_in_use : List Entry → ℕ → Bool
+is_in_use h i = is_directory h i || setup_file h i
+
+-- the answer to a line that makes a directory or a file, i, in another
+abbrev pub answer_made : List Entry → ℕ → ℕ → Answer
+answer_made h i p = if is_in_use h i then answers.Exists else if is_directory h p then answers.Made else answers.NoDir
 
 -- the set has the right to write
 abbrev pub may_write : Caps → Bool
@@ -82,17 +90,17 @@ answer_flush_snaps_of rs count (x ∷ xs) = if is_open rs x then answers.Writing
 abbrev pub answer_flush_snaps : List Entry → ℕ → Answer
 answer_flush_snaps h f = if client_knows h f then answer_flush_snaps_of (live h) (length (sent h)) (queued h f) else answers.Unknown
 
--- how many of these files get a cap snap where the root's context becomes another one
-abbrev pub count_made : List Entry → Context → List ℕ → ℕ
+-- how many of these files get a cap snap where they have new contexts
+abbrev pub count_made : List Entry → (ℕ → Context) → List ℕ → ℕ
 count_made h new [] = 0
-count_made h new (f ∷ fs) = (if makes f (context h f) new (live h) (dirty h f) (queued h f) then 1 else 0) + count_made h new fs
+count_made h new (f ∷ fs) = (if makes f (context h f) (new f) (live h) (dirty h f) (queued h f) then 1 else 0) + count_made h new fs
 
 -- the line of a message that is delivered to the client
 abbrev pub answer_told : List Entry → Message → Answer
 answer_told h (messages.Cap f seq bits end) = answers.Cap f seq bits end
 answer_told h (messages.FlushAck f tid) = answers.FlushAck f tid
-answer_told h (messages.Snap number realm realms) =
-    answers.SnapTold number realm (count_made h (root_context (last_record realms (root h))) (files h))
+answer_told h (messages.Snap number realm told) =
+    answers.SnapTold number realm (count_made h (λ f. path_context (file_path h f) (with_records told (realms h))) (files h))
 answer_told h _ = answers.Idle
 
 abbrev pub answer_to_client_of : List Entry → List Message → Answer
@@ -133,13 +141,34 @@ answer_revoke h f bits = if server_knows h f then sent_cap (revoked (server h f)
 abbrev pub answer_snap : List Entry → ℕ → List ℕ → Answer
 answer_snap h d name =
     if is_directory h d then
-    (if has_snap_named d name (stand h) then answers.Exists else answers.Snap (greatest_snap (stand h) + 1))
+    (if has_snap_named d name (stand h) then answers.Exists else answers.Snap (greatest_number (stand h) + 1))
     else answers.Unknown
 
--- the state is the head, or that of a snapshot that stands; the root's snapshots cover all files
+-- the number of a removal
+abbrev pub answer_remove : List Entry → ℕ → Answer
+answer_remove h s =
+    if has_snap s (stand h) then
+    (if is_removed s (stand h) then answers.Gone else answers.Removed s (greatest_number (stand h) + 1))
+    else answers.NoSnap
+
+-- the state is the head, or that of a snapshot that stands
 abbrev pub stands : At → List Record → Bool
 stands at.Head rs = true
-stands (at.Snap s) rs = nat_le 1 s && list_any (λ r. number_of r.body == s) rs
+stands (at.Snap s) rs = has_snap s rs
+
+-- it is that of a snapshot that is removed
+abbrev pub is_gone : At → List Record → Bool
+is_gone at.Head rs = false
+is_gone (at.Snap s) rs = is_removed s rs
+
+-- the context of a file by all standing records
+abbrev pub standing_context : List Entry → ℕ → Context
+standing_context h f = path_context (file_path h f) (realm_records (λ d. path h d) (directories h) (stand h))
+
+-- the state is the head, or the snapshot covers the file
+abbrev pub covers_file : At → Context → Bool
+covers_file at.Head ctx = true
+covers_file (at.Snap s) ctx = list_any (λ t. t == s) ctx.snaps
 
 -- the bytes of an image from a place on
 abbrev pub bytes_from : (ℕ → ℕ) → ℕ → ℕ → List ℕ
@@ -154,13 +183,17 @@ abbrev pub answer_show : List Entry → ℕ → At → ℕ → ℕ → Answer
 answer_show h f a off len =
     if server_knows h f then
     (if stands a (stand h) then
+    (if is_gone a (stand h) then answers.Gone
+    else if covers_file a (standing_context h f) then
     (if owed h f a then answers.Pending else shown (meta_at f a (stand h)) (writes_at a (writes h f)) off len)
+    else answers.NoSnap)
     else answers.NoSnap)
     else answers.Unknown
 
 -- the answer to an event after a history, where so many pages may be cached
 abbrev pub answer : ℕ → List Entry → Event → Answer
-answer pages h (events.File f p) = answer_file h f p
+answer pages h (events.Dir d p) = answer_made h d p
+answer pages h (events.File f p) = answer_made h f p
 answer pages h (events.Begin caller f bits end) = answer_begin h caller f bits end
 answer pages h (events.End caller name) = answer_end h caller name
 answer pages h (events.Write caller name off bytes) = answer_write h caller name off bytes
@@ -171,5 +204,6 @@ answer pages h events.ToMds = answer_to_mds h
 answer pages h (events.Grant f bits end) = answer_grant h f bits end
 answer pages h (events.Revoke f bits) = answer_revoke h f bits
 answer pages h (events.Snap d name) = answer_snap h d name
+answer pages h (events.RemoveSnap s) = answer_remove h s
 answer pages h events.Commit = answers.Commit (length (fresh h))
 answer pages h (events.Show f a off len) = answer_show h f a off len

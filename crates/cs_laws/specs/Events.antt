@@ -32,10 +32,6 @@ client_knows h f = setup_file h f
 abbrev pub server_knows : List Entry → ℕ → Bool
 server_knows h f = setup_file h f
 
--- the root is the one directory
-abbrev pub is_directory : List Entry → ℕ → Bool
-is_directory h d = d == 1
-
 -- the time that was told last: no event tells one yet
 abbrev pub clock_then : Event → Answer → ℕ → ℕ
 clock_then _ _ t = t

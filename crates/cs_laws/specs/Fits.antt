@@ -4,6 +4,8 @@ use Rattle.cs_bits.specs.declared.Caps.{Caps}
 use Rattle.cs_bits.specs.Bits as sets
 use Rattle.cs_laws.specs.declared.events.Event.{Event}
 use Rattle.cs_laws.specs.declared.events.Event.TheVariants as events
+use Rattle.cs_laws.specs.declared.objects.At.{At}
+use Rattle.cs_laws.specs.declared.objects.At.TheVariants as at
 
 -- the greatest size of a file, in bytes
 abbrev pub greatest_end : ℕ
@@ -29,11 +31,18 @@ most_shown = 4096
 abbrev pub is_shown : ℕ → ℕ → Bool
 is_shown off len = nat_lt off greatest_end && (nat_le 1 len && nat_le len most_shown)
 
+-- the present state, or that at a snapshot, which count from 1
+abbrev pub is_state : At → Bool
+is_state at.Head = true
+is_state (at.Snap s) = nat_le 1 s
+
 abbrev pub fits : Event → Bool
+fits (events.Dir d p) = nat_le 2 d && nat_le d 9999
 fits (events.File f p) = nat_le 2 f && nat_le f 9999
 fits (events.Begin caller f bits end) = is_built bits && nat_le end greatest_end
 fits (events.Write caller name off bytes) = is_write off bytes
 fits (events.Grant f bits end) = is_built bits && nat_le end greatest_end
 fits (events.Revoke f bits) = is_built bits
-fits (events.Show f a off len) = is_shown off len
+fits (events.RemoveSnap s) = nat_le 1 s
+fits (events.Show f a off len) = is_state a && is_shown off len
 fits _ = true

@@ -8,26 +8,23 @@ use Rattle.cs_laws.specs.declared.answers.Answer.{Answer}
 use Rattle.cs_laws.specs.declared.answers.Answer.TheVariants as answers
 use Rattle.cs_laws.specs.declared.messages.Message.{Message}
 use Rattle.cs_laws.specs.declared.messages.Message.TheVariants as messages
-use Rattle.cs_laws.specs.declared.records.Record.{Record}
 use Rattle.cs_laws.specs.CapSnaps.{CapSnap}
-use Rattle.cs_laws.specs.Context.{empty_root}
 use Rattle.cs_laws.specs.Flushes.{flush_message, flush_snap, first_mode}
 use Rattle.cs_laws.specs.Image.{Write}
-use Rattle.cs_laws.specs.Standing.{realm_after, told}
 
 -- what the client may have from now on
 abbrev pub cap_message : ℕ → ServerCaps → Message
 cap_message f s = messages.Cap f s.seq s.given s.max
 
--- server f: the server's end of f before the entry; durable, fresh: the durable records and the others before it
-abbrev pub to_client_then : Event → Answer → (ℕ → ServerCaps) → List Record → List Record → List Message → List Message
-to_client_then (events.Grant f bits end) (answers.SentCap seq held) server durable fresh q = q ++ cap_message f (granted (server f) bits end) ∷ []
-to_client_then (events.Revoke f bits) (answers.SentCap seq held) server durable fresh q = q ++ cap_message f (revoked (server f) bits) ∷ []
-to_client_then events.Commit (answers.Commit count) server durable fresh q = q ++ told (realm_after empty_root durable) fresh
-to_client_then events.ToClient (answers.Cap g seq bits end) server durable fresh q = drop 1 q
-to_client_then events.ToClient (answers.FlushAck f tid) server durable fresh q = drop 1 q
-to_client_then events.ToClient (answers.SnapTold number realm made) server durable fresh q = drop 1 q
-to_client_then _ _ server durable fresh q = q
+-- server f: the server's end of f before the entry; news: what the client is told where all records become durable
+abbrev pub to_client_then : Event → Answer → (ℕ → ServerCaps) → List Message → List Message → List Message
+to_client_then (events.Grant f bits end) (answers.SentCap seq held) server news q = q ++ cap_message f (granted (server f) bits end) ∷ []
+to_client_then (events.Revoke f bits) (answers.SentCap seq held) server news q = q ++ cap_message f (revoked (server f) bits) ∷ []
+to_client_then events.Commit (answers.Commit count) server news q = q ++ news
+to_client_then events.ToClient (answers.Cap g seq bits end) server news q = drop 1 q
+to_client_then events.ToClient (answers.FlushAck f tid) server news q = drop 1 q
+to_client_then events.ToClient (answers.SnapTold number realm made) server news q = drop 1 q
+to_client_then _ _ server news q = q
 
 -- writes f, queued f: the writes and the unsent cap snaps of f before the entry
 abbrev pub to_server_then : Event → Answer → (ℕ → List Write) → (ℕ → List CapSnap) → List Message → List Message

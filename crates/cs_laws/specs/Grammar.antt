@@ -91,6 +91,12 @@ only n e ws = if nat_le (length ws) n then Ok e else Err kinds.Extra
 
 -- The events, each by the fields behind its first word
 
+unfoldable pub dir_of : Words → Result Event Kind
+dir_of ws = do
+  d ← number_at 1 2 9999 ws
+  p ← number_at 2 1 99999 ws
+  only 3 (events.Dir d p) ws
+
 unfoldable pub file_of : Words → Result Event Kind
 file_of ws = do
   f ← number_at 1 2 9999 ws
@@ -153,6 +159,11 @@ snap_of ws = do
   n ← name_field 2 ws
   only 3 (events.Snap d n) ws
 
+unfoldable pub remove_of : Words → Result Event Kind
+remove_of ws = do
+  s ← number_at 1 1 99999 ws
+  only 2 (events.RemoveSnap s) ws
+
 unfoldable pub show_of : Words → Result Event Kind
 show_of ws = do
   f ← number_at 1 1 99999 ws
@@ -176,15 +187,15 @@ is_later_client_word w =
 
 abbrev pub is_later_server_word : List ℕ → Bool
 is_later_server_word w =
-    bytes_eq w (codes "dir") || (bytes_eq w (codes "drop") || (bytes_eq w (codes "reconnect")
-    || (bytes_eq w (codes "rmsnap") || (bytes_eq w (codes "unlease") || bytes_eq w (codes "failover")))))
+    bytes_eq w (codes "drop") || (bytes_eq w (codes "reconnect") || (bytes_eq w (codes "unlease") || bytes_eq w (codes "failover")))
 
 abbrev pub is_later_word : List ℕ → Bool
 is_later_word w = is_later_caller_word w || (is_later_client_word w || is_later_server_word w)
 
 unfoldable pub event_by : List ℕ → Words → Result Event Kind
 event_by w ws =
-    if bytes_eq w (codes "file") then file_of ws
+    if bytes_eq w (codes "dir") then dir_of ws
+    else if bytes_eq w (codes "file") then file_of ws
     else if bytes_eq w (codes "begin") then begin_of ws
     else if bytes_eq w (codes "end") then end_of ws
     else if bytes_eq w (codes "write") then write_of ws
@@ -195,6 +206,7 @@ event_by w ws =
     else if bytes_eq w (codes "grant") then grant_of ws
     else if bytes_eq w (codes "revoke") then revoke_of ws
     else if bytes_eq w (codes "snap") then snap_of ws
+    else if bytes_eq w (codes "rmsnap") then remove_of ws
     else if bytes_eq w (codes "commit") then only 1 events.Commit ws
     else if bytes_eq w (codes "show") then show_of ws
     else if is_later_word w then Err kinds.NotBuilt
@@ -207,6 +219,7 @@ event_of ws = word_in (λ w. event_by w ws) (slice_get ws 0)
 
 -- a line of this kind stands before all others
 abbrev pub is_setup : Event → Bool
+is_setup (events.Dir d p) = true
 is_setup (events.File f p) = true
 is_setup _ = false
 

@@ -13,15 +13,17 @@ use Rattle.cs_laws.specs.declared.messages.Message.{Message}
 use Rattle.cs_laws.specs.declared.records.Record.{Record}
 use Rattle.cs_snapctx.specs.declared.realm.RealmRecord.{RealmRecord}
 use Rattle.cs_snapctx.specs.Context.{Context}
+use Rattle.cs_snapctx.specs.Records.{root_record}
 use Rattle.cs_laws.specs.Capabilities.{client_then, server_then}
 use Rattle.cs_laws.specs.CapSnaps.{CapSnap, queued_then}
-use Rattle.cs_laws.specs.Context.{empty_root, root_then, root_context}
+use Rattle.cs_laws.specs.Context.{path_context, realms_then}
 use Rattle.cs_laws.specs.Events.{clock, mode}
 use Rattle.cs_laws.specs.Flight.{to_client_then, to_server_then}
 use Rattle.cs_laws.specs.Flushes.{Flush, sent_then}
 use Rattle.cs_laws.specs.Image.{Write}
 use Rattle.cs_laws.specs.References.{live_then, dirty_then}
-use Rattle.cs_laws.specs.Standing.{durable_then, fresh_then}
+use Rattle.cs_laws.specs.Standing.{durable_then, fresh_then, told}
+use Rattle.cs_laws.specs.Tree.{directories, file_path, path}
 use Rattle.cs_laws.specs.Writes.{writes_then}
 
 abbrev mutual
@@ -38,17 +40,17 @@ abbrev mutual
   -- the messages on their way to the client
   pub to_client : List Entry → List Message
   to_client [] = []
-  to_client (x ∷ h) = to_client_then x.event x.answer (λ f. server h f) (durable h) (fresh h) (to_client h)
+  to_client (x ∷ h) = to_client_then x.event x.answer (λ f. server h f) (told (λ d. path h d) (directories h) (durable h) (fresh h)) (to_client h)
 
   -- the messages on their way to the server
   pub to_server : List Entry → List Message
   to_server [] = []
   to_server (x ∷ h) = to_server_then x.event x.answer (λ f. writes h f) (λ f. queued h f) (to_server h)
 
-  -- the root's last realm record that the client has
-  pub root : List Entry → RealmRecord
-  root [] = empty_root
-  root (x ∷ h) = root_then x.event x.answer (to_client h) (root h)
+  -- the realms' last records that were delivered to the client; it has the root's empty one from the start
+  pub realms : List Entry → List RealmRecord
+  realms [] = root_record ∷ []
+  realms (x ∷ h) = realms_then x.event x.answer (to_client h) (realms h)
 
   -- the records of the server's log that are durable
   pub durable : List Entry → List Record
@@ -63,7 +65,7 @@ abbrev mutual
   -- the references begun and not ended
   pub live : List Entry → List Live
   live [] = []
-  live (x ∷ h) = live_then x.event x.answer (λ f. (root_context (root h)).seq) (live h)
+  live (x ∷ h) = live_then x.event x.answer (λ f. (path_context (file_path h f) (realms h)).seq) (live h)
 
   -- the writes to a file, the newest first
   pub writes : List Entry → ℕ → List Write
@@ -79,11 +81,11 @@ abbrev mutual
   pub queued : List Entry → ℕ → List CapSnap
   queued [] f = []
   queued (x ∷ h) f =
-      queued_then x.event x.answer f (root_context (root h)) (root_context (root_then x.event x.answer (to_client h) (root h))) (live h) (dirty h f) (mode h f) (queued h f)
+      queued_then x.event x.answer f (path_context (file_path h f) (realms h)) (path_context (file_path (x ∷ h) f) (realms_then x.event x.answer (to_client h) (realms h))) (live h) (dirty h f) (mode h f) (queued h f)
 
--- the snapshot context of a file, whose realm is the root
+-- the snapshot context of a file, by the realm records that the client has
 abbrev pub context : List Entry → ℕ → Context
-context h f = root_context (root h)
+context h f = path_context (file_path h f) (realms h)
 
 -- the bits of a file that are in use: those of its live references, and those that its dirty metadata needs
 abbrev pub used : List Entry → ℕ → Caps

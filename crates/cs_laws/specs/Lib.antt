@@ -16,9 +16,11 @@ pub mod Metadata
 pub mod Objects
 pub mod Operations
 pub mod Owed
+pub mod Realms
 pub mod References
 pub mod Refusals
 pub mod Shown
 pub mod Standing
 pub mod Texts
+pub mod Tree
 pub mod Writes

@@ -11,7 +11,7 @@ use Rattle.cs_laws.specs.Shown.{is_before}
 -- the flush that a record tells of
 abbrev pub flush_in : RecordBody → Option Flush
 flush_in (bodies.Flush snap f tid follows meta) = Some (record { tid = tid; file = f; follows = follows; meta = meta; snap = snap })
-flush_in (bodies.Snap number d name) = None
+flush_in _ = None
 
 -- y follows a greater number than x does, or the same under a greater tid
 abbrev pub is_behind : Flush → Flush → Bool

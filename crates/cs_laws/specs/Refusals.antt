@@ -24,6 +24,7 @@ is_turned_down answers.Past = true
 is_turned_down answers.Nothing = true
 is_turned_down answers.NoneQueued = true
 is_turned_down answers.NoSnap = true
+is_turned_down answers.Gone = true
 is_turned_down _ = false
 
 abbrev pub is_refusal : Event → Answer → Bool

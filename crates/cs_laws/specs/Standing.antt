@@ -1,5 +1,6 @@
 -- The records of the server's log, the oldest first, and what the client is told of them once they are durable.
-use Rattle.std.specs.Prelude.{ℕ, ◌==◌, ◌&&◌, ◌||◌, Bool, true, false, List, [], ◌∷◌, ◌++◌, max}
+use Rattle.std.specs.Prelude.{ℕ, ◌==◌, ◌&&◌, not, Bool, true, false, List, [], ◌∷◌, ◌++◌, Option, Some, None, unwrap_or, max, if◌then◌else◌}
+use Rattle.std.specs.List.{list_any}
 use Rattle.std.specs.Str.{bytes_eq}
 use Rattle.cs_snapctx.specs.declared.realm.RealmRecord.{RealmRecord}
 use Rattle.cs_laws.specs.declared.events.Event.{Event}
@@ -11,6 +12,7 @@ use Rattle.cs_laws.specs.declared.messages.Message.TheVariants as messages
 use Rattle.cs_laws.specs.declared.records.Record.{Record}
 use Rattle.cs_laws.specs.declared.records.RecordBody.{RecordBody}
 use Rattle.cs_laws.specs.declared.records.RecordBody.TheVariants as bodies
+use Rattle.cs_laws.specs.Realms.{changed_records}
 
 -- the record of a delivered flush
 abbrev pub recorded_of : Message → List Record
@@ -26,6 +28,7 @@ recorded (m ∷ q) = recorded_of m
 abbrev pub fresh_then : Event → Answer → List Message → List Record → List Record
 fresh_then events.ToMds (answers.Flushed f tid) q rs = rs ++ recorded q
 fresh_then (events.Snap d name) (answers.Snap number) q rs = rs ++ record { body = bodies.Snap number d name } ∷ []
+fresh_then (events.RemoveSnap s) (answers.Removed t number) q rs = rs ++ record { body = bodies.Removal s number } ∷ []
 fresh_then events.Commit (answers.Commit count) q rs = []
 fresh_then _ _ q rs = rs
 
@@ -34,45 +37,64 @@ abbrev pub durable_then : Event → Answer → List Record → List Record → L
 durable_then events.Commit (answers.Commit count) fs rs = rs ++ fs
 durable_then _ _ fs rs = rs
 
--- The root's realm record
+-- What the client is told
 
--- after a record of the log
-abbrev pub realm_then : RealmRecord → RecordBody → RealmRecord
-realm_then root (bodies.Flush snap f tid follows meta) = root
-realm_then root (bodies.Snap number d name) = record root { own_seq = number; own = root.own ++ number ∷ [] }
+-- the directory of which the snapshot of a record was taken, or else this one
+abbrev pub dir_in : ℕ → RecordBody → Option ℕ → Option ℕ
+dir_in s (bodies.Snap number d name) later = if number == s then Some d else later
+dir_in s _ later = later
 
--- after these records
-abbrev pub realm_after : RealmRecord → List Record → RealmRecord
-realm_after root [] = root
-realm_after root (r ∷ rs) = realm_after (realm_then root r.body) rs
+-- the directory of a standing snapshot
+abbrev pub dir_of : ℕ → List Record → Option ℕ
+dir_of s [] = None
+dir_of s (r ∷ rs) = dir_in s r.body (dir_of s rs)
 
--- What the client is told of a record that became durable. A snapshot changes the root's realm record, which is told as it
--- stands after that record.
-abbrev pub told_of : RealmRecord → RecordBody → Message
-told_of root (bodies.Flush snap f tid follows meta) = messages.FlushAck f tid
-told_of root (bodies.Snap number d name) = messages.Snap number d (root ∷ [])
+-- What the client is told of a record that became durable, by the records before it. A snapshot changes realms, and so does
+-- a removal; their records are told as they stand after that record.
+abbrev pub told_of : List Record → List RealmRecord → RecordBody → Message
+told_of before realms (bodies.Flush snap f tid follows meta) = messages.FlushAck f tid
+told_of before realms (bodies.Snap number d name) = messages.Snap number d realms
+told_of before realms (bodies.Removal s number) = messages.Snap number (unwrap_or (dir_of s before) 1) realms
 
--- root: the root's realm record before these records
-abbrev pub told : RealmRecord → List Record → List Message
-told root [] = []
-told root (r ∷ rs) = told_of (realm_then root r.body) r.body ∷ told (realm_then root r.body) rs
+-- path, ds: the path of each directory, and the directories, parents first; before: the records before these
+abbrev pub told : (ℕ → List ℕ) → List ℕ → List Record → List Record → List Message
+told path ds before [] = []
+told path ds before (r ∷ rs) = told_of before (changed_records path ds before (before ++ r ∷ [])) r.body ∷ told path ds (before ++ r ∷ []) rs
 
 -- Snapshots among the records
 
-abbrev pub is_snap_named : ℕ → List ℕ → RecordBody → Bool
-is_snap_named d name (bodies.Flush snap f tid follows meta) = false
-is_snap_named d name (bodies.Snap number e other) = (e == d) && bytes_eq name other
+abbrev pub is_snap : ℕ → RecordBody → Bool
+is_snap s (bodies.Snap number d name) = number == s
+is_snap s _ = false
 
--- a directory has a snapshot of this name
+-- the snapshot stands
+abbrev pub has_snap : ℕ → List Record → Bool
+has_snap s rs = list_any (λ r. is_snap s r.body) rs
+
+abbrev pub is_removal : ℕ → RecordBody → Bool
+is_removal s (bodies.Removal t number) = t == s
+is_removal s _ = false
+
+-- a removal of the snapshot stands
+abbrev pub is_removed : ℕ → List Record → Bool
+is_removed s rs = list_any (λ r. is_removal s r.body) rs
+
+-- rs: all standing records
+abbrev pub is_snap_named : ℕ → List ℕ → List Record → RecordBody → Bool
+is_snap_named d name rs (bodies.Snap number e other) = (e == d) && (bytes_eq name other && not (is_removed number rs))
+is_snap_named d name rs _ = false
+
+-- a directory has a snapshot of this name that isn't removed
 abbrev pub has_snap_named : ℕ → List ℕ → List Record → Bool
-has_snap_named d name [] = false
-has_snap_named d name (r ∷ rs) = is_snap_named d name r.body || has_snap_named d name rs
+has_snap_named d name rs = list_any (λ r. is_snap_named d name rs r.body) rs
 
+-- the number that a snapshot or a removal drew
 abbrev pub number_of : RecordBody → ℕ
 number_of (bodies.Flush snap f tid follows meta) = 0
 number_of (bodies.Snap number d name) = number
+number_of (bodies.Removal s number) = number
 
--- the greatest number of a snapshot, or 0 where there is none
-abbrev pub greatest_snap : List Record → ℕ
-greatest_snap [] = 0
-greatest_snap (r ∷ rs) = max (number_of r.body) (greatest_snap rs)
+-- the greatest of them, or 0 where there is none
+abbrev pub greatest_number : List Record → ℕ
+greatest_number [] = 0
+greatest_number (r ∷ rs) = max (number_of r.body) (greatest_number rs)

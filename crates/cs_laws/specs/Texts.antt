@@ -29,6 +29,7 @@ at_text at.Head = codes "head"
 at_text (at.Snap s) = decimal s
 
 abbrev pub event_text : Event → List ℕ
+event_text (events.Dir d p) = codes "dir " ++ decimal d ++ codes " " ++ decimal p
 event_text (events.File f p) = codes "file " ++ decimal f ++ codes " " ++ decimal p
 event_text (events.Begin c f bits end) = codes "begin " ++ decimal c ++ codes " " ++ decimal f ++ codes " " ++ caps_text bits ++ codes " " ++ decimal end
 event_text (events.End c name) = codes "end " ++ decimal c ++ codes " " ++ name_text name
@@ -40,6 +41,7 @@ event_text events.ToMds = codes "tomds"
 event_text (events.Grant f bits end) = codes "grant " ++ decimal f ++ codes " " ++ caps_text bits ++ codes " " ++ decimal end
 event_text (events.Revoke f bits) = codes "revoke " ++ decimal f ++ codes " " ++ caps_text bits
 event_text (events.Snap d name) = codes "snap " ++ decimal d ++ codes " " ++ name
+event_text (events.RemoveSnap s) = codes "rmsnap " ++ decimal s
 event_text events.Commit = codes "commit"
 event_text (events.Show f a off len) = codes "show " ++ decimal f ++ codes " " ++ at_text a ++ codes " " ++ decimal off ++ codes " " ++ decimal len
 
@@ -78,8 +80,10 @@ answer_text (answers.CapAck f seq held) = codes "capack " ++ decimal f ++ codes 
 answer_text (answers.Flushed f tid) = codes "flushed " ++ decimal f ++ codes " " ++ decimal tid
 answer_text (answers.SentCap seq held) = codes "sent " ++ decimal seq ++ codes " held " ++ caps_text held
 answer_text (answers.Snap number) = codes "snap " ++ decimal number
+answer_text (answers.Removed s number) = codes "removed " ++ decimal s ++ codes " " ++ decimal number
 answer_text (answers.Commit count) = codes "commit " ++ decimal count
 answer_text answers.NoSnap = codes "nosnap"
+answer_text answers.Gone = codes "gone"
 answer_text answers.Pending = codes "pending"
 answer_text (answers.Size meta bytes) =
     codes "size " ++ decimal meta.size ++ codes " mtime " ++ decimal meta.mtime ++ codes " mode " ++ mode_text meta.mode ++ codes " bytes "

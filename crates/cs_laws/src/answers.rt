@@ -31,7 +31,7 @@ pub enum Answer {
     Again(Why),
     /// No message is on its way.
     Idle,
-    /// The file stands from now on.
+    /// The directory or file stands from now on.
     Made,
     /// 256 references live.
     Full,
@@ -81,7 +81,7 @@ pub enum Answer {
         file: Ino,
         tid: Tid,
     },
-    /// The client was told of a snapshot of a realm, and made so many cap snaps.
+    /// The client was told of a snapshot of a realm, or of a removal, and made so many cap snaps.
     SnapTold {
         number: Snap,
         realm: Ino,
@@ -107,12 +107,19 @@ pub enum Answer {
     Snap {
         number: Snap,
     },
+    /// A snapshot was removed, under this number of its own.
+    Removed {
+        snap: Snap,
+        number: Snap,
+    },
     /// So many records are durable that weren't.
     Commit {
         count: u32,
     },
-    /// There is no such snapshot.
+    /// There is no such snapshot, or none that covers the file.
     NoSnap,
+    /// The snapshot was removed.
+    Gone,
     /// The server may not have yet what the file was then.
     Pending,
     /// A file's metadata, and bytes of it, as far as its size goes.
@@ -196,8 +203,13 @@ impl Answer {
                 held: *held,
             },
             Answer::Snap { number } => Answer::Snap { number: *number },
+            Answer::Removed { snap, number } => Answer::Removed {
+                snap: *snap,
+                number: *number,
+            },
             Answer::Commit { count } => Answer::Commit { count: *count },
             Answer::NoSnap => Answer::NoSnap,
+            Answer::Gone => Answer::Gone,
             Answer::Pending => Answer::Pending,
             Answer::Size { meta, bytes } => Answer::Size {
                 meta: *meta,

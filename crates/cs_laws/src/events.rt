@@ -1,10 +1,10 @@
 // The events of a script.
-ghost use Rattle.std.specs.Prelude.{◌≡◌, IfOk};
-ghost use Rattle.cs_laws.specs.Fits.{fits, is_built, is_write};
+ghost use Rattle.std.specs.Prelude.{◌≡◌, ◌&&◌, nat_le, IfOk};
+ghost use Rattle.cs_laws.specs.Fits.{fits, is_built, is_shown, is_state, is_write};
 
 use crate::At;
 use cs_bits::Caps;
-use cs_ids::{Bytes, Caller, Ino, Memory, Name, RefNo};
+use cs_ids::{Bytes, Caller, Ino, Memory, Name, RefNo, Snap};
 use std::alloc::Global;
 
 /// How a script names a reference.
@@ -19,6 +19,11 @@ pub enum RefName {
 /// What happens: one atomic step of the client, the server or a caller.
 #[derive(Drop)]
 pub enum Event {
+    /// A directory stands in another before the run begins. A script gives it inode 2 to 9,999.
+    Dir {
+        dir: Ino,
+        parent: Ino,
+    },
     /// A file stands in a directory before the run begins. A script gives it inode 2 to 9,999.
     File {
         file: Ino,
@@ -73,6 +78,10 @@ pub enum Event {
         dir: Ino,
         name: Name,
     },
+    /// The server removes a snapshot. A script gives it a number from 1 on.
+    RemoveSnap {
+        snap: Snap,
+    },
     /// The server makes all of its records durable, and tells the client of those that were not.
     Commit,
     /// What the store and the server's records hold of a file at a snapshot, or at present: its
@@ -95,6 +104,10 @@ impl Event {
         let _told: Option<RefName> = None;
         let _at: Option<At> = None;
         Ok(match self {
+            Event::Dir { dir, parent } => Event::Dir {
+                dir: *dir,
+                parent: *parent,
+            },
             Event::File { file, parent } => Event::File {
                 file: *file,
                 parent: *parent,
@@ -148,6 +161,7 @@ impl Event {
                 dir: *dir,
                 name: Name::from_slice(alloc, name.as_slice())?,
             },
+            Event::RemoveSnap { snap } => Event::RemoveSnap { snap: *snap },
             Event::Commit => Event::Commit,
             Event::Show { file, at, off, len } => {
                 Event::Show {
@@ -166,12 +180,14 @@ impl Event {
         ensures { result ≡ fits self.now }
     {
         match self {
-            Event::File { file, .. } => 2 <= file.get() && file.get() <= 9_999,
+            Event::Dir { dir, .. } => is_setup_inode(*dir),
+            Event::File { file, .. } => is_setup_inode(*file),
             Event::Begin { bits, end, .. } => is_built(*bits) && *end <= 1_048_576,
             Event::Write { off, bytes, .. } => is_write(*off, bytes.as_slice()),
             Event::Grant { bits, max, .. } => is_built(*bits) && *max <= 1_048_576,
             Event::Revoke { bits, .. } => is_built(*bits),
-            Event::Show { off, len, .. } => *off <= 1_048_575 && 1 <= *len && *len <= 4096,
+            Event::RemoveSnap { snap } => 1 <= snap.get(),
+            Event::Show { at, off, len, .. } => is_state(*at) && is_shown(*off, *len),
             Event::End { .. }
             | Event::Check { .. }
             | Event::FlushSnaps { .. }
@@ -181,6 +197,30 @@ impl Event {
             | Event::Commit => true,
         }
     }
+}
+
+// Whether a line that stands before all others may make the inode.
+fn is_setup_inode(inode: Ino) -> bool
+    ensures { result ≡ (nat_le 2 inode && nat_le inode 9999) }
+{
+    2 <= inode.get() && inode.get() <= 9_999
+}
+
+// Whether a script names the state: snapshots count from 1.
+fn is_state(at: At) -> bool
+    ensures { result ≡ is_state at }
+{
+    match at {
+        At::Head => true,
+        At::Snap(number) => 1 <= number.get(),
+    }
+}
+
+// Whether a script may ask for so many bytes from the offset on.
+fn is_shown(off: u32, len: u32) -> bool
+    ensures { result ≡ is_shown off len }
+{
+    off <= 1_048_575 && 1 <= len && len <= 4096
 }
 
 // Whether a script may write so many bytes at the offset.

@@ -16,7 +16,7 @@ pub enum Kind {
     Range,
     /// A further word follows.
     Extra,
-    /// A `file` line stands after an event of another kind.
+    /// A `dir` or `file` line stands after an event of another kind.
     Late,
     /// The line has over 4,096 bytes.
     Long,

@@ -18,7 +18,8 @@ pub enum Message {
         file: Ino,
         tid: Tid,
     },
-    /// A snapshot of a realm is durable. With it come the records of the realms that it changed.
+    /// A snapshot of a realm, or a removal of one, is durable. With it come the records of the realms
+    /// that it changed, parents first.
     Snap {
         number: Snap,
         realm: Ino,

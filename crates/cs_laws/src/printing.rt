@@ -100,6 +100,7 @@ impl fmt::Display for Event {
 
     fn fmt<W: fmt::Write>(&self, f: &mut fmt::Formatter<W>) -> fmt::Result {
         match self {
+            Event::Dir { dir, parent } => write!(f, "dir {} {}", dir.get(), parent.get()),
             Event::File { file, parent } => write!(f, "file {} {}", file.get(), parent.get()),
             Event::Begin {
                 caller,
@@ -127,6 +128,7 @@ impl fmt::Display for Event {
                 write!(f, "snap {} ", dir.get())?;
                 write_name(name, f)
             }
+            Event::RemoveSnap { snap } => write!(f, "rmsnap {}", snap.get()),
             Event::Commit => write!(f, "commit"),
             Event::Show { file, at, off, len } => {
                 write!(f, "show {} {at} {off} {len}", file.get())
@@ -178,8 +180,12 @@ impl fmt::Display for Answer {
             Answer::Flushed { file, tid } => write!(f, "flushed {} {}", file.get(), tid.get()),
             Answer::SentCap { seq, held } => write!(f, "sent {} held {held}", seq.get()),
             Answer::Snap { number } => write!(f, "snap {}", number.get()),
+            Answer::Removed { snap, number } => {
+                write!(f, "removed {} {}", snap.get(), number.get())
+            }
             Answer::Commit { count } => write!(f, "commit {count}"),
             Answer::NoSnap => write!(f, "nosnap"),
+            Answer::Gone => write!(f, "gone"),
             Answer::Pending => write!(f, "pending"),
             Answer::Size { meta, bytes } => {
                 write!(f, "size {} mtime {} mode ", meta.size, meta.mtime)?;

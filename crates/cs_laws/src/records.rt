@@ -30,6 +30,11 @@ pub enum RecordBody {
         dir: Ino,
         name: Name,
     },
+    /// A snapshot was removed, under a number of its own.
+    Removal {
+        snap: Snap,
+        number: Snap,
+    },
 }
 
 /// A list of realm records that grows at its end.

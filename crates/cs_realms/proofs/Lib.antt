@@ -1,6 +1,9 @@
+pub mod Clear
 pub mod Members
 pub mod Once
 pub mod Places
+pub mod Puts
+pub mod Renewing
 pub mod Stays
 pub mod Steps
 pub mod Ups

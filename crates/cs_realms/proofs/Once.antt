@@ -1,13 +1,14 @@
 -- Each realm has one change at most.
-use Rattle.std.proofs.Common.{◌≡◌, ℕ, Bool, true, false, cond, List, [], ◌∷◌, Option, Some, None, is_some, filter, refl, ◌∙◌, ap, subst, eqb-true}
+use Rattle.std.proofs.Common.{◌≡◌, ℕ, Bool, true, false, cond, List, [], ◌∷◌, Option, Some, None, is_some, filter, refl, sym, ◌∙◌, ap, subst, eqb-true}
 use Rattle.std.specs.List.{cons_option, filter_map}
 use Rattle.std.specs.Option.{option_map, option_to_list}
 use Rattle.cs_snapctx.specs.declared.realm.RealmRecord.{RealmRecord}
 use Rattle.cs_snapctx.specs.Context.{Context}
 use Rattle.cs_realms.specs.declared.changed.Change.{Change}
 use Rattle.cs_realms.specs.Changes.{change, changes, is_of_change, is_same}
-use Rattle.cs_realms.specs.Contexts.{context, context_of}
-use Rattle.cs_realms.specs.Records.{AreDistinct, is_known, is_of, record_of}
+use Rattle.cs_snapctx.specs.Contexts.{context, context_of}
+use Rattle.cs_snapctx.specs.Records.{AreDistinct, is_known, is_of, record_of, with_record}
+use Rattle.cs_realms.proofs.Stays.{stays_distinct}
 
 module _ (g : ℕ → Option Change) (own : (i : ℕ) (c : Change) → g i ≡ Some c → c.realm ≡ i) where
   one_each : (i : ℕ) (rs : List RealmRecord) → AreDistinct rs
@@ -63,3 +64,9 @@ once before after d i =
         → cond (is_some o) (option_to_list (change i (context before i) (option_map (context_of after) o))) [] ≡ option_to_list (change i (context before i) (option_map (context_of after) o))
     at None = refl
     at (Some r) = refl
+
+-- the changes that one record makes
+pub once_taken : (r : RealmRecord) (before after : List RealmRecord) (cs : List Change) → AreDistinct before → after ≡ with_record r before → cs ≡ changes before after
+    → (i : ℕ) → filter (is_of_change i) cs ≡ option_to_list (change i (context before i) (context after i))
+once_taken r before after cs d e f i =
+    ap (filter (is_of_change i)) f ∙ once before after (subst AreDistinct (sym e) (stays_distinct r before d)) i

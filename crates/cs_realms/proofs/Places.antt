@@ -1,15 +1,13 @@
 -- The places of the records in their list.
-use Rattle.std.proofs.Common.{◌≡◌, ℕ, zero, suc, ◌+◌, ◌<◌, nat_lt, Bool, true, false, cond, ◌↔◌, Bor, List, [], ◌∷◌, ◌++◌, Option, Some, None, is_some, IsNone, length, get_or, take, map, set, position, refl, sym, ◌∙◌, ap, arith}
-use Rattle.std.specs.List.{cons_option, filter_map, find, position_or_len, slice_get}
-use Rattle.std.specs.Option.{option_copied, option_map, option_to_list}
+use Rattle.std.proofs.Common.{◌≡◌, ℕ, zero, suc, ◌+◌, ◌<◌, nat_lt, Bool, true, false, cond, ◌↔◌, Bor, List, [], ◌∷◌, ◌++◌, Option, Some, None, is_some, IsNone, length, map, set, position, refl, sym, ◌∙◌, ap, arith}
+use Rattle.std.specs.List.{find, position_or_len, slice_get}
+use Rattle.std.specs.Option.{option_copied, option_map}
 use Rattle.std.specs.Slice.{IsGetResult}
 use Rattle.std.proofs.lemmas.Bool.{ltb-false}
-use Rattle.std.proofs.lemmas.List.{take_more}
-use Rattle.std.proofs.lemmas.List.Elements.{filter_map-append}
 use Rattle.std.proofs.lemmas.List.Folds.{find_at}
 use Rattle.std.proofs.lemmas.Option.{cond_some, slice_get-map, slice_get_past, slice_get_read}
 use Rattle.cs_snapctx.specs.declared.realm.RealmRecord.{RealmRecord}
-use Rattle.cs_realms.specs.Records.{is_of, with_record}
+use Rattle.cs_snapctx.specs.Records.{is_known, is_of, with_record}
 
 cond_none : {X : Type 0} (b : Bool) (x : X) → cond b (Some x) None ≡ None → b ≡ false
 cond_none true x e = absurd cc
@@ -28,6 +26,21 @@ not_found p xs e =
 
 pub found_in : {X Y : Type 0} (f : X → Y) (p : X → Bool) (xs : List X) (n : ℕ) → position p xs ≡ Some n → slice_get (map f xs) n ≡ option_map f (find p xs)
 found_in f p xs n e = slice_get-map f xs n ∙ ap (option_map f) (sym (found p xs n e))
+
+there : {X : Type 0} (xs : List X) (n : ℕ) → n < length xs → is_some (slice_get xs n) ≡ true
+there [] n l = absurd (omega arith)
+there (x ∷ xs) zero l = refl
+there (x ∷ xs) (suc n) l = there xs n (omega arith)
+
+-- a realm that has a place is known
+pub place_known : (i : ℕ) (xs : List RealmRecord) (n : ℕ) → position (is_of i) xs ≡ Some n → is_known i xs ≡ true
+place_known i xs n e =
+    let parts = cond_some (nat_lt (position_or_len (is_of i) xs) (length xs)) (position_or_len (is_of i) xs) n e in
+    ap is_some (found (is_of i) xs n e) ∙ there xs n (grind (arith, parts.0, parts.1))
+
+-- and one that has none isn't
+pub no_place : (i : ℕ) (xs : List RealmRecord) → position (is_of i) xs ≡ None → is_known i xs ≡ false
+no_place i xs e = ap is_some (not_found (is_of i) xs e)
 
 first_of : (i : ℕ) (x : RealmRecord) (xs : List RealmRecord) (b : Bool) → is_of i x ≡ b → position_or_len (is_of i) (x ∷ xs) ≡ cond b 0 (1 + position_or_len (is_of i) xs)
 first_of i x xs true e = rw e refl
@@ -77,17 +90,3 @@ none_kept f None None e = (λ h. refl, λ h. refl)
 none_kept f (Some b) None e = absurd cc
 none_kept f None (Some x) e = absurd cc
 none_kept f (Some b) (Some x) e = (λ h. absurd cc, λ h. absurd cc)
-
-one_noted : {X Y : Type 0} (f : X → Option Y) (x : X) → filter_map f (x ∷ []) ≡ option_to_list (f x)
-one_noted {X} {Y} f x = at (f x)
-  where
-    at : (o : Option Y) → cons_option o [] ≡ option_to_list o
-    at None = refl
-    at (Some y) = refl
-
--- what one element more adds
-pub noted : {X Y : Type 0} (f : X → Option Y) (xs : List X) (n : ℕ) (d : X) → n < length xs
-    → filter_map f (take (n + 1) xs) ≡ filter_map f (take n xs) ++ option_to_list (f (get_or xs n d))
-noted f xs n d l =
-    ap (filter_map f) (take_more xs n d l)
-    ∙ (filter_map-append f (take n xs) (get_or xs n d ∷ []) ∙ ap (λ ys. filter_map f (take n xs) ++ ys) (one_noted f (get_or xs n d)))

@@ -4,8 +4,8 @@ use Rattle.std.specs.Option.{option_and_then, option_map_or}
 use Rattle.std.proofs.lemmas.Bool.{false≢true, or_parts}
 use Rattle.std.proofs.lemmas.Bool.Decides.{nat_tests}
 use Rattle.cs_snapctx.specs.declared.realm.RealmRecord.{RealmRecord}
-use Rattle.cs_realms.specs.Records.{AreDistinct, is_known, is_of, parent_record, record_of, root_record, with_record}
-use Rattle.cs_realms.specs.Trees.{HasRoomFor, IsAcyclic, is_within, leads_up}
+use Rattle.cs_snapctx.specs.Records.{AreDistinct, is_known, is_of, parent_record, record_of, root_record, with_record}
+use Rattle.cs_snapctx.specs.Trees.{HasRoomFor, IsAcyclic, is_within, leads_up}
 use Rattle.cs_realms.proofs.Members.{by_bool, in_found}
 use Rattle.cs_realms.proofs.Ups.{longer, up_cases, up_over, up_top, within_all}
 
@@ -55,7 +55,7 @@ found_realm p (x ∷ xs) q f = at (is_of p x) refl f (found_realm p xs q)
     at false e g rest = rest g
 
 -- the record of another realm stays
-other_stays : (p : ℕ) (r : RealmRecord) (rs : List RealmRecord) (q : RealmRecord) → record_of p rs ≡ Some q → is_of r.realm q ≡ false
+pub other_stays : (p : ℕ) (r : RealmRecord) (rs : List RealmRecord) (q : RealmRecord) → record_of p rs ≡ Some q → is_of r.realm q ≡ false
     → record_of p (with_record r rs) ≡ Some q
 other_stays p r rs q f n =
     let apart : is_of p r ≡ false = other_test q.realm r.realm p n (found_realm p rs q f) in

@@ -2,8 +2,8 @@
 use Rattle.std.proofs.Common.{◌≡◌, ℕ, zero, suc, ◌-◌, ◌<◌, List, Some, None, Result, IfOk, refl, subst, arith}
 use Rattle.cs_snapctx.specs.declared.realm.RealmRecord.{RealmRecord}
 use Rattle.cs_snapctx.specs.Context.{Context, empty_context}
-use Rattle.cs_realms.specs.Contexts.{context_within, under}
-use Rattle.cs_realms.specs.Records.{parent_record}
+use Rattle.cs_snapctx.specs.Contexts.{context_within, under}
+use Rattle.cs_snapctx.specs.Records.{parent_record}
 
 less_one : (n : ℕ) → suc n - 1 ≡ n
 less_one n = omega arith

@@ -4,9 +4,9 @@ use Rattle.std.specs.Option.{option_map, option_map_or}
 use Rattle.std.proofs.lemmas.Bool.{false≢true, ltb-false, ltb-true}
 use Rattle.cs_snapctx.specs.declared.realm.RealmRecord.{RealmRecord}
 use Rattle.cs_snapctx.specs.Context.{empty_context}
-use Rattle.cs_realms.specs.Contexts.{context, context_of, context_within, under}
-use Rattle.cs_realms.specs.Records.{record_of}
-use Rattle.cs_realms.specs.Trees.{AreContexts, IsAcyclic, leads_up}
+use Rattle.cs_snapctx.specs.Contexts.{context, context_of, context_within, under}
+use Rattle.cs_snapctx.specs.Records.{record_of}
+use Rattle.cs_snapctx.specs.Trees.{AreContexts, IsAcyclic, leads_up}
 use Rattle.cs_realms.proofs.Members.{In, by_bool, few_places, in_found}
 
 -- the parent from which one goes on
@@ -88,10 +88,10 @@ within_all n rs r i h =
     let few = few_places (λ x k. HasDepth rs k x) (λ x k l p q. same_depth rs k l x p q) (suc d.0) rs (λ j l. chain d.0 rs r d.1 i j (omega arith)) in
     longer (suc d.0) (length rs) rs r d.1.leads few
 
-top_context : (n : ℕ) (rs : List RealmRecord) (r : RealmRecord) → r.parent ≡ None → context_within (suc n) rs r ≡ under empty_context r
+pub top_context : (n : ℕ) (rs : List RealmRecord) (r : RealmRecord) → r.parent ≡ None → context_within (suc n) rs r ≡ under empty_context r
 top_context n rs r e = rw e refl
 
-over_context : (n p : ℕ) (rs : List RealmRecord) (r q : RealmRecord) → r.parent ≡ Some p → record_of p rs ≡ Some q
+pub over_context : (n p : ℕ) (rs : List RealmRecord) (r q : RealmRecord) → r.parent ≡ Some p → record_of p rs ≡ Some q
     → context_within (suc n) rs r ≡ under (context_within n rs q) r
 over_context n p rs r q e f = rw e (rw f refl)
 

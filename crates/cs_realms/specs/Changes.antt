@@ -5,7 +5,7 @@ use Rattle.std.specs.Cmp.Lexicographic.{pointwise}
 use Rattle.cs_snapctx.specs.declared.realm.RealmRecord.{RealmRecord}
 use Rattle.cs_snapctx.specs.Context.{Context}
 use Rattle.cs_realms.specs.declared.changed.Change.{Change}
-use Rattle.cs_realms.specs.Contexts.{context}
+use Rattle.cs_snapctx.specs.Contexts.{context}
 
 -- there was a context, and it is the same now
 abbrev pub is_same : Option Context → Context → Bool

@@ -4,7 +4,7 @@ use Rattle.cs_snapctx.specs.declared.realm.RealmRecord.{RealmRecord}
 
 -- the root with snapshot 2
 abbrev pub root_with_two : RealmRecord
-root_with_two = record { realm = 1; parent = None; since = 0; own_seq = 2; own = 2 ∷ []; prior = [] }
+root_with_two = record { realm = 1; parent = None; since = 1; own_seq = 2; own = 2 ∷ []; prior = [] }
 
 -- directory 2 below it, with these snapshots of its own, covered from `since` on
 abbrev pub child : ℕ → ℕ → List ℕ → RealmRecord

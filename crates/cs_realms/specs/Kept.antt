@@ -2,8 +2,8 @@
 use Rattle.std.specs.Prelude.{◌≡◌, List}
 use Rattle.cs_snapctx.specs.declared.realm.RealmRecord.{RealmRecord}
 use Rattle.cs_snapctx.specs.Context.{Context}
-use Rattle.cs_realms.specs.Contexts.{all_contexts}
-use Rattle.cs_realms.specs.Records.{AreDistinct}
+use Rattle.cs_snapctx.specs.Contexts.{all_contexts}
+use Rattle.cs_snapctx.specs.Records.{AreDistinct}
 
 -- each record's context stands at its place
 pub record IsKept (rs : List RealmRecord) (cs : List Context) : Type 0 where

@@ -1,6 +1,4 @@
 pub mod Changes
-pub mod Contexts
 pub mod Example
 pub mod Kept
-pub mod Records
-pub mod Trees
+pub mod Renewals

@@ -1,11 +1,9 @@
 // What a record changed.
-ghost use Rattle.std.specs.Prelude.{◌≡◌, ◌≤◌, ◌↔◌, ◌++◌, length, slice_get, IfOk, IsNone, OnOk};
-ghost use Rattle.std.specs.Option.{option_copied, option_to_list};
-ghost use Rattle.cs_realms.specs.Changes.{change, is_same};
+ghost use Rattle.std.specs.Prelude.{◌≡◌, ◌≤◌, ◌↔◌, length, slice_get, IsNone};
+ghost use Rattle.std.specs.Option.{option_copied};
 
-use cs_ids::{Ino, Memory};
+use cs_ids::Ino;
 use cs_snapctx::SnapContext;
-use std::alloc::Global;
 use std::marker::Model;
 
 /// A realm's context that a record changed.
@@ -35,13 +33,11 @@ impl Model for Changed {
 }
 
 impl Changed {
-    // No change yet.
-    pub(crate) fn new(alloc: Global) -> Self
-        ensures { length result ≡ 0 }
+    // These changes.
+    pub(crate) fn of(changes: Vec<Change>) -> Self
+        ensures { result ≡ changes.items }
     {
-        Changed {
-            changes: Vec::new(alloc),
-        }
+        Changed { changes }
     }
 
     /// How many contexts changed.
@@ -57,46 +53,5 @@ impl Changed {
         ensures past_end { IsNone result ↔ (length self.now ≤ i) }
     {
         self.changes.get(i)
-    }
-
-    // Adds the change of a realm's context, if it is one.
-    pub(crate) fn note(
-        &mut self,
-        realm: Ino,
-        old: Option<&SnapContext>,
-        new: Option<&SnapContext>,
-    ) -> Result<(), Memory>
-        ensures { OnOk result (self.new ≡ self.old ++ option_to_list (change realm (option_copied old.entry) (option_copied new.entry))) }
-    {
-        let Some(new) = new else {
-            return Ok(());
-        };
-        if is_same(old, new) {
-            return Ok(());
-        }
-        let old = copied(old)?;
-        let new = new.copy()?;
-        self.changes.push(Change { realm, old, new })?;
-        Ok(())
-    }
-}
-
-// Whether there was a context, and it is the same now.
-fn is_same(old: Option<&SnapContext>, new: &SnapContext) -> bool
-    ensures { result ≡ is_same (option_copied old.entry) new.now }
-{
-    match old {
-        None => false,
-        Some(old) => *old == *new,
-    }
-}
-
-// The context once more, where there is one.
-fn copied(context: Option<&SnapContext>) -> Result<Option<SnapContext>, Memory>
-    ensures { IfOk result (λ c. c ≡ option_copied context.entry) }
-{
-    match context {
-        None => Ok(None),
-        Some(context) => Ok(Some(context.copy()?)),
     }
 }

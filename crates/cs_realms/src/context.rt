@@ -1,42 +1,44 @@
-// The contexts, computed from the records alone. There are at most 64 directories, so going up from each
-// realm anew is cheap enough.
+// The contexts as they are once a record is taken in, computed from the records alone.
 ghost use Rattle.std.specs.Prelude.{◌≡◌, IfOk};
-ghost use Rattle.cs_realms.specs.Contexts.{all_contexts, context_within, under};
+ghost use Rattle.cs_snapctx.specs.Contexts.{context_of, context_within, under};
+ghost use Rattle.cs_snapctx.specs.Records.{with_record};
 
-use crate::record::parent_record;
+use crate::record::{count_with, parent_record_with};
 use cs_ids::Memory;
 use cs_snapctx::{RealmRecord, SnapContext};
 use std::alloc::Global;
 
-// The context of each record's realm, in the order of the records.
-pub fn all_contexts(alloc: Global, records: &[RealmRecord]) -> Result<Vec<SnapContext>, Memory>
-    ensures { IfOk result (λ cs. cs.items ≡ all_contexts records.now) }
+// The context of the realm of `from`, once `told` is taken in.
+pub fn context_with(
+    alloc: Global,
+    records: &[RealmRecord],
+    told: &RealmRecord,
+    from: &RealmRecord,
+) -> Result<SnapContext, Memory>
+    ensures { IfOk result (λ c. c ≡ context_of (with_record told.now records.now) from.now) }
 {
-    let mut contexts = Vec::new(alloc);
-    for record in records {
-        let context = context_within(alloc, records, records.len(), record)?;
-        contexts.push(context)?;
-    }
-    Ok(contexts)
+    let most = count_with(records, told);
+    context_within(alloc, records, told, most, from)
 }
 
-// The context of a record's realm, of so many realms at most: itself and those above it.
+// The same, made of so many realms at most: itself and those above it.
 fn context_within(
     alloc: Global,
     records: &[RealmRecord],
-    most: usize,
     told: &RealmRecord,
+    most: usize,
+    from: &RealmRecord,
 ) -> Result<SnapContext, Memory>
-    ensures { IfOk result (λ c. c ≡ context_within most records.now told.now) }
+    ensures { IfOk result (λ c. c ≡ context_within most (with_record told.now records.now) from.now) }
 {
     if most == 0 {
         return Ok(SnapContext::empty(alloc));
     }
-    match parent_record(records, told) {
-        None => under(alloc, &SnapContext::empty(alloc), told),
+    match parent_record_with(records, told, from) {
+        None => under(alloc, &SnapContext::empty(alloc), from),
         Some(parent) => {
-            let above = context_within(alloc, records, most - 1, parent)?;
-            under(alloc, &above, told)
+            let above = context_within(alloc, records, told, most - 1, parent)?;
+            under(alloc, &above, from)
         }
     }
 }

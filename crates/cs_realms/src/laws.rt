@@ -2,10 +2,10 @@
 ghost use Rattle.std.specs.Prelude.{◌≡◌, ℕ, List, [], ◌∷◌, Some, if◌then◌else◌};
 ghost use Rattle.cs_snapctx.specs.declared.realm.RealmRecord.{RealmRecord};
 ghost use Rattle.cs_realms.specs.Changes.{changes};
-ghost use Rattle.cs_realms.specs.Contexts.{context};
+ghost use Rattle.cs_snapctx.specs.Contexts.{context};
 ghost use Rattle.cs_realms.specs.Example.{child, grandchild, root_with_two};
-ghost use Rattle.cs_realms.specs.Records.{is_of, record_of, root_record, with_record};
-ghost use Rattle.cs_realms.specs.Trees.{AreContexts, HasRoomFor, IsAcyclic};
+ghost use Rattle.cs_snapctx.specs.Records.{is_of, record_of, root_record, with_record};
+ghost use Rattle.cs_snapctx.specs.Trees.{AreContexts, HasRoomFor, IsAcyclic};
 
 /// The last record of its realm counts, and those of the other realms stay.
 pub fn the_last_record_counts()

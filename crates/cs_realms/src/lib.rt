@@ -10,6 +10,7 @@ mod fault;
 mod laws;
 mod realms;
 mod record;
+mod renewal;
 #[cfg(test)]
 mod tests;
 

@@ -1,23 +1,23 @@
 // The tree of realms, after the CephFS documentation of snapshots and the comments of Linux's
 // fs/ceph/snap.c.
-ghost use Rattle.std.specs.Prelude.{◌≡◌, ℕ, ◌↔◌, [], ◌∷◌, Some, false, Err, filter, IfOk, IsNone, OnErr, OnOk};
+ghost use Rattle.std.specs.Prelude.{◌≡◌, ℕ, ◌↔◌, [], ◌∷◌, Some, false, Err, filter, position, IfOk, IsNone, OnErr, OnOk};
 ghost use Rattle.std.specs.Option.{option_copied, option_to_list};
 ghost use Rattle.cs_realms.specs.declared.fault.RealmFault.TheVariants as faults;
-ghost use Rattle.cs_realms.specs.Records.{AreDistinct, is_known, missing_parent, root_record, with_record};
-ghost use Rattle.cs_realms.specs.Contexts.{context};
+ghost use Rattle.cs_snapctx.specs.Records.{is_known, is_of, missing_parent, root_record, with_record};
+ghost use Rattle.cs_snapctx.specs.Contexts.{context};
 ghost use Rattle.cs_realms.specs.Changes.{change, changes, is_of_change};
 
-use crate::context::all_contexts;
-use crate::record::{missing_parent, place_of, root_record, with_record};
-use crate::{Changed, RealmFault};
+use crate::context::context_with;
+use crate::record::{missing_parent, place_of, root_record};
+use crate::renewal::{Renewed, put_in, renewed_contexts};
+use crate::{Change, Changed, RealmFault};
 use cs_ids::{Ino, Memory};
 use cs_snapctx::{RealmRecord, SnapContext};
 use std::alloc::Global;
 use std::marker::Model;
 
 /// The realms that are known, by their last records, and the context of each. The root directory,
-/// inode 1, is a realm from the start. Each record costs time in the square of the number of realms,
-/// of which there are at most as many as directories, 64.
+/// inode 1, is a realm from the start. There are at most as many realms as directories, 64.
 #[derive(Drop)]
 pub struct Realms {
     alloc: Global,
@@ -45,15 +45,8 @@ impl Realms {
     {
         let mut records = Vec::new(alloc);
         records.push(root_record(alloc))?;
-        Self::of(alloc, records)
-    }
-
-    // The realms of these records.
-    fn of(alloc: Global, records: Vec<RealmRecord>) -> Result<Self, Memory>
-        requires { AreDistinct records.items }
-        ensures { IfOk result (λ t. t ≡ records.items) }
-    {
-        let contexts = all_contexts(alloc, records.as_slice())?;
+        let mut contexts = Vec::new(alloc);
+        contexts.push(SnapContext::empty(alloc))?;
         Ok(Realms {
             alloc,
             records,
@@ -63,8 +56,12 @@ impl Realms {
 
     /// Takes a record as the last one of its realm, and brings the contexts of the realm and of all
     /// below it up to date. Answers what changed: one change for each realm whose context differs. It
-    /// answers `NoParent` exactly where the record names a parent that is unknown. After a fault
-    /// everything is as before.
+    /// answers `NoParent` exactly where the record names a parent that is unknown, and `Memory` where
+    /// memory ran out. After a fault everything is as before.
+    ///
+    /// It goes up from each realm once, to see whether it is the record's realm or below it. Of these
+    /// alone it computes the context, by a merge for each realm on the way up. It copies the record,
+    /// and each context that changed, once; what was before is moved into the answer.
     ///
     /// The parent must be neither the realm itself nor a realm below it. This isn't tested: the
     /// contexts of realms that stand in a circle are of no meaning.
@@ -78,14 +75,74 @@ impl Realms {
         if let Some(parent) = missing_parent(self.records.as_slice(), r) {
             return Err(RealmFault::NoParent { parent });
         }
-        let records = with_record(self.alloc, self.records.as_slice(), r)?;
-        let next = Self::of(self.alloc, records)?;
-        let changed = changes(self.alloc, self, &next)?;
-        *self = next;
-        Ok(changed)
+        match place_of(self.records.as_slice(), r.realm) {
+            Some(place) => Ok(self.replace(place, r)?),
+            None => Ok(self.add(r)?),
+        }
     }
 
-    /// The context of a realm, or None exactly where it is unknown.
+    // Takes a record in place of the last one of its realm, which stands at this place. Once something
+    // changes, nothing can fail.
+    fn replace(&mut self, place: usize, r: &RealmRecord) -> Result<Changed, Memory>
+        requires { position (is_of r.now.realm) self.old ≡ Some place }
+        ensures records { OnOk result (self.new ≡ with_record r.now self.old) }
+        ensures changed { IfOk result (λ c. c ≡ changes self.old self.new) }
+        ensures err { OnErr result (self.new ≡ self.old) }
+    {
+        let last = r.copy()?;
+        let renewed = renewed_contexts(
+            self.alloc,
+            self.records.as_slice(),
+            self.contexts.as_slice(),
+            r,
+        )?;
+        let mut changes = Vec::with_capacity(self.alloc, renewed.len())?;
+        put_in(
+            self.records.as_slice(),
+            &mut self.contexts,
+            renewed,
+            &mut changes,
+        );
+        self.records[place] = last;
+        Ok(Changed::of(changes))
+    }
+
+    // Takes the first record of a realm, which goes to the end. Room for it comes first, so that nothing
+    // can fail once its context stands in the table.
+    fn add(&mut self, r: &RealmRecord) -> Result<Changed, Memory>
+        requires { is_known r.now.realm self.old ≡ false }
+        ensures records { OnOk result (self.new ≡ with_record r.now self.old) }
+        ensures changed { IfOk result (λ c. c ≡ changes self.old self.new) }
+        ensures err { OnErr result (self.new ≡ self.old) }
+    {
+        let last = r.copy()?;
+        let own = context_with(self.alloc, self.records.as_slice(), r, r)?;
+        let Renewed { kept, answered } = Renewed::of(own)?;
+        let renewed = renewed_contexts(
+            self.alloc,
+            self.records.as_slice(),
+            self.contexts.as_slice(),
+            r,
+        )?;
+        let mut changes = Vec::with_capacity(self.alloc, renewed.len() + 1)?;
+        self.records.reserve(1)?;
+        self.contexts.push(kept)?;
+        put_in(
+            self.records.as_slice(),
+            &mut self.contexts,
+            renewed,
+            &mut changes,
+        );
+        self.records.push_reserved(last);
+        changes.push_reserved(Change {
+            realm: r.realm,
+            old: None,
+            new: answered,
+        });
+        Ok(Changed::of(changes))
+    }
+
+    /// The context of a realm, or None exactly where it is unknown. It takes time in the number of realms.
     pub fn context(&self, realm: Ino) -> Option<&SnapContext>
         ensures value { option_copied result ≡ context self.now realm }
         ensures unknown { IsNone result ↔ (is_known realm self.now ≡ false) }
@@ -93,16 +150,4 @@ impl Realms {
         let place = place_of(self.records.as_slice(), realm)?;
         self.contexts.get(place)
     }
-}
-
-// What changed from the one tree to the other.
-fn changes(alloc: Global, old: &Realms, new: &Realms) -> Result<Changed, Memory>
-    ensures { IfOk result (λ c. c ≡ changes old.now new.now) }
-{
-    let mut changed = Changed::new(alloc);
-    for record in &new.records {
-        let realm = record.realm;
-        changed.note(realm, old.context(realm), new.context(realm))?;
-    }
-    Ok(changed)
 }

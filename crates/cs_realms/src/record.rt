@@ -1,9 +1,10 @@
 // The list of the last records.
-ghost use Rattle.std.specs.Prelude.{◌≡◌, position, IfOk};
+ghost use Rattle.std.specs.Prelude.{◌≡◌, length, position};
 ghost use Rattle.std.specs.Option.{option_copied};
-ghost use Rattle.cs_realms.specs.Records.{is_of, missing_parent, parent_record, record_of, root_record, with_record};
+ghost use Rattle.cs_snapctx.specs.Records.{is_of, missing_parent, parent_record, record_of, root_record, with_record};
+ghost use Rattle.cs_realms.specs.Renewals.{newest};
 
-use cs_ids::{Ino, Memory, Seq, Snap};
+use cs_ids::{Ino, Seq, Snap};
 use cs_snapctx::{RealmRecord, SnapList};
 use std::alloc::Global;
 
@@ -14,7 +15,7 @@ pub fn root_record(alloc: Global) -> RealmRecord
     RealmRecord {
         realm: Ino::new(1).unwrap(),
         parent: None,
-        since: Snap::new(0).unwrap(),
+        since: Snap::new(1).unwrap(),
         own_seq: Seq::zero(),
         own: SnapList::new(alloc),
         prior: SnapList::new(alloc),
@@ -36,14 +37,6 @@ pub fn place_of(records: &[RealmRecord], realm: Ino) -> Option<usize>
     records.iter().position(|r| r.realm == realm)
 }
 
-// The record of the parent that a record names, or None where it names none or an unknown one.
-pub fn parent_record<'a>(records: &'a [RealmRecord], told: &RealmRecord) -> Option<&'a RealmRecord>
-    ensures { option_copied result ≡ parent_record records.now told.now }
-{
-    let parent = told.parent?;
-    record_of(records, parent)
-}
-
 // The parent that a record names, where it is unknown.
 pub fn missing_parent(records: &[RealmRecord], told: &RealmRecord) -> Option<Ino>
     ensures { result ≡ missing_parent records.now told.now }
@@ -55,37 +48,46 @@ pub fn missing_parent(records: &[RealmRecord], told: &RealmRecord) -> Option<Ino
     }
 }
 
-// The records, with this one in the place of the last one of its realm, or at the end where its realm
-// is new.
-pub fn with_record(
-    alloc: Global,
-    records: &[RealmRecord],
-    told: &RealmRecord,
-) -> Result<Vec<RealmRecord>, Memory>
-    ensures { IfOk result (λ rs. rs.items ≡ with_record told.now records.now) }
+// How many realms there are once `told` is taken in.
+pub fn count_with(records: &[RealmRecord], told: &RealmRecord) -> usize
+    ensures { result ≡ length (with_record told.now records.now) }
 {
-    let mut all = copies(alloc, records)?;
-    let last = told.copy()?;
     match place_of(records, told.realm) {
-        None => {
-            all.push(last)?;
-            Ok(all)
-        }
-        Some(place) => {
-            all[place] = last;
-            Ok(all)
-        }
+        None => records.len() + 1,
+        Some(_) => records.len(),
     }
 }
 
-// The same records once more.
-fn copies(alloc: Global, records: &[RealmRecord]) -> Result<Vec<RealmRecord>, Memory>
-    ensures { IfOk result (λ rs. rs.items ≡ records.now) }
+// The last record of the realm of `last`, once `told` is taken in.
+pub fn newest<'a>(told: &'a RealmRecord, last: &'a RealmRecord) -> &'a RealmRecord
+    ensures { result.now ≡ newest told.now last.now }
 {
-    let mut all = Vec::new(alloc);
-    for record in records {
-        let copy = record.copy()?;
-        all.push(copy)?;
+    if last.realm == told.realm { told } else { last }
+}
+
+// The record of a realm once `told` is taken in, or None where it is unknown.
+fn record_with<'a>(
+    records: &'a [RealmRecord],
+    told: &'a RealmRecord,
+    realm: Ino,
+) -> Option<&'a RealmRecord>
+    ensures { option_copied result ≡ record_of realm (with_record told.now records.now) }
+{
+    if told.realm == realm {
+        return Some(told);
     }
-    Ok(all)
+    record_of(records, realm)
+}
+
+// The record of the parent that `from` names once `told` is taken in, or None where it names none or an
+// unknown one.
+pub fn parent_record_with<'a>(
+    records: &'a [RealmRecord],
+    told: &'a RealmRecord,
+    from: &RealmRecord,
+) -> Option<&'a RealmRecord>
+    ensures { option_copied result ≡ parent_record (with_record told.now records.now) from.now }
+{
+    let parent = from.parent?;
+    record_with(records, told, parent)
 }

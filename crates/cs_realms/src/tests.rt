@@ -97,3 +97,22 @@ fn no_change(rt: HostRuntime) -> Result<(), Fail> {
     assert_eq!(rt; same.len(), 0);
     Ok(())
 }
+
+// Directory 2 is made after snapshot 1 of the root, which doesn't cover it, and before snapshot 3, which
+// does.
+#[test]
+fn a_directory_made_between(rt: HostRuntime) -> Result<(), Fail> {
+    let alloc = rt.alloc();
+    let mut realms = Realms::new(alloc)?;
+    realms.apply(&told(alloc, 1, 0, 1, 1, &[1])?)?;
+    let changed = realms.apply(&told(alloc, 2, 1, 2, 2, &[2])?)?;
+    assert_eq!(rt; changed.len(), 1);
+    assert!(rt; is(realms.context(ino(1)?), 1, &[1], alloc)?);
+    assert!(rt; is(realms.context(ino(2)?), 2, &[2], alloc)?);
+
+    let changed = realms.apply(&told(alloc, 1, 0, 1, 3, &[1, 3])?)?;
+    assert_eq!(rt; changed.len(), 2);
+    assert!(rt; is(realms.context(ino(1)?), 3, &[3, 1], alloc)?);
+    assert!(rt; is(realms.context(ino(2)?), 3, &[3, 2], alloc)?);
+    Ok(())
+}

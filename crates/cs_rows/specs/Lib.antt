@@ -7,6 +7,8 @@ pub mod HoldThenAck
 pub mod LastByte
 pub mod LaterWrites
 pub mod OneCapSnap
+pub mod RealmBetween
+pub mod Realms
 pub mod TwoObjects
 pub mod UnderAWriter
 pub mod WriteAfterSnapshot

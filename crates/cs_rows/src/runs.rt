@@ -3,7 +3,7 @@ ghost use Rattle.std.specs.Prelude.{◌≡◌, Ok};
 ghost use Rattle.cs_laws.specs.declared.answers.Why.TheVariants as why;
 ghost use Rattle.cs_laws.specs.declared.answers.Answer.TheVariants as answers;
 ghost use Rattle.cs_laws.specs.Grammar.{script_of};
-ghost use Rattle.cs_laws.specs.History.{sent};
+ghost use Rattle.cs_laws.specs.History.{context, sent};
 ghost use Rattle.cs_laws.specs.Journal.{journal, text};
 ghost use Rattle.cs_laws.specs.Operations.{applied};
 ghost use Rattle.cs_rows.specs.AfterASnapshot as after;
@@ -14,6 +14,8 @@ ghost use Rattle.cs_rows.specs.HoldThenAck as held;
 ghost use Rattle.cs_rows.specs.LastByte as last;
 ghost use Rattle.cs_rows.specs.LaterWrites as later;
 ghost use Rattle.cs_rows.specs.OneCapSnap as shared;
+ghost use Rattle.cs_rows.specs.RealmBetween as between;
+ghost use Rattle.cs_rows.specs.Realms as trees;
 ghost use Rattle.cs_rows.specs.TwoObjects as crossing;
 ghost use Rattle.cs_rows.specs.UnderAWriter as under;
 ghost use Rattle.cs_rows.specs.WriteAfterSnapshot as behind;
@@ -88,4 +90,20 @@ pub fn write_after_a_snapshot()
     ensures read { script_of behind.input ≡ Ok behind.events_read }
     ensures written { text (journal 256 behind.events_read) ≡ behind.written }
     ensures stored { applied (journal 256 behind.events_read) ≡ behind.stored }
+{}
+
+/// Two realms. A snapshot covers the files in its directory and below, and none beside it. Once it is
+/// removed it shows nothing more, and the context of the file in it has the root's snapshot alone.
+pub fn realms()
+    ensures read { script_of trees.input ≡ Ok trees.events_read }
+    ensures written { text (journal 256 trees.events_read) ≡ trees.written }
+    ensures covered { context (journal 256 trees.events_read) 100 ≡ trees.at_end }
+{}
+
+/// A realm appears between another one and the root. Its snapshot covers the files of both, and each
+/// gets a cap snap that follows its own context.
+pub fn realm_between()
+    ensures read { script_of between.input ≡ Ok between.events_read }
+    ensures written { text (journal 256 between.events_read) ≡ between.written }
+    ensures covered { context (journal 256 between.events_read) 100 ≡ between.at_end }
 {}

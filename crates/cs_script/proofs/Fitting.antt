@@ -1,20 +1,28 @@
 -- Each event that a line spells fits a script.
 use Rattle.std.proofs.Common.{◌≡◌, ◌+◌, ℕ, Bool, true, false, ◌&&◌, nat_le, List, length, Result, Ok, Err, refl, if◌then◌else◌, codes, slice_get, not, nat_lt, arith}
+use Rattle.std.proofs.lemmas.Bool.{and_parts}
 use Rattle.std.proofs.lemmas.Bool.Decides.{nat_tests}
 use Rattle.std.specs.Str.{bytes_eq}
 use Rattle.cs_laws.specs.declared.events.Event.{Event}
 use Rattle.cs_laws.specs.declared.events.Event.TheVariants as events
+use Rattle.cs_laws.specs.declared.objects.At.{At}
+use Rattle.cs_laws.specs.declared.objects.At.TheVariants as at
 use Rattle.cs_laws.specs.declared.faults.Kind.{Kind}
 use Rattle.cs_laws.specs.declared.faults.Kind.TheVariants as kinds
-use Rattle.cs_laws.specs.Fits.{fits, is_built, greatest_end, most_written, most_shown}
-use Rattle.cs_laws.specs.Grammar.{Words, file_of, begin_of, end_of, write_of, check_of, flush_snaps_of, grant_of, revoke_of, snap_of, show_of, is_later_word, event_by, event_of, words_in, in_time, is_setup, line_event}
-use Rattle.cs_script.proofs.FieldFacts.{word_is, number_range, number_below, set_built, bytes_count, only_is}
-use Rattle.cs_script.proofs.FormFacts.{binds, file_is, begin_is, end_is, write_is, check_is, flush_snaps_is, grant_is, revoke_is, snap_is, show_is}
+use Rattle.cs_laws.specs.Fits.{fits, is_built, is_shown, is_state, greatest_end, most_written, most_shown}
+use Rattle.cs_laws.specs.Grammar.{Words, ◌>>=◌, number_in, at_in, at_field, dir_of, file_of, begin_of, end_of, write_of, check_of, flush_snaps_of, grant_of, revoke_of, snap_of, remove_of, show_of, is_later_word, event_by, event_of, words_in, in_time, is_setup, line_event}
+use Rattle.cs_script.proofs.FieldFacts.{number_is, word_is, number_range, number_below, set_built, bytes_count, only_is}
+use Rattle.cs_script.proofs.FormFacts.{binds, dir_is, file_is, begin_is, end_is, write_is, check_is, flush_snaps_is, grant_is, revoke_is, snap_is, remove_is, show_is}
 
 both : (a b : Bool) → a ≡ true → b ≡ true → (a && b) ≡ true
 both true true p q = refl
 both true false p q = q
 both false b p q = p
+
+dir_fits : (ws : Words) (e : Event) → dir_of ws ≡ Ok e → fits e ≡ true
+dir_fits ws e h =
+    let i = dir_is ws e h in
+    rw i.is (number_range 1 2 9999 ws i.d i.dir)
 
 file_fits : (ws : Words) (e : Event) → file_of ws ≡ Ok e → fits e ≡ true
 file_fits ws e h =
@@ -53,6 +61,26 @@ revoke_fits ws e h =
 snap_fits : (ws : Words) (e : Event) → snap_of ws ≡ Ok e → fits e ≡ true
 snap_fits ws e h = rw (snap_is ws e h).is refl
 
+remove_fits : (ws : Words) (e : Event) → remove_of ws ≡ Ok e → fits e ≡ true
+remove_fits ws e h =
+    let i = remove_is ws e h in
+    rw i.is (and_parts (nat_le 1 i.s) (nat_le i.s 99999) (number_range 1 1 99999 ws i.s i.snap)).0
+
+-- a snapshot that was read counts from 1
+state_by : (b : Bool) (w : List ℕ) (a : At) → (if b then Ok at.Head else (number_in 1 99999 w >>= λ s. Ok (at.Snap s))) ≡ Ok a → is_state a ≡ true
+state_by true w a h =
+    let e : a ≡ at.Head = cc h in
+    rw e refl
+state_by false w a h =
+    let s = binds (number_in 1 99999 w) (λ (s : ℕ). Ok (at.Snap s)) a h in
+    let e : a ≡ at.Snap s.value = cc s.rest in
+    rw e (and_parts (nat_le 1 s.value) (nat_le s.value 99999) (number_is 1 99999 w s.value s.is).range).0
+
+state_fits : (i : ℕ) (ws : Words) (a : At) → at_field i ws ≡ Ok a → is_state a ≡ true
+state_fits i ws a h =
+    let w = word_is at_in (slice_get ws i) a h in
+    state_by (bytes_eq w.word (codes "head")) w.word a w.reads
+
 -- a place where a file may have a byte
 place_below : (o : ℕ) → nat_le o 1048575 ≡ true → nat_lt o greatest_end ≡ true
 place_below o h = grind (arith, nat_tests)
@@ -60,7 +88,8 @@ place_below o h = grind (arith, nat_tests)
 show_fits : (ws : Words) (e : Event) → show_of ws ≡ Ok e → fits e ≡ true
 show_fits ws e h =
     let i = show_is ws e h in
-    rw i.is (both (nat_lt i.o greatest_end) (nat_le 1 i.n && nat_le i.n most_shown) (place_below i.o (number_below 3 0 1048575 ws i.o i.off)) (number_range 4 1 most_shown ws i.n i.count))
+    let shown = both (nat_lt i.o greatest_end) (nat_le 1 i.n && nat_le i.n most_shown) (place_below i.o (number_below 3 0 1048575 ws i.o i.off)) (number_range 4 1 most_shown ws i.n i.count) in
+    rw i.is (both (is_state i.a) (is_shown i.o i.n) (state_fits 2 ws i.a i.at) shown)
 
 -- a reading that gives only what fits
 abbrev Fitting : Result Event Kind → Type 0
@@ -73,7 +102,8 @@ either false r s p q = q
 event_by_fits : (w : List ℕ) (ws : Words) → Fitting (event_by w ws)
 unfolding event_by
 event_by_fits w ws =
-    either (bytes_eq w (codes "file")) _ _ (file_fits ws)
+    either (bytes_eq w (codes "dir")) _ _ (dir_fits ws)
+    (either (bytes_eq w (codes "file")) _ _ (file_fits ws)
     (either (bytes_eq w (codes "begin")) _ _ (begin_fits ws)
     (either (bytes_eq w (codes "end")) _ _ (end_fits ws)
     (either (bytes_eq w (codes "write")) _ _ (write_fits ws)
@@ -84,9 +114,10 @@ event_by_fits w ws =
     (either (bytes_eq w (codes "grant")) _ _ (grant_fits ws)
     (either (bytes_eq w (codes "revoke")) _ _ (revoke_fits ws)
     (either (bytes_eq w (codes "snap")) _ _ (snap_fits ws)
+    (either (bytes_eq w (codes "rmsnap")) _ _ (remove_fits ws)
     (either (bytes_eq w (codes "commit")) _ _ (λ e h. rw (only_is 1 events.Commit e ws h).same refl)
     (either (bytes_eq w (codes "show")) _ _ (show_fits ws)
-    (either (is_later_word w) _ _ (λ e h. cc h) (λ e h. cc h))))))))))))))
+    (either (is_later_word w) _ _ (λ e h. cc h) (λ e h. cc h))))))))))))))))
 
 pub event_fits : (ws : Words) (e : Event) → event_of ws ≡ Ok e → fits e ≡ true
 unfolding event_of

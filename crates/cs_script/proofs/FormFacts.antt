@@ -7,7 +7,7 @@ use Rattle.cs_laws.specs.declared.events.RefName.{RefName}
 use Rattle.cs_laws.specs.declared.objects.At.{At}
 use Rattle.cs_laws.specs.declared.faults.Kind.{Kind}
 use Rattle.cs_laws.specs.Fits.{greatest_end, most_shown}
-use Rattle.cs_laws.specs.Grammar.{Words, ◌>>=◌, number_at, set_at, name_at, bytes_at, name_field, at_field, only, ends_in_file, file_of, begin_of, end_of, write_of, check_of, flush_snaps_of, grant_of, revoke_of, snap_of, show_of}
+use Rattle.cs_laws.specs.Grammar.{Words, ◌>>=◌, number_at, set_at, name_at, bytes_at, name_field, at_field, only, ends_in_file, dir_of, file_of, begin_of, end_of, write_of, check_of, flush_snaps_of, grant_of, revoke_of, snap_of, remove_of, show_of}
 use Rattle.cs_script.proofs.FieldFacts.{only_is, ends_is}
 
 -- a value that was read, and what follows
@@ -19,6 +19,22 @@ pub record Binds {A B : Type 0} (r : Result A Kind) (next : A → Result B Kind)
 pub binds : {A B : Type 0} (r : Result A Kind) (next : A → Result B Kind) (y : B) → (r >>= next) ≡ Ok y → Binds r next y
 binds (Ok x) next y h = record { value = x; is = refl; rest = h }
 binds (Err k) next y h = cc h
+
+pub record IsDir (ws : Words) (e : Event) : Type 0 where
+  pub d : ℕ
+  pub p : ℕ
+  pub dir : number_at 1 2 9999 ws ≡ Ok d
+  pub parent : number_at 2 1 99999 ws ≡ Ok p
+  pub few : nat_le (length ws) 3 ≡ true
+  pub is : e ≡ events.Dir d p
+
+pub dir_is : (ws : Words) (e : Event) → dir_of ws ≡ Ok e → IsDir ws e
+unfolding dir_of
+dir_is ws e h =
+    let d = binds (number_at 1 2 9999 ws) (λ (d : ℕ). number_at 2 1 99999 ws >>= λ (p : ℕ). only 3 (events.Dir d p) ws) e h in
+    let p = binds (number_at 2 1 99999 ws) (λ (p : ℕ). only 3 (events.Dir d.value p) ws) e d.rest in
+    let o = only_is 3 (events.Dir d.value p.value) e ws p.rest in
+    record { d = d.value; p = p.value; dir = d.is; parent = p.is; few = o.test; is = o.same }
 
 pub record IsFile (ws : Words) (e : Event) : Type 0 where
   pub f : ℕ
@@ -150,6 +166,19 @@ snap_is ws e h =
     let n = binds (name_field 2 ws) (λ (n : List ℕ). only 3 (events.Snap d.value n) ws) e d.rest in
     let u = only_is 3 (events.Snap d.value n.value) e ws n.rest in
     record { d = d.value; n = n.value; dir = d.is; name = n.is; few = u.test; is = u.same }
+
+pub record IsRemove (ws : Words) (e : Event) : Type 0 where
+  pub s : ℕ
+  pub snap : number_at 1 1 99999 ws ≡ Ok s
+  pub few : nat_le (length ws) 2 ≡ true
+  pub is : e ≡ events.RemoveSnap s
+
+pub remove_is : (ws : Words) (e : Event) → remove_of ws ≡ Ok e → IsRemove ws e
+unfolding remove_of
+remove_is ws e h =
+    let s = binds (number_at 1 1 99999 ws) (λ (s : ℕ). only 2 (events.RemoveSnap s) ws) e h in
+    let u = only_is 2 (events.RemoveSnap s.value) e ws s.rest in
+    record { s = s.value; snap = s.is; few = u.test; is = u.same }
 
 pub record IsShow (ws : Words) (e : Event) : Type 0 where
   pub f : ℕ

@@ -17,7 +17,7 @@ use Rattle.cs_laws.specs.declared.events.RefName.{RefName}
 use Rattle.cs_laws.specs.declared.events.RefName.TheVariants as names
 use Rattle.cs_laws.specs.declared.objects.At.{At}
 use Rattle.cs_laws.specs.declared.objects.At.TheVariants as at
-use Rattle.cs_laws.specs.Fits.{fits, is_built, greatest_end, most_written}
+use Rattle.cs_laws.specs.Fits.{fits, is_built, is_shown, is_state, greatest_end, most_written}
 use Rattle.cs_laws.specs.Grammar.{Words, in_time, is_setup, line_event, is_long, is_skipped, events_from, script_of}
 use Rattle.cs_laws.specs.Texts.{event_text, name_text, at_text}
 use Rattle.cs_script.specs.Spelling.{IsName, IsAt, IsEvent, lines_of, script_text, InTime}
@@ -94,6 +94,7 @@ unfolding caps_text
 caps_few c = omega (arith, dash_few (spelled c), spelled_few c)
 
 text_few : (e : Event) → IsEvent e → fits e ≡ true → length (event_text e) ≤ 4096
+text_few (events.Dir d p) is fit = simp length-append (omega (arith, decimal_few d (omega arith), decimal_few p (omega arith)))
 text_few (events.File f p) is fit = simp length-append (omega (arith, decimal_few f (omega arith), decimal_few p (omega arith)))
 text_few (events.Begin c f bits end) is fit =
     let small = leb-true end greatest_end (and_parts (is_built bits) (nat_le end greatest_end) fit).1 in
@@ -113,9 +114,10 @@ text_few (events.Grant f bits max) is fit =
     simp length-append (omega (arith, decimal_few f (omega arith), caps_few bits, decimal_few max (omega arith)))
 text_few (events.Revoke f bits) is fit = simp length-append (omega (arith, decimal_few f (omega arith), caps_few bits))
 text_few (events.Snap d name) is fit = simp length-append (omega (arith, decimal_few d (omega arith), snap_name_few name is.1))
+text_few (events.RemoveSnap s) is fit = omega (arith, decimal_few s (omega arith))
 text_few events.Commit is fit = omega arith
 text_few (events.Show f a off len) is fit =
-    let range = shown_range off len fit in
+    let range = shown_range off len (and_parts (is_state a) (is_shown off len) fit).1 in
     simp length-append (omega (arith, decimal_few f (omega arith), at_few a is.1, decimal_few off (omega arith), decimal_few len (omega arith)))
 
 not_long : (t : List ℕ) → length t ≤ 4096 → is_long t ≡ false
@@ -123,6 +125,7 @@ not_long t few = grind (arith, nat_tests)
 
 -- an event's line isn't passed over
 not_skipped : (e : Event) → is_skipped (event_text e) ≡ false
+not_skipped (events.Dir d p) = refl
 not_skipped (events.File f p) = refl
 not_skipped (events.Begin c f bits end) = refl
 not_skipped (events.End c name) = refl
@@ -134,6 +137,7 @@ not_skipped events.ToMds = refl
 not_skipped (events.Grant f bits max) = refl
 not_skipped (events.Revoke f bits) = refl
 not_skipped (events.Snap d name) = refl
+not_skipped (events.RemoveSnap s) = refl
 not_skipped events.Commit = refl
 not_skipped (events.Show f a off len) = refl
 

@@ -22,8 +22,8 @@ use Rattle.cs_laws.specs.declared.events.RefName.TheVariants as names
 use Rattle.cs_laws.specs.declared.objects.At.{At}
 use Rattle.cs_laws.specs.declared.objects.At.TheVariants as at
 use Rattle.cs_laws.specs.declared.faults.Kind.TheVariants as kinds
-use Rattle.cs_laws.specs.Fits.{fits, is_built, is_shown, greatest_end, most_written, most_shown}
-use Rattle.cs_laws.specs.Grammar.{Words, words_in, number_in, set_of, name_of, bytes_of, name_in, at_in, file_of, begin_of, end_of, write_of, check_of, flush_snaps_of, grant_of, revoke_of, snap_of, show_of, event_by, event_of}
+use Rattle.cs_laws.specs.Fits.{fits, is_built, is_shown, is_state, greatest_end, most_written, most_shown}
+use Rattle.cs_laws.specs.Grammar.{Words, words_in, number_in, set_of, name_of, bytes_of, name_in, at_in, dir_of, file_of, begin_of, end_of, write_of, check_of, flush_snaps_of, grant_of, revoke_of, snap_of, remove_of, show_of, event_by, event_of}
 use Rattle.cs_laws.specs.Texts.{event_text, name_text, at_text}
 use Rattle.cs_script.specs.Spelling.{IsBytes, IsName, IsAt, IsEvent}
 use Rattle.cs_script.proofs.Visible.{IsVisible, AreVisible, text_visible, words_joined, one_line, decimal_visible, name_visible, at_visible, snap_name_visible, hex_visible, caps_visible}
@@ -31,6 +31,7 @@ use Rattle.cs_script.proofs.Written.{few_bytes}
 
 -- the word that names an event, and its fields
 abbrev pub form_of : Event → List ℕ
+form_of (events.Dir d p) = codes "dir"
 form_of (events.File f p) = codes "file"
 form_of (events.Begin c f bits end) = codes "begin"
 form_of (events.End c name) = codes "end"
@@ -42,10 +43,12 @@ form_of events.ToMds = codes "tomds"
 form_of (events.Grant f bits max) = codes "grant"
 form_of (events.Revoke f bits) = codes "revoke"
 form_of (events.Snap d name) = codes "snap"
+form_of (events.RemoveSnap s) = codes "rmsnap"
 form_of events.Commit = codes "commit"
 form_of (events.Show f a off len) = codes "show"
 
 abbrev pub fields_of : Event → Words
+fields_of (events.Dir d p) = decimal d ∷ decimal p ∷ []
 fields_of (events.File f p) = decimal f ∷ decimal p ∷ []
 fields_of (events.Begin c f bits end) = decimal c ∷ decimal f ∷ caps_text bits ∷ decimal end ∷ []
 fields_of (events.End c name) = decimal c ∷ name_text name ∷ []
@@ -57,12 +60,14 @@ fields_of events.ToMds = []
 fields_of (events.Grant f bits max) = decimal f ∷ caps_text bits ∷ decimal max ∷ []
 fields_of (events.Revoke f bits) = decimal f ∷ caps_text bits ∷ []
 fields_of (events.Snap d name) = decimal d ∷ name ∷ []
+fields_of (events.RemoveSnap s) = decimal s ∷ []
 fields_of events.Commit = []
 fields_of (events.Show f a off len) = decimal f ∷ at_text a ∷ decimal off ∷ decimal len ∷ []
 
 -- ---- the text is the words with spaces between them
 
 joined : (e : Event) → event_text e ≡ join_with_byte 32 (form_of e ∷ fields_of e)
+joined (events.Dir d p) = simp append_assoc
 joined (events.File f p) = simp append_assoc
 joined (events.Begin c f bits end) = simp append_assoc
 joined (events.End c name) = simp append_assoc
@@ -74,10 +79,12 @@ joined events.ToMds = refl
 joined (events.Grant f bits max) = simp append_assoc
 joined (events.Revoke f bits) = simp append_assoc
 joined (events.Snap d name) = simp append_assoc
+joined (events.RemoveSnap s) = refl
 joined events.Commit = refl
 joined (events.Show f a off len) = simp append_assoc
 
 form_visible : (e : Event) → IsVisible (form_of e)
+form_visible (events.Dir d p) = text_visible (codes "dir") refl
 form_visible (events.File f p) = text_visible (codes "file") refl
 form_visible (events.Begin c f bits end) = text_visible (codes "begin") refl
 form_visible (events.End c name) = text_visible (codes "end") refl
@@ -89,6 +96,7 @@ form_visible events.ToMds = text_visible (codes "tomds") refl
 form_visible (events.Grant f bits max) = text_visible (codes "grant") refl
 form_visible (events.Revoke f bits) = text_visible (codes "revoke") refl
 form_visible (events.Snap d name) = text_visible (codes "snap") refl
+form_visible (events.RemoveSnap s) = text_visible (codes "rmsnap") refl
 form_visible events.Commit = text_visible (codes "commit") refl
 form_visible (events.Show f a off len) = text_visible (codes "show") refl
 
@@ -100,6 +108,7 @@ shown_range off len fit =
     (ltb-true off greatest_end parts.0, leb-true 1 len range.0, leb-true len most_shown range.1)
 
 fields_visible : (e : Event) → IsEvent e → fits e ≡ true → AreVisible (fields_of e)
+fields_visible (events.Dir d p) is fit = (decimal_visible d (omega arith), (decimal_visible p (omega arith), tt))
 fields_visible (events.File f p) is fit = (decimal_visible f (omega arith), (decimal_visible p (omega arith), tt))
 fields_visible (events.Begin c f bits end) is fit =
     let small = leb-true end greatest_end (and_parts (is_built bits) (nat_le end greatest_end) fit).1 in
@@ -117,9 +126,10 @@ fields_visible (events.Grant f bits max) is fit =
     (decimal_visible f (omega arith), (caps_visible bits, (decimal_visible max (omega arith), tt)))
 fields_visible (events.Revoke f bits) is fit = (decimal_visible f (omega arith), (caps_visible bits, tt))
 fields_visible (events.Snap d name) is fit = (decimal_visible d (omega arith), (snap_name_visible name is.1, tt))
+fields_visible (events.RemoveSnap s) is fit = (decimal_visible s (omega arith), tt)
 fields_visible events.Commit is fit = tt
 fields_visible (events.Show f a off len) is fit =
-    let range = shown_range off len fit in
+    let range = shown_range off len (and_parts (is_state a) (is_shown off len) fit).1 in
     (decimal_visible f (omega arith), (at_visible a is.1, (decimal_visible off (omega arith), (decimal_visible len (omega arith), tt))))
 
 -- the words of an event's text
@@ -174,14 +184,17 @@ snap_read (c ∷ cs) s digits h =
     let other : (c == 104) ≡ false = grind (arith, nat_tests) in
     rw (other, h) refl
 
-at_read : (a : At) → IsAt a → at_in (at_text a) ≡ Ok a
-at_read at.Head h = refl
-at_read (at.Snap s) h = snap_read (decimal s) s (digits_decimal own s (omega arith)) (number_read 1 99999 s (omega arith) h.0 h.1)
+at_read : (a : At) → IsAt a → is_state a ≡ true → at_in (at_text a) ≡ Ok a
+at_read at.Head h state = refl
+at_read (at.Snap s) h state = snap_read (decimal s) s (digits_decimal own s (omega arith)) (number_read 1 99999 s (omega arith) (leb-true 1 s state) h.1)
 
 -- ---- each event is read from its words
 
 pub event_read : (e : Event) → IsEvent e → fits e ≡ true → event_of (form_of e ∷ fields_of e) ≡ Ok e
-unfolding event_of event_by file_of begin_of end_of write_of check_of flush_snaps_of grant_of revoke_of snap_of show_of
+unfolding event_of event_by dir_of file_of begin_of end_of write_of check_of flush_snaps_of grant_of revoke_of snap_of remove_of show_of
+event_read (events.Dir d p) is fit =
+    let range = and_parts (nat_le 2 d) (nat_le d 9999) fit in
+    rw (number_read 2 9999 d (omega arith) (leb-true 2 d range.0) (leb-true d 9999 range.1), number_read 1 99999 p (omega arith) is.1.0 is.1.1) refl
 event_read (events.File f p) is fit =
     let range = and_parts (nat_le 2 f) (nat_le f 9999) fit in
     rw (number_read 2 9999 f (omega arith) (leb-true 2 f range.0) (leb-true f 9999 range.1), number_read 1 99999 p (omega arith) is.1.0 is.1.1) refl
@@ -216,12 +229,14 @@ event_read (events.Grant f bits max) is fit =
     rw (number_read 1 99999 f (omega arith) is.0 is.1, set_read bits parts.0, number_read 0 greatest_end max (omega arith) (omega arith) small) refl
 event_read (events.Revoke f bits) is fit = rw (number_read 1 99999 f (omega arith) is.0 is.1, set_read bits fit) refl
 event_read (events.Snap d name) is fit = rw (number_read 1 99999 d (omega arith) is.0.0 is.0.1, snap_name_read name is.1) refl
+event_read (events.RemoveSnap s) is fit = rw (number_read 1 99999 s (omega arith) (leb-true 1 s fit) is.1) refl
 event_read events.Commit is fit = refl
 event_read (events.Show f a off len) is fit =
-    let range = shown_range off len fit in
+    let parts = and_parts (is_state a) (is_shown off len) fit in
+    let range = shown_range off len parts.1 in
     rw (
       number_read 1 99999 f (omega arith) is.0.0 is.0.1,
-      at_read a is.1,
+      at_read a is.1 parts.0,
       number_read 0 1048575 off (omega arith) (omega arith) (omega arith),
       number_read 1 most_shown len (omega arith) range.1 range.2,
     ) refl

@@ -25,12 +25,12 @@ use Rattle.cs_laws.specs.declared.objects.At.TheVariants as at
 use Rattle.cs_laws.specs.declared.faults.Kind.{Kind}
 use Rattle.cs_laws.specs.declared.faults.Kind.TheVariants as kinds
 use Rattle.cs_laws.specs.Fits.{fits, greatest_end, most_shown}
-use Rattle.cs_laws.specs.Grammar.{Words, ◌>>=◌, words_in, number_in, number_at, set_of, set_at, name_of, name_at, bytes_of, bytes_at, at_in, at_field, only, file_of, begin_of, end_of, write_of, check_of, flush_snaps_of, grant_of, revoke_of, snap_of, show_of, is_later_word, event_by, event_of}
+use Rattle.cs_laws.specs.Grammar.{Words, ◌>>=◌, words_in, number_in, number_at, set_of, set_at, name_of, name_at, bytes_of, bytes_at, at_in, at_field, only, dir_of, file_of, begin_of, end_of, write_of, check_of, flush_snaps_of, grant_of, revoke_of, snap_of, remove_of, show_of, is_later_word, event_by, event_of}
 use Rattle.cs_laws.specs.Texts.{event_text, name_text, at_text}
 use Rattle.cs_script.specs.Spelling.{IsBytes, IsName, IsAt, IsEvent}
 use Rattle.cs_script.proofs.FieldFacts.{number_is, word_is, set_is, bytes_are, name_field_is, only_is}
 use Rattle.cs_script.proofs.Fitting.{event_fits}
-use Rattle.cs_script.proofs.FormFacts.{binds, file_is, begin_is, end_is, write_is, check_is, flush_snaps_is, grant_is, revoke_is, snap_is, show_is}
+use Rattle.cs_script.proofs.FormFacts.{binds, dir_is, file_is, begin_is, end_is, write_is, check_is, flush_snaps_is, grant_is, revoke_is, snap_is, remove_is, show_is}
 use Rattle.cs_script.proofs.Spelt.{form_of, fields_of, words_are, text_read}
 
 -- ---- each field's word is the field's one text
@@ -91,7 +91,7 @@ at_by false w a head h =
     let s = binds (number_in 1 99999 w) (λ (s : ℕ). Ok (at.Snap s)) a h in
     let t = number_told 1 99999 w s.value (omega arith) s.is in
     let e : a ≡ at.Snap s.value = cc s.rest in
-    rw e t
+    rw e (t.0, (omega arith, t.1.1))
 
 pub at_field_told : (i : ℕ) (ws : Words) (a : At) → at_field i ws ≡ Ok a → (slice_get ws i ≡ Some (at_text a)) × IsAt a
 at_field_told i ws a h =
@@ -156,6 +156,16 @@ words_told (v ∷ vs) (w ∷ ws) few h =
 pub record Tells (ws : Words) (e : Event) : Type 0 where
   pub is : IsEvent e
   pub words : ws ≡ form_of e ∷ fields_of e
+
+dir_tells : (ws : Words) → slice_get ws 0 ≡ Some (codes "dir") → (e : Event) → dir_of ws ≡ Ok e → Tells ws e
+dir_tells ws first e h =
+    let i = dir_is ws e h in
+    let d = number_at_told 1 2 9999 ws i.d (omega arith) i.dir in
+    let p = number_at_told 2 1 99999 ws i.p (omega arith) i.parent in
+    rw i.is (record {
+      is = ((omega arith, omega arith), p.1);
+      words = words_told (codes "dir" ∷ fields_of (events.Dir i.d i.p)) ws (leb-true (length ws) 3 i.few) (first, (d.0, (p.0, tt)));
+    })
 
 file_tells : (ws : Words) → slice_get ws 0 ≡ Some (codes "file") → (e : Event) → file_of ws ≡ Ok e → Tells ws e
 file_tells ws first e h =
@@ -261,6 +271,15 @@ snap_tells ws first e h =
       words = words_told (codes "snap" ∷ fields_of (events.Snap i.d i.n)) ws (leb-true (length ws) 3 i.few) (first, (d.0, (n.0, tt)));
     })
 
+remove_tells : (ws : Words) → slice_get ws 0 ≡ Some (codes "rmsnap") → (e : Event) → remove_of ws ≡ Ok e → Tells ws e
+remove_tells ws first e h =
+    let i = remove_is ws e h in
+    let s = number_at_told 1 1 99999 ws i.s (omega arith) i.snap in
+    rw i.is (record {
+      is = (omega arith, s.1.1);
+      words = words_told (codes "rmsnap" ∷ fields_of (events.RemoveSnap i.s)) ws (leb-true (length ws) 2 i.few) (first, (s.0, tt));
+    })
+
 commit_tells : (ws : Words) → slice_get ws 0 ≡ Some (codes "commit") → (e : Event) → only 1 events.Commit ws ≡ Ok e → Tells ws e
 commit_tells ws first e h =
     let i = only_is 1 events.Commit e ws h in
@@ -301,7 +320,8 @@ not_told ws false e h = cc h
 event_by_tells : (ws : Words) (w : List ℕ) → slice_get ws 0 ≡ Some w → Telling ws (event_by w ws)
 unfolding event_by
 event_by_tells ws w first =
-    named ws w (codes "file") _ _ first (file_tells ws)
+    named ws w (codes "dir") _ _ first (dir_tells ws)
+    (named ws w (codes "file") _ _ first (file_tells ws)
     (named ws w (codes "begin") _ _ first (begin_tells ws)
     (named ws w (codes "end") _ _ first (end_tells ws)
     (named ws w (codes "write") _ _ first (write_tells ws)
@@ -312,9 +332,10 @@ event_by_tells ws w first =
     (named ws w (codes "grant") _ _ first (grant_tells ws)
     (named ws w (codes "revoke") _ _ first (revoke_tells ws)
     (named ws w (codes "snap") _ _ first (snap_tells ws)
+    (named ws w (codes "rmsnap") _ _ first (remove_tells ws)
     (named ws w (codes "commit") _ _ first (commit_tells ws)
     (named ws w (codes "show") _ _ first (show_tells ws)
-    (not_told ws (is_later_word w))))))))))))))
+    (not_told ws (is_later_word w))))))))))))))))
 
 event_tells : (ws : Words) → Telling ws (event_of ws)
 unfolding event_of

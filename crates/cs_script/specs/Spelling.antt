@@ -21,16 +21,19 @@ abbrev pub IsName : RefName → Type 0
 IsName (names.Own n) = IsIn 0 99999 n
 IsName (names.Kept n) = IsIn 0 99999 n
 
--- the first snapshot is number 1
+abbrev pub IsSnap : ℕ → Type 0
+IsSnap n = IsIn 0 99999 n
+
 abbrev pub IsAt : At → Type 0
 IsAt at.Head = Unit {0}
-IsAt (at.Snap s) = IsIn 1 99999 s
+IsAt (at.Snap s) = IsSnap s
 
 abbrev pub IsBytes : List ℕ → Type 0
 IsBytes bs = All (λ b. b < 256) bs
 
 -- each field is in the range of its type
 abbrev pub IsEvent : Event → Type 0
+IsEvent (events.Dir d p) = IsIno d × IsIno p
 IsEvent (events.File f p) = IsIno f × IsIno p
 IsEvent (events.Begin c f bits end) = IsCaller c × IsIno f
 IsEvent (events.End c name) = IsCaller c × IsName name
@@ -42,6 +45,7 @@ IsEvent events.ToMds = Unit {0}
 IsEvent (events.Grant f bits max) = IsIno f
 IsEvent (events.Revoke f bits) = IsIno f
 IsEvent (events.Snap d name) = IsIno d × (is_name name ≡ true)
+IsEvent (events.RemoveSnap s) = IsSnap s
 IsEvent events.Commit = Unit {0}
 IsEvent (events.Show f a off len) = IsIno f × IsAt a
 

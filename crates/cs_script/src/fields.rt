@@ -136,14 +136,30 @@ pub fn name_field(alloc: Global, words: &[&[u8]], i: usize) -> Result<Name, Line
     }
 }
 
+fn snap_of(word: &[u8]) -> Result<Snap, Kind>
+    ensures { Gives (λ s. s) result (number_in 1 99999 word.now) }
+{
+    let value = number_of(word, 1, 99_999)?;
+    Snap::new(value).ok_or(Kind::Range)
+}
+
+/// The number of a snapshot.
+pub fn snap_at(words: &[&[u8]], i: usize) -> Result<Snap, Kind>
+    ensures { Gives (λ s. s) result (number_at i 1 99999 (texts words.now)) }
+{
+    match words.get(i) {
+        Some(word) => snap_of(word),
+        None => Err(Kind::Word),
+    }
+}
+
 fn at_from(word: &[u8]) -> Result<At, Kind>
     ensures { Gives (λ a. a) result (at_in word.now) }
 {
     if word == b"head".as_slice() {
         Ok(At::Head)
     } else {
-        let value = number_of(word, 1, 99_999)?;
-        Ok(At::Snap(Snap::new(value).ok_or(Kind::Range)?))
+        Ok(At::Snap(snap_of(word)?))
     }
 }
 

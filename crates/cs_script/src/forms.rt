@@ -1,15 +1,24 @@
 // The forms of events, each by the fields behind its first word.
 ghost use Rattle.std.specs.Prelude.{◌≡◌};
-ghost use Rattle.cs_laws.specs.Grammar.{event_by, file_of, begin_of, end_of, write_of, check_of, flush_snaps_of, grant_of, revoke_of, snap_of, show_of, event_of, is_later_word, is_later_caller_word, is_later_client_word, is_later_server_word};
+ghost use Rattle.cs_laws.specs.Grammar.{event_by, dir_of, file_of, begin_of, end_of, write_of, check_of, flush_snaps_of, grant_of, revoke_of, snap_of, remove_of, show_of, event_of, is_later_word, is_later_caller_word, is_later_client_word, is_later_server_word};
 ghost use Rattle.cs_script.specs.Reading.{Spells, texts};
 
 use crate::fields::{
     at_field, bytes_at, caller_at, end_at, ends_in_file, ino_at, len_at, name_at, name_field,
-    off_at, only, set_at,
+    off_at, only, set_at, snap_at,
 };
 use crate::line_fault::LineFault;
 use cs_laws::{At, Event, Kind, RefName};
 use std::alloc::Global;
+
+#[tactic(auto, unfolding(cs_laws::specs::Grammar::dir_of))]
+fn dir_from(words: &[&[u8]]) -> Result<Event, LineFault>
+    ensures { Spells result (dir_of (texts words.now)) }
+{
+    let dir = ino_at(words, 1, 2, 9_999)?;
+    let parent = ino_at(words, 2, 1, 99_999)?;
+    only(3, Event::Dir { dir, parent }, words)
+}
 
 #[tactic(auto, unfolding(cs_laws::specs::Grammar::file_of))]
 fn file_from(words: &[&[u8]]) -> Result<Event, LineFault>
@@ -117,6 +126,14 @@ fn snap_from(alloc: Global, words: &[&[u8]]) -> Result<Event, LineFault>
     only(3, Event::Snap { dir, name }, words)
 }
 
+#[tactic(auto, unfolding(cs_laws::specs::Grammar::remove_of))]
+fn remove_from(words: &[&[u8]]) -> Result<Event, LineFault>
+    ensures { Spells result (remove_of (texts words.now)) }
+{
+    let snap = snap_at(words, 1)?;
+    only(2, Event::RemoveSnap { snap }, words)
+}
+
 #[tactic(auto, unfolding(cs_laws::specs::Grammar::show_of))]
 fn show_from(words: &[&[u8]]) -> Result<Event, LineFault>
     ensures { Spells result (show_of (texts words.now)) }
@@ -155,10 +172,8 @@ fn is_later_client_word(word: &[u8]) -> bool
 fn is_later_server_word(word: &[u8]) -> bool
     ensures { result ≡ is_later_server_word word.now }
 {
-    word == b"dir".as_slice()
-        || word == b"drop".as_slice()
+    word == b"drop".as_slice()
         || word == b"reconnect".as_slice()
-        || word == b"rmsnap".as_slice()
         || word == b"unlease".as_slice()
         || word == b"failover".as_slice()
 }
@@ -173,7 +188,9 @@ fn is_later_word(word: &[u8]) -> bool
 fn event_by(alloc: Global, word: &[u8], words: &[&[u8]]) -> Result<Event, LineFault>
     ensures { Spells result (event_by word.now (texts words.now)) }
 {
-    if word == b"file".as_slice() {
+    if word == b"dir".as_slice() {
+        dir_from(words)
+    } else if word == b"file".as_slice() {
         file_from(words)
     } else if word == b"begin".as_slice() {
         begin_from(words)
@@ -195,6 +212,8 @@ fn event_by(alloc: Global, word: &[u8], words: &[&[u8]]) -> Result<Event, LineFa
         revoke_from(words)
     } else if word == b"snap".as_slice() {
         snap_from(alloc, words)
+    } else if word == b"rmsnap".as_slice() {
+        remove_from(words)
     } else if word == b"commit".as_slice() {
         only(1, Event::Commit, words)
     } else if word == b"show".as_slice() {

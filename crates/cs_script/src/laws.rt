@@ -9,7 +9,7 @@ ghost use Rattle.cs_laws.specs.Texts.{event_text};
 ghost use Rattle.cs_script.specs.Spelling.{InTime, IsEvent, script_text};
 
 /// Each event that fits is read from the text that `print_event` adds. So an event fits exactly where a line
-/// spells it.
+/// spells it, with no exception: `IsEvent` says no more than that each field is in the range of its type.
 pub fn each_event_is_read()
     ensures read { (e : Event) → IsEvent e → fits e ≡ true → event_of (words_in (event_text e)) ≡ Ok e }
     ensures fits { (e : Event) → IsEvent e → (fits e ≡ true) ↔ ((line : List ℕ) × (event_of (words_in line) ≡ Ok e)) }

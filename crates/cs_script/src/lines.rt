@@ -40,7 +40,7 @@ fn in_time(setup: bool, event: Event) -> Result<Event, Kind>
 fn is_setup(event: &Event) -> bool
     ensures { result ≡ is_setup event.now }
 {
-    matches!(event, Event::File { .. })
+    matches!(event, Event::Dir { .. } | Event::File { .. })
 }
 
 fn words_of(alloc: Global, line: &[u8]) -> Result<Vec<&[u8]>, AllocError>

@@ -33,9 +33,9 @@ fn a_script_is_read_and_printed(rt: HostRuntime) -> Result<(), Fail> {
     Ok(())
 }
 
-// The events of snapshots, a line for each, and what is shown. The name has all kinds of bytes, and 32 of them.
+// The events of directories and snapshots, a line for each, and what is shown. The name has all kinds of bytes, and 32 of them.
 const SNAPSHOTS: &[u8] =
-    b"ceph-script 1\nflushsnaps 99999\ntomds\nsnap 1 0-to_9.of-32-bytes-abcdefghijklm\ncommit\nshow 1 head 0 1\nshow 99999 99999 1048575 4096\n";
+    b"ceph-script 1\ndir 2 99999\ndir 9999 1\nfile 9999 1\nrmsnap 1\nrmsnap 99999\nflushsnaps 99999\ntomds\nsnap 1 0-to_9.of-32-bytes-abcdefghijklm\ncommit\nshow 1 head 0 1\nshow 99999 99999 1048575 4096\n";
 
 #[test]
 fn the_events_of_snapshots_are_read_and_printed(rt: HostRuntime) -> Result<(), Fail> {
@@ -45,7 +45,7 @@ fn the_events_of_snapshots_are_read_and_printed(rt: HostRuntime) -> Result<(), F
         print_event(event, &mut out)?;
         out.append(b"\n")?;
     }
-    assert_eq!(rt; script.len(), 6);
+    assert_eq!(rt; script.len(), 11);
     assert_eq!(rt; out.as_slice(), SNAPSHOTS);
     Ok(())
 }
@@ -74,6 +74,14 @@ fn a_bad_line_is_told_with_its_kind(rt: HostRuntime) -> Result<(), Fail> {
     for (line, kind) in [
         ("file 100", Kind::Word),
         ("file 1 1 1", Kind::Range),
+        ("dir 2", Kind::Word),
+        ("dir a 1", Kind::Number),
+        ("dir 1 1", Kind::Range),
+        ("dir 10000 1", Kind::Range),
+        ("dir 2 0", Kind::Range),
+        ("dir 2 1 1", Kind::Extra),
+        ("toclient\ndir 2 1", Kind::Late),
+        ("toclient\ndir 2 1 1", Kind::Extra),
         ("grant 100 Fwr 0", Kind::Word),
         ("grant 100 Fb 0", Kind::NotBuilt),
         ("write 1 1 0", Kind::Word),
@@ -98,6 +106,12 @@ fn a_bad_line_is_told_with_its_kind(rt: HostRuntime) -> Result<(), Fail> {
         ("snap 1 a/b", Kind::Word),
         ("snap 1 abcdefghijklmnopqrstuvwxyz0123456", Kind::Word),
         ("snap 1 a b", Kind::Extra),
+        ("rmsnap", Kind::Word),
+        ("rmsnap ", Kind::Number),
+        ("rmsnap head", Kind::Number),
+        ("rmsnap 0", Kind::Range),
+        ("rmsnap 100000", Kind::Range),
+        ("rmsnap 1 a", Kind::Extra),
         ("show 0 head 0 1", Kind::Range),
         ("show head head 0 1", Kind::Number),
         ("show 100", Kind::Word),

@@ -1,1 +1,4 @@
 pub mod Context
+pub mod Contexts
+pub mod Records
+pub mod Trees

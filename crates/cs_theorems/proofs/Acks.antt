@@ -13,12 +13,13 @@ use Rattle.cs_laws.specs.declared.messages.Message.TheVariants as messages
 use Rattle.cs_laws.specs.declared.records.Record.{Record}
 use Rattle.cs_laws.specs.declared.records.RecordBody.{RecordBody}
 use Rattle.cs_laws.specs.declared.records.RecordBody.TheVariants as bodies
-use Rattle.cs_laws.specs.Context.{empty_root}
 use Rattle.cs_laws.specs.Flight.{cap_message}
 use Rattle.cs_laws.specs.Flushes.{acked}
 use Rattle.cs_laws.specs.History.{server, to_client, durable, fresh}
 use Rattle.cs_laws.specs.Journal.{entry, history, journal}
-use Rattle.cs_laws.specs.Standing.{realm_then, realm_after, told_of, told}
+use Rattle.cs_laws.specs.Standing.{told_of, told}
+use Rattle.cs_laws.specs.Tree.{directories, path}
+use Rattle.cs_laws.specs.Realms.{changed_records}
 use Rattle.cs_theorems.specs.Flushes.{tids}
 use Rattle.cs_theorems.specs.Runs.{IsRun}
 use Rattle.cs_theorems.proofs.Listed.{Member, Each, each_nil, each_cons, each_append, each_end, each_tail, member_left, member_right}
@@ -48,19 +49,22 @@ own_tid : (f tid : ℕ) (xs : List ℕ) → Member tid (cond (f == f) (tid ∷ [
 own_tid f tid xs = subst (λ b. Member tid (cond b (tid ∷ []) [] ++ xs)) (sym (eq-eqb f f refl)) (inl refl)
 
 -- what is told of a record that stands behind these
-told_stands : (ds rs : List Record) (root : RealmRecord) (body : RecordBody) → AckStands (ds ++ record { body = body } ∷ rs) (told_of root body)
-told_stands ds rs root (bodies.Flush snap f tid follows meta) =
+told_stands : (ds rs before : List Record) (realms : List RealmRecord) (body : RecordBody)
+    → AckStands (ds ++ record { body = body } ∷ rs) (told_of before realms body)
+told_stands ds rs before realms (bodies.Flush snap f tid follows meta) =
     let r : Record = record { body = bodies.Flush snap f tid follows meta } in
     subst (λ xs. Member tid xs) (sym (tids_append f ds (r ∷ rs))) (member_right tid (tids f ds) (tids f (r ∷ rs)) (own_tid f tid (tids f rs)))
-told_stands ds rs root (bodies.Snap number d name) = tt
+told_stands ds rs before realms (bodies.Snap number d name) = tt
+told_stands ds rs before realms (bodies.Removal s number) = tt
 
-all_told_stand : (ds rs : List Record) (root : RealmRecord) → Each (λ m. AckStands (ds ++ rs) m) (told root rs)
-all_told_stand ds [] root = each_nil (λ m. AckStands (ds ++ []) m)
-all_told_stand ds (r ∷ rs) root =
-    each_cons (λ m. AckStands (ds ++ r ∷ rs) m) (told_of (realm_then root r.body) r.body) (told (realm_then root r.body) rs)
-    (told_stands ds rs (realm_then root r.body) r.body)
-    (subst (λ ss. Each (λ m. AckStands ss m) (told (realm_then root r.body) rs)) (append_assoc ds (r ∷ []) rs)
-    (all_told_stand (ds ++ r ∷ []) rs (realm_then root r.body)))
+all_told_stand : (up : ℕ → List ℕ) (dirs : List ℕ) (before ds rs : List Record) → Each (λ m. AckStands (ds ++ rs) m) (told up dirs before rs)
+all_told_stand up dirs before ds [] = each_nil (λ m. AckStands (ds ++ []) m)
+all_told_stand up dirs before ds (r ∷ rs) =
+    let realms : List RealmRecord = changed_records up dirs before (before ++ r ∷ []) in
+    each_cons (λ m. AckStands (ds ++ r ∷ rs) m) (told_of before realms r.body) (told up dirs (before ++ r ∷ []) rs)
+    (told_stands ds rs before realms r.body)
+    (subst (λ ss. Each (λ m. AckStands ss m) (told up dirs (before ++ r ∷ []) rs)) (append_assoc ds (r ∷ []) rs)
+    (all_told_stand up dirs (before ++ r ∷ []) (ds ++ r ∷ []) rs))
 
 acks_message : (f : ℕ) (ds : List Record) (q : List Message) (was : ℕ → Bool) (m : Message) → AckStands ds m → Acks f ds q was → Acks f ds (q ++ m ∷ []) was
 acks_message f ds q was m new i = record { flying = each_end (λ k. AckStands ds k) q m i.flying new; told = i.told }
@@ -80,10 +84,10 @@ acks_told f g t ds q was i =
           (λ _. i.told n);
     }
 
-acks_commit : (f : ℕ) (ds fs : List Record) (q : List Message) (was : ℕ → Bool) (root : RealmRecord) → Acks f ds q was
-    → Acks f (ds ++ fs) (q ++ told root fs) was
-acks_commit f ds fs q was root i = record {
-  flying = each_append (λ m. AckStands (ds ++ fs) m) q (told root fs) (λ m there. ack_stays ds fs m (i.flying m there)) (all_told_stand ds fs root);
+acks_commit : (f : ℕ) (up : ℕ → List ℕ) (dirs : List ℕ) (ds fs : List Record) (q : List Message) (was : ℕ → Bool) → Acks f ds q was
+    → Acks f (ds ++ fs) (q ++ told up dirs ds fs) was
+acks_commit f up dirs ds fs q was i = record {
+  flying = each_append (λ m. AckStands (ds ++ fs) m) q (told up dirs ds fs) (λ m there. ack_stays ds fs m (i.flying m there)) (all_told_stand up dirs ds ds fs);
   told = λ n is. stands_left f n ds fs (i.told n is);
 }
 
@@ -116,17 +120,17 @@ step_to_client h x (first_flush_ack g tid q is) i = λ f.
     let was : ℕ → Bool = λ n. acked h f n in
     at_first (λ p. Left h f was p) (λ p. Left h f (λ n. cond ((g == f) && (tid == n)) true (was n)) p) (messages.FlushAck g tid) q (to_client h) is
     (λ j. acks_told f g tid (durable h) q was j) (i f)
-step_to_client h x (first_snap number realm realms q is) i = λ f.
+step_to_client h x (first_snap number realm now q is) i = λ f.
     let was : ℕ → Bool = λ n. acked h f n in
-    at_first (λ p. Left h f was p) (λ p. Left h f was p) (messages.Snap number realm realms) q (to_client h) is
-    (λ j. acks_taken f (durable h) q was (messages.Snap number realm realms) j) (i f)
+    at_first (λ p. Left h f was p) (λ p. Left h f was p) (messages.Snap number realm now) q (to_client h) is
+    (λ j. acks_taken f (durable h) q was (messages.Snap number realm now) j) (i f)
 
 pub acked_step : (p : ℕ) (h : List Entry) (x : Event) → AllAcked h → AllAcked (entry p h x ∷ h)
 acked_step p h (e.Grant g bits end) i = step_grant h g bits end _ (grant_is h g bits end) i
 acked_step p h (e.Revoke g bits) i = step_revoke h g bits _ (revoke_is h g bits) i
 acked_step p h e.ToClient i = step_to_client h _ (first_is h) i
 acked_step p h e.Commit i =
-    λ f. acks_commit f (durable h) (fresh h) (to_client h) (λ n. acked h f n) (realm_after empty_root (durable h)) (i f)
+    λ f. acks_commit f (λ d. path h d) (directories h) (durable h) (fresh h) (to_client h) (λ n. acked h f n) (i f)
 acked_step p h _ i = i
 
 acked_steps : (p : ℕ) (es : List Event) (h : List Entry) → AllAcked h → AllAcked (history p h es)

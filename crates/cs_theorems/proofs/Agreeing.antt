@@ -15,7 +15,7 @@ pub hold_writes : (p : ℕ) (es : List Event) → ObjectsHoldWrites (journal p e
 hold_writes p es = let i = footing p es in contents_of (journal p es) i.course i.holds
 
 agrees : (h : List Entry) → Footing h → StatesReadBack (applied h) h
-agrees h i f a known standing free =
+agrees h i f a known standing kept covered free =
     let same = of_the_writes h i f a free in
     record {
       size = ap (λ m. m.size) same;

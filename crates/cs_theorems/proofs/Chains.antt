@@ -18,7 +18,7 @@ use Rattle.cs_theorems.specs.Flushes.{tid_of, tids}
 use Rattle.cs_theorems.specs.Runs.{IsRun}
 use Rattle.cs_theorems.proofs.Rising.{RisesTo, rises_end, rises_more, at_first}
 use Rattle.cs_theorems.proofs.Runs.{of_run}
-use Rattle.cs_theorems.proofs.Inversions.{CheckIs, check_unknown, check_nothing, check_hold, check_ack, check_is, FlushSnapsIs, flush_unknown, flush_none, flush_writing, flush_sent, flush_snaps_is, ReceivedIs, received_idle, received_ack, received_flush, received_is, SnapIs, snap_unknown, snap_exists, snap_taken, snap_is}
+use Rattle.cs_theorems.proofs.Inversions.{CheckIs, check_unknown, check_nothing, check_hold, check_ack, check_is, FlushSnapsIs, flush_unknown, flush_none, flush_writing, flush_sent, flush_snaps_is, ReceivedIs, received_idle, received_ack, received_flush, received_is, SnapIs, snap_unknown, snap_exists, snap_taken, snap_is, RemoveIs, remove_none, remove_gone, removed, remove_is}
 
 -- the number of a message that is a flush of the file, alone
 abbrev pub flight_tid : ℕ → Message → List ℕ
@@ -112,11 +112,17 @@ step_snap h d name x snap_unknown i = i
 step_snap h d name x snap_exists i = i
 step_snap h d name x (snap_taken directory free) i = λ f. chain_moved f (durable h) (fresh h) _ (to_server h) (to_server h) (length (sent h)) refl (i f)
 
+step_remove : (h : List Entry) (t : ℕ) (x : Answer) → RemoveIs h t x → AllRise h → AllRise (record { event = e.RemoveSnap t; answer = x } ∷ h)
+step_remove h t x remove_none i = i
+step_remove h t x remove_gone i = i
+step_remove h t x (removed there stays) i = λ f. chain_moved f (durable h) (fresh h) _ (to_server h) (to_server h) (length (sent h)) refl (i f)
+
 pub rise_step : (p : ℕ) (h : List Entry) (x : Event) → AllRise h → AllRise (entry p h x ∷ h)
 rise_step p h (e.Check g) i = step_check h g _ (check_is h g) i
 rise_step p h (e.FlushSnaps g) i = step_flush_snaps h g _ (flush_snaps_is h g) i
 rise_step p h e.ToMds i = step_to_server h _ (received_is h) i
 rise_step p h (e.Snap d name) i = step_snap h d name _ (snap_is h d name) i
+rise_step p h (e.RemoveSnap t) i = step_remove h t _ (remove_is h t) i
 rise_step p h e.Commit i = λ f. subst (λ rs. Chain f rs (to_server h) (length (sent h))) (sym (append-nil (stand h))) (i f)
 rise_step p h _ i = i
 

@@ -16,9 +16,9 @@ use Rattle.cs_laws.specs.Flushes.{Flush, sent_then}
 use Rattle.cs_laws.specs.History.{writes, queued, sent, stand, durable, fresh, to_server}
 use Rattle.cs_laws.specs.Image.{Write}
 use Rattle.cs_laws.specs.Journal.{entry}
-use Rattle.cs_laws.specs.Standing.{recorded, greatest_snap, fresh_then}
+use Rattle.cs_laws.specs.Standing.{recorded, greatest_number, fresh_then}
 use Rattle.cs_theorems.specs.Runs.{IsRun}
-use Rattle.cs_theorems.proofs.Inversions.{ReceivedIs, received_idle, received_ack, received_flush, received_is, SnapIs, snap_unknown, snap_exists, snap_taken, snap_is}
+use Rattle.cs_theorems.proofs.Inversions.{ReceivedIs, received_idle, received_ack, received_flush, received_is, SnapIs, snap_unknown, snap_exists, snap_taken, snap_is, RemoveIs, remove_none, remove_gone, removed, remove_is}
 use Rattle.cs_theorems.proofs.Runs.{of_run}
 
 one_more : {A : Type 0} (xs : List A) (x : A) (n : ℕ) → length xs ≤ n → length (xs ++ x ∷ []) ≤ n + 1
@@ -41,14 +41,14 @@ pub files_few : (h : List Entry) → length (files h) ≤ length h
 files_few [] = omega arith
 files_few (x ∷ h) = omega (arith, files_then_few x.event x.answer (files h) (length h) (files_few h))
 
--- Numbers of snapshots
+-- Numbers of snapshots and removals
 
-pub greatest_append : (rs more : List Record) → greatest_snap (rs ++ more) ≡ max (greatest_snap rs) (greatest_snap more)
+pub greatest_append : (rs more : List Record) → greatest_number (rs ++ more) ≡ max (greatest_number rs) (greatest_number more)
 greatest_append [] more = omega arith
 greatest_append (r ∷ rs) more = omega (arith, greatest_append rs more)
 
 -- a flush is none
-pub recorded_none : (q : List Message) → greatest_snap (recorded q) ≡ 0
+pub recorded_none : (q : List Message) → greatest_number (recorded q) ≡ 0
 recorded_none [] = refl
 recorded_none (messages.FlushSnap f tid follows meta ∷ q) = refl
 recorded_none (messages.Cap f seq bits end ∷ q) = refl
@@ -56,18 +56,25 @@ recorded_none (messages.FlushAck f tid ∷ q) = refl
 recorded_none (messages.Snap number d realms ∷ q) = refl
 recorded_none (messages.CapAck f seq bits ∷ q) = refl
 
-greatest_behind : (ds fs more : List Record) → greatest_snap (ds ++ (fs ++ more)) ≡ max (greatest_snap (ds ++ fs)) (greatest_snap more)
-greatest_behind ds fs more = ap greatest_snap (sym (append_assoc ds fs more)) ∙ greatest_append (ds ++ fs) more
+greatest_behind : (ds fs more : List Record) → greatest_number (ds ++ (fs ++ more)) ≡ max (greatest_number (ds ++ fs)) (greatest_number more)
+greatest_behind ds fs more = ap greatest_number (sym (append_assoc ds fs more)) ∙ greatest_append (ds ++ fs) more
 
 abbrev SnapsAreFew : List Entry → Type 0
-SnapsAreFew h = greatest_snap (stand h) ≤ length h
+SnapsAreFew h = greatest_number (stand h) ≤ length h
 
 step_snap : (h : List Entry) (d : ℕ) (name : List ℕ) (x : Answer) → SnapIs h d name x → SnapsAreFew h
     → SnapsAreFew (record { event = e.Snap d name; answer = x } ∷ h)
 step_snap h d name x snap_unknown i = omega (arith, i)
 step_snap h d name x snap_exists i = omega (arith, i)
 step_snap h d name x (snap_taken directory free) i =
-    let new : Record = record { body = bodies.Snap (greatest_snap (stand h) + 1) d name } in
+    let new : Record = record { body = bodies.Snap (greatest_number (stand h) + 1) d name } in
+    omega (arith, i, greatest_behind (durable h) (fresh h) (new ∷ []))
+
+step_remove : (h : List Entry) (t : ℕ) (x : Answer) → RemoveIs h t x → SnapsAreFew h → SnapsAreFew (record { event = e.RemoveSnap t; answer = x } ∷ h)
+step_remove h t x remove_none i = omega (arith, i)
+step_remove h t x remove_gone i = omega (arith, i)
+step_remove h t x (removed there stays) i =
+    let new : Record = record { body = bodies.Removal t (greatest_number (stand h) + 1) } in
     omega (arith, i, greatest_behind (durable h) (fresh h) (new ∷ []))
 
 step_to_mds : (h : List Entry) (x : Answer) → ReceivedIs h x → SnapsAreFew h → SnapsAreFew (record { event = e.ToMds; answer = x } ∷ h)
@@ -76,16 +83,17 @@ step_to_mds h x (received_ack g seq bits q is) i = omega (arith, i)
 step_to_mds h x (received_flush g tid follows meta q is) i =
     omega (arith, i, greatest_behind (durable h) (fresh h) (recorded (to_server h)), recorded_none (to_server h))
 
-step_commit : (h : List Entry) (x : Answer) → SnapsAreFew h → greatest_snap ((durable h ++ fresh h) ++ []) ≤ length h + 1
-step_commit h x i = omega (arith, i, ap greatest_snap (append-nil (durable h ++ fresh h)))
+step_commit : (h : List Entry) (x : Answer) → SnapsAreFew h → greatest_number ((durable h ++ fresh h) ++ []) ≤ length h + 1
+step_commit h x i = omega (arith, i, ap greatest_number (append-nil (durable h ++ fresh h)))
 
 few_step : (p : ℕ) (h : List Entry) (x : Event) → SnapsAreFew h → SnapsAreFew (entry p h x ∷ h)
 few_step p h (e.Snap d name) i = step_snap h d name _ (snap_is h d name) i
+few_step p h (e.RemoveSnap t) i = step_remove h t _ (remove_is h t) i
 few_step p h e.ToMds i = step_to_mds h _ (received_is h) i
 few_step p h e.Commit i = omega (arith, step_commit h a.Idle i)
 few_step p h _ i = omega (arith, i)
 
-pub snaps_few : (p : ℕ) (h : List Entry) → IsRun p h → greatest_snap (stand h) ≤ length h
+pub snaps_few : (p : ℕ) (h : List Entry) → IsRun p h → greatest_number (stand h) ≤ length h
 snaps_few p h run = of_run p SnapsAreFew (omega arith) (λ g x fit before i. few_step p g x i) h run
 
 -- The records that aren't durable
@@ -101,6 +109,7 @@ recorded_few (messages.CapAck f seq bits ∷ q) = omega arith
 fresh_then_few : (x : Event) (y : Answer) (q : List Message) (rs : List Record) (n : ℕ) → length rs ≤ n → length (fresh_then x y q rs) ≤ n + 1
 fresh_then_few e.ToMds (a.Flushed f tid) q rs n few = omega (arith, few, recorded_few q, length-append rs (recorded q))
 fresh_then_few (e.Snap d name) (a.Snap number) q rs n few = let r : Record = record { body = bodies.Snap number d name } in omega (arith, few, length-append rs (r ∷ []))
+fresh_then_few (e.RemoveSnap t) (a.Removed s number) q rs n few = let r : Record = record { body = bodies.Removal t number } in omega (arith, few, length-append rs (r ∷ []))
 fresh_then_few e.Commit (a.Commit count) q rs n few = omega arith
 fresh_then_few _ _ q rs n few = omega (arith, few)
 

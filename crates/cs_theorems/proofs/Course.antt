@@ -8,25 +8,41 @@ use Rattle.cs_theorems.specs.Runs.{IsRun}
 use Rattle.cs_theorems.specs.Snapshots.{TagsAreOfTheBegin}
 use Rattle.cs_theorems.proofs.Contexts.{goes_on}
 use Rattle.cs_theorems.proofs.Order.{Ordered, ordered_first, ordered_step}
-use Rattle.cs_theorems.proofs.Piped.{PipeAt, piped_first, piped_step}
+use Rattle.cs_theorems.proofs.Blank.{AllBlank, SentAreKnown, blank_first, blank_step, sent_known_first, sent_known_step}
+use Rattle.cs_theorems.proofs.Known.{LiveAreKnown, known_step, known_first}
+use Rattle.cs_theorems.proofs.Settings.{Setting, setting_first, setting_step}
 use Rattle.cs_theorems.proofs.Runs.{of_run}
 use Rattle.cs_theorems.proofs.Shares.{shares_first, shares_step}
 
 pub record Course (h : List Entry) : Type 0 where
-  pub pipe : PipeAt h
+  pub setting : Setting h
+  pub known : LiveAreKnown h
+  pub blank : AllBlank h
+  pub sent_known : SentAreKnown h
   pub order : Ordered h
   pub contexts : ContextsNeverFall h
   pub shares : TagsAreOfTheBegin h
 
 pub course_first : Course []
-course_first = record { pipe = piped_first; order = ordered_first; contexts = tt; shares = shares_first }
+course_first = record {
+  setting = setting_first;
+  known = known_first;
+  blank = blank_first;
+  sent_known = sent_known_first;
+  order = ordered_first;
+  contexts = tt;
+  shares = shares_first;
+}
 
 pub course_step : (p : ℕ) (h : List Entry) (x : Event) → Course h → Course (entry p h x ∷ h)
 course_step p h x i = record {
-  pipe = piped_step p h x i.pipe;
-  order = ordered_step p h x i.pipe i.order;
-  contexts = (λ f. goes_on p h x f i.pipe, i.contexts);
-  shares = shares_step p h x i.order i.shares;
+  setting = setting_step p h x i.setting;
+  known = known_step p h x i.known;
+  blank = blank_step p h x i.known i.blank;
+  sent_known = sent_known_step p h x i.sent_known;
+  order = ordered_step p h x i.setting i.known i.blank i.order;
+  contexts = (λ f known. goes_on p h x f i.setting known, i.contexts);
+  shares = shares_step p h x i.order i.known i.shares;
 }
 
 steps : (p : ℕ) (es : List Event) (h : List Entry) → Course h → Course (history p h es)

@@ -1,9 +1,9 @@
 -- After each event the cap snaps and flushes of every file cover its writes.
-use Rattle.std.proofs.Common.{◌≡◌, refl, sym, ℕ, ◌+◌, ◌<◌, Bool, true, false, cond, ◌==◌, List, [], ◌∷◌, ◌++◌, drop, length, Some, arith, bit_or, inl, ⊎_elim, subst}
-use Rattle.std.proofs.lemmas.Bool.{and_from, both_ways, cond_both, eqb-false, eqb-true}
+use Rattle.std.proofs.Common.{◌≡◌, refl, sym, ap, ℕ, ◌+◌, ◌<◌, Bool, true, false, cond, ◌==◌, List, [], ◌∷◌, ◌++◌, drop, length, Some, arith, bit_or, inl, inr, ◌⊎◌, ⊎_elim, subst}
+use Rattle.std.proofs.lemmas.Bool.{and_from, and_parts, both_ways, cond_both, eqb-false, eqb-true}
 use Rattle.std.proofs.lemmas.Nat.{le_or_r}
 use Rattle.cs_bits.specs.declared.Caps.{Caps}
-use Rattle.cs_bits.specs.Bits.{file_write, is_empty, union}
+use Rattle.cs_bits.specs.Bits.{file_write, is_empty, no_caps, union}
 use Rattle.cs_parts.specs.declared.references.Live.{Live}
 use Rattle.cs_snapctx.specs.Context.{Context}
 use Rattle.cs_laws.specs.declared.events.Event.{Event}
@@ -13,23 +13,26 @@ use Rattle.cs_laws.specs.declared.answers.Answer.{Answer}
 use Rattle.cs_laws.specs.declared.answers.Entry.{Entry}
 use Rattle.cs_laws.specs.Answers.{may_write}
 use Rattle.cs_laws.specs.CapSnaps.{CapSnap, is_open, makes, writers}
-use Rattle.cs_laws.specs.Context.{root_context, root_told}
-use Rattle.cs_laws.specs.Events.{begun, clock, mode}
+use Rattle.cs_laws.specs.Context.{first_told, path_context}
+use Rattle.cs_laws.specs.Tree.{file_path}
+use Rattle.cs_laws.specs.Events.{begun, clock, mode, setup_file}
 use Rattle.cs_laws.specs.Flushes.{Flush, first_mode, flush_snap}
-use Rattle.cs_laws.specs.History.{context, dirty, live, queued, root, sent, to_client, writes}
+use Rattle.cs_laws.specs.History.{context, dirty, live, queued, realms, sent, to_client, writes}
 use Rattle.cs_laws.specs.Image.{Write}
 use Rattle.cs_laws.specs.Journal.{entry}
 use Rattle.cs_laws.specs.References.{with_dirty}
 use Rattle.cs_laws.specs.Writes.{with_write}
 use Rattle.cs_theorems.specs.Order.{HasOlder}
 use Rattle.cs_theorems.proofs.Begun.{member_without_named}
-use Rattle.cs_theorems.proofs.Contexts.{told_rises}
+use Rattle.cs_theorems.specs.Contexts.{Moves}
+use Rattle.cs_theorems.proofs.Blank.{none_live, none_sent}
+use Rattle.cs_theorems.proofs.Contexts.{dir_stays, file_stays, told_moves}
 use Rattle.cs_theorems.proofs.Course.{Course}
 use Rattle.cs_theorems.proofs.Covers.{Between, Covers, covers_begin, covers_fewer, covers_first, covers_made, covers_other, covers_sent, covers_unmade, covers_write}
 use Rattle.cs_theorems.proofs.Inversions.{BeginIs, begin_unknown, begin_caps, begin_snap, begin_max, begin_full, begun_ref, begin_is, EndIs, end_unknown, ended, end_is, WriteIs, write_unknown, write_no_bit, write_past, wrote, write_is, FlushSnapsIs, flush_unknown, flush_none, flush_writing, flush_sent, flush_snaps_is, FirstIs, first_idle, first_cap, first_flush_ack, first_snap, first_is}
 use Rattle.cs_theorems.proofs.Listed.{Each, Member}
 use Rattle.cs_theorems.proofs.Opens.{Opens, older_opens}
-use Rattle.cs_theorems.proofs.Order.{InOrder, why_none, written_on}
+use Rattle.cs_theorems.proofs.Order.{InOrder, none_made, why_none, written_on}
 use Rattle.cs_theorems.proofs.QueueAnswers.{mode_is}
 use Rattle.cs_theorems.proofs.Tags.{Tags}
 use Rattle.cs_theorems.proofs.Uses.{named_is}
@@ -50,7 +53,8 @@ step_begin h c g b end x begin_snap i = i
 step_begin h c g b end x begin_max i = i
 step_begin h c g b end x begin_full i = i
 step_begin h c g b end x (begun_ref known issued free) i = λ f.
-    covers_begin f (context h f).seq 420 (live h) (writes h f) (dirty h f) (queued h f) (sent h) _ refl (i f)
+    covers_begin f (context h f).seq 420 (live h) (writes h f) (dirty h f) (queued h f) (sent h) _
+    (λ w. ap (λ k. (context h k).seq) (eqb-true g f (and_parts (g == f) (may_write b) w).0)) (i f)
 
 step_end : (h : List Entry) (c : ℕ) (name : RefName) (x : Answer) → EndIs h c name x → AllCovered h
     → AllCovered (record { event = e.End c name; answer = x } ∷ h)
@@ -115,13 +119,42 @@ covers_told f n old new rs ws d m xs fs up mode o i =
     (λ _. covers_made f old.seq new.seq 420 rs ws d xs fs y up refl mode o.tags i)
     (λ none. covers_unmade f old.seq new.seq 420 rs ws d xs fs up (before_new f n old new rs ws d xs fs up none o i) i)
 
+covers_moved : (f : ℕ) (n : ℕ → ℕ) (old new : Context) (number : ℕ) (rs : List Live) (ws : List Write) (d : Caps) (m : ℕ) (xs : List CapSnap) (fs : List Flush)
+    → Moves number old new → m ≡ 420 → InOrder f old.seq n rs ws xs → Covers f old.seq 420 rs ws d xs fs
+    → Covers f new.seq 420 rs ws d (cond (makes f old new rs d xs) (xs ++ record { follows = old.seq; mode = m; writers = writers f rs } ∷ []) xs) fs
+covers_moved f n old new number rs ws d m xs fs (inl same) mode o i =
+    let y : CapSnap = record { follows = old.seq; mode = m; writers = writers f rs } in
+    subst (λ b. Covers f new.seq 420 rs ws d (cond b (xs ++ y ∷ []) xs) fs) (sym (none_made f old new rs d xs same))
+    (subst (λ (c : Context). Covers f c.seq 420 rs ws d xs fs) (sym same) i)
+covers_moved f n old new number rs ws d m xs fs (inr rises) mode o i = covers_told f n old new rs ws d m xs fs rises.0 mode o i
+
 step_client : (h : List Entry) (x : Answer) → FirstIs h x → Course h → AllCovered h → AllCovered (record { event = e.ToClient; answer = x } ∷ h)
 step_client h x first_idle o i = i
 step_client h x (first_cap f seq bits end q there) o i = i
 step_client h x (first_flush_ack f tid q there) o i = i
-step_client h x (first_snap n d realms q there) o i = λ f.
-    covers_told f _ (context h f) (root_context (root_told (to_client h) (root h))) (live h) (writes h f) (dirty h f) (mode h f) (queued h f) (sent h)
-    (told_rises h n d realms q there o.pipe).0 (mode_is h f) (o.order.1 f) (i f)
+step_client h x (first_snap n d now q there) o i = λ f.
+    covers_moved f _ (context h f) (path_context (file_path h f) (first_told (to_client h) (realms h))) n (live h) (writes h f) (dirty h f) (mode h f) (queued h f) (sent h)
+    (told_moves h n d now q f there o.setting) (mode_is h f) (o.order.1 f) (i f)
+
+-- Files that are made
+
+covers_blank : (f s m : ℕ) (rs : List Live) (fs : List Flush) → Each (λ r. (r.file == f) ≡ false) rs → Each (λ x. x.file ≡ f → ⊥) fs
+    → Covers f s m rs [] no_caps [] fs
+covers_blank f s m rs fs lives sends = record {
+  covered = λ w there. absurd there;
+  dirty = λ w there. absurd there;
+  metas = λ x there of_f. absurd (sends x there of_f);
+  passed = λ x there of_f. absurd (sends x there of_f);
+  low = λ x there of_f. absurd (sends x there of_f);
+  modes = λ x there. absurd there;
+}
+
+covers_kept : (h : List Entry) (f : ℕ) (new : Context) → Course h → (new ≡ context h f) ⊎ (setup_file h f ≡ false) → CoversAt h f
+    → Covers f new.seq 420 (live h) (writes h f) (dirty h f) (queued h f) (sent h)
+covers_kept h f new o (inl same) i = subst (λ (c : Context). Covers f c.seq 420 (live h) (writes h f) (dirty h f) (queued h f) (sent h)) (sym same) i
+covers_kept h f new o (inr unknown) i =
+    let was = o.blank f unknown in
+    rw (was.writes, was.dirty, was.queued) (covers_blank f new.seq 420 (live h) (sent h) (none_live h f unknown o.known) (none_sent h f unknown o.sent_known))
 
 -- Flushes
 
@@ -159,6 +192,8 @@ step_flush_snaps h g x (flush_sent y ys known is closed) o i = λ f. at f (g == 
 -- All events
 
 pub covered_step : (p : ℕ) (h : List Entry) (x : Event) → Course h → AllCovered h → AllCovered (entry p h x ∷ h)
+covered_step p h (e.Dir d q) o i = λ f. covers_kept h f _ o (dir_stays p h d q f o.setting) (i f)
+covered_step p h (e.File g q) o i = λ f. covers_kept h f _ o (file_stays p h g q f o.setting) (i f)
 covered_step p h (e.Begin c f bits end) o i = step_begin h c f bits end _ (begin_is h c f bits end) i
 covered_step p h (e.End c name) o i = step_end h c name _ (end_is h c name) i
 covered_step p h (e.Write c name off bytes) o i = step_write h c name off bytes _ (write_is h c name off bytes) o i

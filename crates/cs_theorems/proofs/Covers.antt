@@ -46,13 +46,13 @@ covers_first f s m = record {
   modes = each_nil _;
 }
 
-pub covers_begin : (f s m : ℕ) (rs : List Live) (ws : List Write) (d : Caps) (xs : List CapSnap) (fs : List Flush) (n : Live) → n.tag ≡ s
+pub covers_begin : (f s m : ℕ) (rs : List Live) (ws : List Write) (d : Caps) (xs : List CapSnap) (fs : List Flush) (n : Live) → (is_writer_of f n ≡ true → n.tag ≡ s)
     → Covers f s m rs ws d xs fs → Covers f s m (rs ++ n ∷ []) ws d xs fs
 covers_begin f s m rs ws d xs fs n new i = record {
   covered = i.covered;
   dirty = i.dirty;
   metas = i.metas;
-  passed = λ x there is. each_end (λ r. is_writer_of f r ≡ true → x.follows < r.tag) rs n (i.passed x there is) (λ _. omega (arith, new, i.low x there is));
+  passed = λ x there is. each_end (λ r. is_writer_of f r ≡ true → x.follows < r.tag) rs n (i.passed x there is) (λ w. omega (arith, new w, i.low x there is));
   low = i.low;
   modes = i.modes;
 }

@@ -1,11 +1,12 @@
 -- The files are listed, each once.
 use Rattle.std.proofs.Common.{◌≡◌, refl, ℕ, ◌↔◌, Bool, true, false, cond, List, [], ◌∷◌, ◌==◌, inl, inr, ⊎_elim}
-use Rattle.std.proofs.lemmas.Bool.{cond_both, eqb-true, eq-eqb, both_ways}
+use Rattle.std.proofs.lemmas.Bool.{cond_both, eqb-true, eq-eqb, both_ways, or_parts}
 use Rattle.cs_laws.specs.declared.events.Event.{Event}
 use Rattle.cs_laws.specs.declared.events.Event.TheVariants as e
 use Rattle.cs_laws.specs.declared.answers.Entry.{Entry}
-use Rattle.cs_laws.specs.Answers.{answer_file}
-use Rattle.cs_laws.specs.Events.{setup_file, files, is_directory}
+use Rattle.cs_laws.specs.Answers.{answer_made, is_in_use}
+use Rattle.cs_laws.specs.Events.{setup_file, files}
+use Rattle.cs_laws.specs.Tree.{is_directory}
 use Rattle.cs_laws.specs.Journal.{entry}
 use Rattle.cs_theorems.specs.References.{IsEachOnce}
 use Rattle.cs_theorems.specs.Runs.{IsRun}
@@ -35,11 +36,11 @@ listed_more known g fs new i = record {
 abbrev FilesAreListed : List Entry → Type 0
 FilesAreListed h = AreListed (λ f. setup_file h f) (files h)
 
-step_file : (h : List Entry) (g d : ℕ) → FilesAreListed h → FilesAreListed (record { event = e.File g d; answer = answer_file h g d } ∷ h)
+step_file : (h : List Entry) (g d : ℕ) → FilesAreListed h → FilesAreListed (record { event = e.File g d; answer = answer_made h g d } ∷ h)
 step_file h g d i =
-    cond_both (setup_file h g) _ _ (λ x. FilesAreListed (record { event = e.File g d; answer = x } ∷ h)) (λ _. i)
+    cond_both (is_in_use h g) _ _ (λ x. FilesAreListed (record { event = e.File g d; answer = x } ∷ h)) (λ _. i)
     (λ new. cond_both (is_directory h d) _ _ (λ x. FilesAreListed (record { event = e.File g d; answer = x } ∷ h))
-    (λ _. listed_more (λ f. setup_file h f) g (files h) new i)
+    (λ _. listed_more (λ f. setup_file h f) g (files h) (or_parts (is_directory h g) (setup_file h g) new).1 i)
     (λ _. i))
 
 listed_step : (p : ℕ) (h : List Entry) (x : Event) → FilesAreListed h → FilesAreListed (entry p h x ∷ h)

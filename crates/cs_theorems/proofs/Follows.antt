@@ -1,11 +1,16 @@
 -- The numbers that a file's flushes follow rise: of those that stand, then of those on their way to the server, and then of
 -- the cap snaps that aren't sent.
-use Rattle.std.proofs.Common.{◌≡◌, refl, sym, ap, ◌∙◌, subst, ℕ, ◌+◌, ◌<◌, Bool, true, false, cond, ◌==◌, List, [], ◌∷◌, ◌++◌, map, drop, append_assoc, arith}
+use Rattle.std.proofs.Common.{◌≡◌, ◌⊎◌, refl, sym, ap, ◌∙◌, subst, ℕ, ◌+◌, ◌<◌, Bool, true, false, cond, ◌==◌, List, [], ◌∷◌, ◌++◌, map, drop, append_assoc, arith, inl, inr}
 use Rattle.std.specs.List.{flat_map}
 use Rattle.std.proofs.lemmas.Bool.{eqb-true}
 use Rattle.std.proofs.lemmas.List.{append-nil, map-append}
 use Rattle.std.proofs.lemmas.Grind.{flat_map-append}
 use Rattle.cs_ids.specs.declared.objects.FileMeta.{FileMeta}
+use Rattle.cs_bits.specs.declared.Caps.{Caps}
+use Rattle.cs_parts.specs.declared.references.Live.{Live}
+use Rattle.cs_snapctx.specs.Context.{Context}
+use Rattle.cs_laws.specs.declared.records.RecordBody.{RecordBody}
+use Rattle.cs_laws.specs.declared.records.RecordBody.TheVariants as bodies
 use Rattle.cs_laws.specs.declared.events.Event.{Event}
 use Rattle.cs_laws.specs.declared.events.Event.TheVariants as e
 use Rattle.cs_laws.specs.declared.answers.Answer.{Answer}
@@ -14,18 +19,24 @@ use Rattle.cs_laws.specs.declared.messages.Message.{Message}
 use Rattle.cs_laws.specs.declared.messages.Message.TheVariants as messages
 use Rattle.cs_laws.specs.declared.records.Record.{Record}
 use Rattle.cs_laws.specs.CapSnaps.{CapSnap, makes, writers}
-use Rattle.cs_laws.specs.Context.{root_context, root_told}
-use Rattle.cs_laws.specs.Events.{mode}
+use Rattle.cs_laws.specs.Context.{first_told, path_context}
+use Rattle.cs_laws.specs.Tree.{file_path}
+use Rattle.cs_laws.specs.Events.{mode, setup_file}
 use Rattle.cs_laws.specs.Flushes.{first_mode, meta_upto}
-use Rattle.cs_laws.specs.History.{context, dirty, live, queued, root, to_client, to_server, durable, fresh, stand, writes}
+use Rattle.cs_laws.specs.History.{context, dirty, live, queued, realms, to_client, to_server, durable, fresh, stand, writes}
 use Rattle.cs_laws.specs.Journal.{entry}
 use Rattle.cs_laws.specs.Standing.{recorded}
 use Rattle.cs_theorems.specs.Runs.{IsRun}
 use Rattle.cs_theorems.specs.Told.{told_of, told_in}
-use Rattle.cs_theorems.proofs.Contexts.{told_rises}
+use Rattle.cs_theorems.specs.Contexts.{Moves}
+use Rattle.cs_theorems.specs.Underway.{ForServer, IsKnown}
+use Rattle.cs_theorems.proofs.Blank.{apart}
+use Rattle.cs_theorems.proofs.Contexts.{dir_stays, file_stays, told_moves}
+use Rattle.cs_theorems.proofs.Listed.{Each, each_append, each_tail}
+use Rattle.cs_theorems.proofs.Order.{none_made}
+use Rattle.cs_theorems.proofs.Underway.{AllFly, ForLog, all_fly}
 use Rattle.cs_theorems.proofs.Course.{Course, course_run}
-use Rattle.cs_theorems.proofs.Inversions.{CheckIs, check_unknown, check_nothing, check_hold, check_ack, check_is, FlushSnapsIs, flush_unknown, flush_none, flush_writing, flush_sent, flush_snaps_is, FirstIs, first_idle, first_cap, first_flush_ack, first_snap, first_is, ReceivedIs, received_idle, received_ack, received_flush, received_is, SnapIs, snap_unknown, snap_exists, snap_taken, snap_is}
-use Rattle.cs_theorems.proofs.Piped.{PipeAt}
+use Rattle.cs_theorems.proofs.Inversions.{CheckIs, check_unknown, check_nothing, check_hold, check_ack, check_is, FlushSnapsIs, flush_unknown, flush_none, flush_writing, flush_sent, flush_snaps_is, FirstIs, first_idle, first_cap, first_flush_ack, first_snap, first_is, ReceivedIs, received_idle, received_ack, received_flush, received_is, SnapIs, snap_unknown, snap_exists, snap_taken, snap_is, RemoveIs, remove_none, remove_gone, removed, remove_is}
 use Rattle.cs_theorems.proofs.Rising.{RisesTo, rises_end, rises_more, at_first}
 use Rattle.cs_theorems.proofs.Runs.{of_run}
 
@@ -133,14 +144,51 @@ step_flush_snaps h g x (flush_sent y ys known is closed) i = λ f.
     row_sent (g == f) f g (context h f).seq _ (stand h) (to_server h) y (meta_upto y.follows (first_mode (queued h g)) (writes h g)) ys (queued h f) refl
     (λ own. subst (λ k. queued h k ≡ y ∷ ys) (eqb-true g f own) is) (i f)
 
-step_client : (h : List Entry) (x : Answer) → FirstIs h x → PipeAt h → AllFollow h → AllFollow (record { event = e.ToClient; answer = x } ∷ h)
-step_client h x first_idle pipe i = i
-step_client h x (first_cap f seq bits end q there) pipe i = i
-step_client h x (first_flush_ack f tid q there) pipe i = i
-step_client h x (first_snap n d realms q there) pipe i = λ f.
-    let new = root_context (root_told (to_client h) (root h)) in
-    row_told (makes f (context h f) new (live h) (dirty h f) (queued h f)) f (context h f).seq new.seq (stand h) (to_server h) (queued h f)
-    (record { follows = (context h f).seq; mode = mode h f; writers = writers f (live h) }) refl (told_rises h n d realms q there pipe).0 (i f)
+row_moved : (f : ℕ) (old new : Context) (number : ℕ) (ls : List Live) (d : Caps) (rs : List Record) (q : List Message) (xs : List CapSnap) (y : CapSnap)
+    → Moves number old new → y.follows ≡ old.seq → Row f old.seq rs q xs → Row f new.seq rs q (cond (makes f old new ls d xs) (xs ++ y ∷ []) xs)
+row_moved f old new number ls d rs q xs y (inl same) follows i =
+    subst (λ b. Row f new.seq rs q (cond b (xs ++ y ∷ []) xs)) (sym (none_made f old new ls d xs same)) (subst (λ (c : Context). Row f c.seq rs q xs) (sym same) i)
+row_moved f old new number ls d rs q xs y (inr rises) follows i = row_told (makes f old new ls d xs) f old.seq new.seq rs q xs y follows rises.0 i
+
+step_client : (h : List Entry) (x : Answer) → FirstIs h x → Course h → AllFollow h → AllFollow (record { event = e.ToClient; answer = x } ∷ h)
+step_client h x first_idle o i = i
+step_client h x (first_cap f seq bits end q there) o i = i
+step_client h x (first_flush_ack f tid q there) o i = i
+step_client h x (first_snap n d now q there) o i = λ f.
+    row_moved f (context h f) (path_context (file_path h f) (first_told (to_client h) (realms h))) n (live h) (dirty h f) (stand h) (to_server h) (queued h f)
+    (record { follows = (context h f).seq; mode = mode h f; writers = writers f (live h) }) (told_moves h n d now q f there o.setting) refl (i f)
+
+-- A file is made: nothing is told of one that wasn't known
+
+no_record : (h : List Entry) (f : ℕ) (b : RecordBody) → setup_file h f ≡ false → ForLog (IsKnown h) b → told_of f b ≡ []
+no_record h f (bodies.Flush snap g tid follows meta) unknown known = rw (apart h g f known unknown) refl
+no_record h f (bodies.Snap number d name) unknown known = refl
+no_record h f (bodies.Removal t number) unknown known = refl
+
+pub no_records : (h : List Entry) (f : ℕ) (rs : List Record) → setup_file h f ≡ false → Each (λ r. ForLog (IsKnown h) r.body) rs → told_in f rs ≡ []
+no_records h f [] unknown known = refl
+no_records h f (r ∷ rs) unknown known =
+    rw (no_record h f r.body unknown (known r (inl refl))) (no_records h f rs unknown (each_tail (λ x. ForLog (IsKnown h) x.body) r rs known))
+
+no_message : (h : List Entry) (f : ℕ) (m : Message) → setup_file h f ≡ false → ForServer (IsKnown h) m → told_by f m ≡ []
+no_message h f (messages.FlushSnap g tid follows meta) unknown known = rw (apart h g f known unknown) refl
+no_message h f (messages.CapAck g seq bits) unknown known = refl
+no_message h f (messages.Cap g seq bits end) unknown known = refl
+no_message h f (messages.FlushAck g tid) unknown known = refl
+no_message h f (messages.Snap number d now) unknown known = refl
+
+no_messages : (h : List Entry) (f : ℕ) (q : List Message) → setup_file h f ≡ false → Each (ForServer (IsKnown h)) q → flying f q ≡ []
+no_messages h f [] unknown known = refl
+no_messages h f (m ∷ q) unknown known =
+    rw (no_message h f m unknown (known m (inl refl))) (no_messages h f q unknown (each_tail (ForServer (IsKnown h)) m q known))
+
+row_kept : (h : List Entry) (f : ℕ) (new : Context) → Course h → AllFly h → (new ≡ context h f) ⊎ (setup_file h f ≡ false) → Row f (context h f).seq (stand h) (to_server h) (queued h f)
+    → Row f new.seq (stand h) (to_server h) (queued h f)
+row_kept h f new o fly (inl same) i = subst (λ (c : Context). Row f c.seq (stand h) (to_server h) (queued h f)) (sym same) i
+row_kept h f new o fly (inr unknown) i =
+    let records : told_in f (stand h) ≡ [] = no_records h f (stand h) unknown (each_append (λ r. ForLog (IsKnown h) r.body) (durable h) (fresh h) fly.durable fly.fresh) in
+    let messages_none : flying f (to_server h) ≡ [] = no_messages h f (to_server h) unknown fly.received in
+    record { rises = rw (records, messages_none, (o.blank f unknown).queued) (omega arith) }
 
 flush_told : (b : Bool) (x : ℕ × FileMeta) (ts : List (ℕ × FileMeta)) → cond b (x ∷ []) [] ++ ts ≡ (cond b (x ∷ []) [] ++ []) ++ ts
 flush_told b x ts = ap (λ us. us ++ ts) (sym (append-nil (cond b (x ∷ []) [])))
@@ -166,17 +214,26 @@ step_snap h d name x snap_exists i = i
 step_snap h d name x (snap_taken directory free) i = λ f.
     row_recorded f (context h f).seq (durable h) (fresh h) _ (to_server h) (to_server h) (queued h f) refl (i f)
 
-follow_step : (p : ℕ) (h : List Entry) (x : Event) → PipeAt h → AllFollow h → AllFollow (entry p h x ∷ h)
-follow_step p h (e.Check g) pipe i = step_check h g _ (check_is h g) i
-follow_step p h (e.FlushSnaps g) pipe i = step_flush_snaps h g _ (flush_snaps_is h g) i
-follow_step p h e.ToClient pipe i = step_client h _ (first_is h) pipe i
-follow_step p h e.ToMds pipe i = step_server h _ (received_is h) i
-follow_step p h (e.Snap d name) pipe i = step_snap h d name _ (snap_is h d name) i
-follow_step p h e.Commit pipe i = λ f.
+step_remove : (h : List Entry) (t : ℕ) (x : Answer) → RemoveIs h t x → AllFollow h → AllFollow (record { event = e.RemoveSnap t; answer = x } ∷ h)
+step_remove h t x remove_none i = i
+step_remove h t x remove_gone i = i
+step_remove h t x (removed there stays) i = λ f.
+    row_recorded f (context h f).seq (durable h) (fresh h) _ (to_server h) (to_server h) (queued h f) refl (i f)
+
+follow_step : (p : ℕ) (h : List Entry) (x : Event) → Course h → AllFly h → AllFollow h → AllFollow (entry p h x ∷ h)
+follow_step p h (e.Dir d q) o fly i = λ f. row_kept h f _ o fly (dir_stays p h d q f o.setting) (i f)
+follow_step p h (e.File g q) o fly i = λ f. row_kept h f _ o fly (file_stays p h g q f o.setting) (i f)
+follow_step p h (e.Check g) o fly i = step_check h g _ (check_is h g) i
+follow_step p h (e.FlushSnaps g) o fly i = step_flush_snaps h g _ (flush_snaps_is h g) i
+follow_step p h e.ToClient o fly i = step_client h _ (first_is h) o i
+follow_step p h e.ToMds o fly i = step_server h _ (received_is h) i
+follow_step p h (e.Snap d name) o fly i = step_snap h d name _ (snap_is h d name) i
+follow_step p h (e.RemoveSnap t) o fly i = step_remove h t _ (remove_is h t) i
+follow_step p h e.Commit o fly i = λ f.
     subst (λ rs. Row f (context h f).seq rs (to_server h) (queued h f)) (sym (append-nil (stand h))) (i f)
-follow_step p h _ pipe i = i
+follow_step p h _ o fly i = i
 
 pub all_follow : (p : ℕ) (h : List Entry) → IsRun p h → AllFollow h
 all_follow p h run =
     of_run p AllFollow (λ f. record { rises = omega arith })
-    (λ g x fit before i. let course : Course g = course_run p g before in follow_step p g x course.pipe i) h run
+    (λ g x fit before i. follow_step p g x (course_run p g before) (all_fly p g before) i) h run

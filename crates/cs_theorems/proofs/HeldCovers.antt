@@ -23,8 +23,9 @@ use Rattle.cs_laws.specs.Answers.{held_after}
 use Rattle.cs_laws.specs.Flight.{cap_message}
 use Rattle.cs_laws.specs.History.{client, server, to_client, to_server, durable, fresh}
 use Rattle.cs_laws.specs.Journal.{history, journal, entry}
-use Rattle.cs_laws.specs.Standing.{realm_then, realm_after, told_of, told}
-use Rattle.cs_laws.specs.Context.{empty_root}
+use Rattle.cs_laws.specs.Realms.{changed_records}
+use Rattle.cs_laws.specs.Standing.{told_of, told}
+use Rattle.cs_laws.specs.Tree.{directories, path}
 use Rattle.cs_theorems.specs.Held.{HeldCoversImplemented}
 use Rattle.cs_theorems.proofs.Listed.{Each, each_nil, each_cons}
 use Rattle.cs_theorems.proofs.Rising.{at_first}
@@ -64,25 +65,28 @@ received_if false f g seq bits s sg c q p is own i = holds_taken f s c q p (mess
 
 -- what is told of records carries no capabilities
 
-no_seq_told : (f : ℕ) (root : RealmRecord) (body : RecordBody) → cap_seq f (told_of root body) ≡ []
-no_seq_told f root (bodies.Flush snap g tid follows meta) = refl
-no_seq_told f root (bodies.Snap number d name) = refl
+no_seq_told : (f : ℕ) (before : List Record) (realms : List RealmRecord) (body : RecordBody) → cap_seq f (told_of before realms body) ≡ []
+no_seq_told f before realms (bodies.Flush snap g tid follows meta) = refl
+no_seq_told f before realms (bodies.Snap number d name) = refl
+no_seq_told f before realms (bodies.Removal s number) = refl
 
-no_seqs_told : (f : ℕ) (root : RealmRecord) (rs : List Record) → cap_seqs f (told root rs) ≡ []
-no_seqs_told f root [] = refl
-no_seqs_told f root (r ∷ rs) =
-    subst (λ xs. xs ++ cap_seqs f (told (realm_then root r.body) rs) ≡ []) (sym (no_seq_told f (realm_then root r.body) r.body))
-    (no_seqs_told f (realm_then root r.body) rs)
+no_seqs_told : (f : ℕ) (up : ℕ → List ℕ) (dirs : List ℕ) (before rs : List Record) → cap_seqs f (told up dirs before rs) ≡ []
+no_seqs_told f up dirs before [] = refl
+no_seqs_told f up dirs before (r ∷ rs) =
+    subst (λ xs. xs ++ cap_seqs f (told up dirs (before ++ r ∷ []) rs) ≡ [])
+    (sym (no_seq_told f before (changed_records up dirs before (before ++ r ∷ [])) r.body)) (no_seqs_told f up dirs (before ++ r ∷ []) rs)
 
-told_flies : (f : ℕ) (s : ServerCaps) (root : RealmRecord) (body : RecordBody) → Flying f s (told_of root body)
-told_flies f s root (bodies.Flush snap g tid follows meta) = tt
-told_flies f s root (bodies.Snap number d name) = tt
+told_flies : (f : ℕ) (s : ServerCaps) (before : List Record) (realms : List RealmRecord) (body : RecordBody) → Flying f s (told_of before realms body)
+told_flies f s before realms (bodies.Flush snap g tid follows meta) = tt
+told_flies f s before realms (bodies.Snap number d name) = tt
+told_flies f s before realms (bodies.Removal t number) = tt
 
-all_told_fly : (f : ℕ) (s : ServerCaps) (root : RealmRecord) (rs : List Record) → Each (λ m. Flying f s m) (told root rs)
-all_told_fly f s root [] = each_nil (λ m. Flying f s m)
-all_told_fly f s root (r ∷ rs) =
-    each_cons (λ m. Flying f s m) (told_of (realm_then root r.body) r.body) (told (realm_then root r.body) rs)
-    (told_flies f s (realm_then root r.body) r.body) (all_told_fly f s (realm_then root r.body) rs)
+all_told_fly : (f : ℕ) (s : ServerCaps) (up : ℕ → List ℕ) (dirs : List ℕ) (before rs : List Record) → Each (λ m. Flying f s m) (told up dirs before rs)
+all_told_fly f s up dirs before [] = each_nil (λ m. Flying f s m)
+all_told_fly f s up dirs before (r ∷ rs) =
+    let realms : List RealmRecord = changed_records up dirs before (before ++ r ∷ []) in
+    each_cons (λ m. Flying f s m) (told_of before realms r.body) (told up dirs (before ++ r ∷ []) rs)
+    (told_flies f s before realms r.body) (all_told_fly f s up dirs (before ++ r ∷ []) rs)
 
 -- Steps
 
@@ -119,9 +123,9 @@ step_to_client h x (first_cap g seq bits end q is) i = λ f.
 step_to_client h x (first_flush_ack g tid q is) i = λ f.
     at_first (λ y. Client h f y) (λ y. Client h f y) (messages.FlushAck g tid) q (to_client h) is
     (λ j. holds_passed f (server h f) (client h f) (messages.FlushAck g tid) q (to_server h) refl j) (i f)
-step_to_client h x (first_snap number realm realms q is) i = λ f.
-    at_first (λ y. Client h f y) (λ y. Client h f y) (messages.Snap number realm realms) q (to_client h) is
-    (λ j. holds_passed f (server h f) (client h f) (messages.Snap number realm realms) q (to_server h) refl j) (i f)
+step_to_client h x (first_snap number realm now q is) i = λ f.
+    at_first (λ y. Client h f y) (λ y. Client h f y) (messages.Snap number realm now) q (to_client h) is
+    (λ j. holds_passed f (server h f) (client h f) (messages.Snap number realm now) q (to_server h) refl j) (i f)
 
 step_check : (h : List Entry) (g : ℕ) (x : Answer) → CheckIs h g x → AllHold h → AllHold (record { event = e.Check g; answer = x } ∷ h)
 step_check h g x check_unknown i = i
@@ -152,9 +156,8 @@ step_to_server h x (received_flush g tid follows meta p is) i = λ f.
 
 step_commit : (h : List Entry) (x : ℕ) → AllHold h → AllHold (record { event = e.Commit; answer = a.Commit x } ∷ h)
 step_commit h x i = λ f.
-    let root : RealmRecord = realm_after empty_root (durable h) in
-    holds_beside f (server h f) (client h f) (to_client h) (to_server h) (told root (fresh h)) (no_seqs_told f root (fresh h))
-    (all_told_fly f (server h f) root (fresh h)) (i f)
+    holds_beside f (server h f) (client h f) (to_client h) (to_server h) (told (λ d. path h d) (directories h) (durable h) (fresh h))
+    (no_seqs_told f (λ d. path h d) (directories h) (durable h) (fresh h)) (all_told_fly f (server h f) (λ d. path h d) (directories h) (durable h) (fresh h)) (i f)
 
 hold_step : (p : ℕ) (h : List Entry) (x : Event) → AllHold h → AllHold (entry p h x ∷ h)
 hold_step p h (e.Grant g bits end) i = step_grant h g bits end _ (grant_is h g bits end) i

@@ -16,12 +16,14 @@ use Rattle.cs_laws.specs.declared.answers.Entry.{Entry}
 use Rattle.cs_laws.specs.declared.messages.Message.{Message}
 use Rattle.cs_laws.specs.declared.messages.Message.TheVariants as messages
 use Rattle.cs_laws.specs.CapSnaps.{CapSnap, is_open, is_writing}
-use Rattle.cs_laws.specs.Context.{last_record, root_context}
-use Rattle.cs_laws.specs.Events.{client_knows, server_knows, files, is_directory, begun}
-use Rattle.cs_laws.specs.History.{client, server, root, to_client, to_server, live, queued, sent, stand, used}
+use Rattle.cs_snapctx.specs.Records.{with_records}
+use Rattle.cs_laws.specs.Context.{path_context}
+use Rattle.cs_laws.specs.Events.{client_knows, server_knows, files, begun}
+use Rattle.cs_laws.specs.Tree.{file_path, is_directory}
+use Rattle.cs_laws.specs.History.{client, server, realms, to_client, to_server, live, queued, sent, stand, used}
 use Rattle.cs_laws.specs.References.{can_end, named}
-use Rattle.cs_laws.specs.Standing.{greatest_snap, has_snap_named}
-use Rattle.cs_laws.specs.Answers.{answer_begin, answer_end, answer_check, answer_flush_snaps, answer_flush_snaps_of, answer_to_client, answer_to_client_of, answer_to_mds, answer_to_mds_of, answer_grant, answer_revoke, answer_snap, answer_write, answer_write_on, count_made, held_after, may_write}
+use Rattle.cs_laws.specs.Standing.{greatest_number, has_snap, has_snap_named, is_removed}
+use Rattle.cs_laws.specs.Answers.{answer_begin, answer_end, answer_check, answer_flush_snaps, answer_flush_snaps_of, answer_to_client, answer_to_client_of, answer_to_mds, answer_to_mds_of, answer_grant, answer_revoke, answer_remove, answer_snap, answer_write, answer_write_on, count_made, held_after, may_write}
 
 pub data BeginIs (h : List Entry) (c f : ℕ) (b : Caps) : Answer → Type 0 where
   begin_unknown : BeginIs h c f b a.Unknown
@@ -103,14 +105,14 @@ pub data FirstIs (h : List Entry) : Answer → Type 0 where
   first_idle : FirstIs h a.Idle
   first_cap : (f seq : ℕ) (bits : Caps) (end : ℕ) (q : List Message) → to_client h ≡ messages.Cap f seq bits end ∷ q → FirstIs h (a.Cap f seq bits end)
   first_flush_ack : (f tid : ℕ) (q : List Message) → to_client h ≡ messages.FlushAck f tid ∷ q → FirstIs h (a.FlushAck f tid)
-  first_snap : (number realm : ℕ) (realms : List RealmRecord) (q : List Message) → to_client h ≡ messages.Snap number realm realms ∷ q
-      → FirstIs h (a.SnapTold number realm (count_made h (root_context (last_record realms (root h))) (files h)))
+  first_snap : (number realm : ℕ) (told : List RealmRecord) (q : List Message) → to_client h ≡ messages.Snap number realm told ∷ q
+      → FirstIs h (a.SnapTold number realm (count_made h (λ f. path_context (file_path h f) (with_records told (realms h))) (files h)))
 
 first_is_of : (h : List Entry) (q : List Message) → to_client h ≡ q → FirstIs h (answer_to_client_of h q)
 first_is_of h [] is = first_idle
 first_is_of h (messages.Cap f seq bits end ∷ q) is = first_cap f seq bits end q is
 first_is_of h (messages.FlushAck f tid ∷ q) is = first_flush_ack f tid q is
-first_is_of h (messages.Snap number realm realms ∷ q) is = first_snap number realm realms q is
+first_is_of h (messages.Snap number realm told ∷ q) is = first_snap number realm told q is
 first_is_of h (messages.CapAck f seq bits ∷ q) is = first_idle
 first_is_of h (messages.FlushSnap f tid follows meta ∷ q) is = first_idle
 
@@ -138,13 +140,24 @@ received_is h = received_is_of h (to_server h) refl
 pub data SnapIs (h : List Entry) (d : ℕ) (name : List ℕ) : Answer → Type 0 where
   snap_unknown : SnapIs h d name a.Unknown
   snap_exists : SnapIs h d name a.Exists
-  snap_taken : is_directory h d ≡ true → has_snap_named d name (stand h) ≡ false → SnapIs h d name (a.Snap (greatest_snap (stand h) + 1))
+  snap_taken : is_directory h d ≡ true → has_snap_named d name (stand h) ≡ false → SnapIs h d name (a.Snap (greatest_number (stand h) + 1))
 
 pub snap_is : (h : List Entry) (d : ℕ) (name : List ℕ) → SnapIs h d name (answer_snap h d name)
 snap_is h d name =
     cond_both (is_directory h d) _ _ (SnapIs h d name)
     (λ directory. cond_both (has_snap_named d name (stand h)) _ _ (SnapIs h d name) (λ _. snap_exists) (λ free. snap_taken directory free))
     (λ _. snap_unknown)
+
+pub data RemoveIs (h : List Entry) (s : ℕ) : Answer → Type 0 where
+  remove_none : RemoveIs h s a.NoSnap
+  remove_gone : RemoveIs h s a.Gone
+  removed : has_snap s (stand h) ≡ true → is_removed s (stand h) ≡ false → RemoveIs h s (a.Removed s (greatest_number (stand h) + 1))
+
+pub remove_is : (h : List Entry) (s : ℕ) → RemoveIs h s (answer_remove h s)
+remove_is h s =
+    cond_both (has_snap s (stand h)) _ _ (RemoveIs h s)
+    (λ there. cond_both (is_removed s (stand h)) _ _ (RemoveIs h s) (λ _. remove_gone) (λ stays. removed there stays))
+    (λ _. remove_none)
 
 pub data GrantIs (h : List Entry) (f : ℕ) (s : ServerCaps) : Answer → Type 0 where
   grant_unknown : GrantIs h f s a.Unknown

@@ -1,5 +1,5 @@
 -- A refused event changes the journal alone.
-use Rattle.std.proofs.Common.{◌≡◌, refl, ap, ℕ, Bool, true, List, [], ◌∷◌, ◌++◌, reverse}
+use Rattle.std.proofs.Common.{◌≡◌, refl, ap, ◌∙◌, ℕ, Bool, true, List, [], ◌∷◌, ◌++◌, length, reverse}
 use Rattle.cs_bits.specs.declared.Caps.{Caps}
 use Rattle.cs_snapctx.specs.declared.realm.RealmRecord.{RealmRecord}
 use Rattle.cs_snapctx.specs.Context.{Context}
@@ -15,15 +15,17 @@ use Rattle.cs_laws.specs.declared.messages.Message.{Message}
 use Rattle.cs_laws.specs.Capabilities.{client_then, server_then}
 use Rattle.cs_laws.specs.declared.records.Record.{Record}
 use Rattle.cs_laws.specs.CapSnaps.{CapSnap, queued_then}
-use Rattle.cs_laws.specs.Context.{root_context, root_then}
+use Rattle.cs_laws.specs.Context.{path_context, realms_then}
+use Rattle.cs_laws.specs.Tree.{directories, directories_then, file_path, home, home_then, path, path_then, setup_dir, setup_dir_then}
 use Rattle.cs_laws.specs.Events.{setup_file, setup_file_then, files, files_then, begun, begun_then, clock, mode}
 use Rattle.cs_laws.specs.Flight.{to_client_then, to_server_then}
 use Rattle.cs_laws.specs.Flushes.{Flush, sent_then}
-use Rattle.cs_laws.specs.History.{client, server, to_client, to_server, durable, fresh, root, context, live, writes, dirty, queued, sent}
+use Rattle.cs_laws.specs.History.{client, server, to_client, to_server, durable, fresh, realms, context, live, writes, dirty, queued, sent}
 use Rattle.cs_laws.specs.Image.{Write}
 use Rattle.cs_laws.specs.Operations.{begun_under, begun_under_then, brought, drawn_then, operations_drawn, applied}
 use Rattle.cs_laws.specs.References.{live_then, dirty_then}
 use Rattle.cs_laws.specs.Standing.{durable_then, fresh_then}
+use Rattle.cs_laws.specs.Standing.{told as tell}
 use Rattle.cs_laws.specs.Writes.{writes_then}
 use Rattle.cs_laws.specs.Refusals.{is_refusal}
 use Rattle.cs_theorems.specs.Refusals.{IsAsBefore}
@@ -47,15 +49,14 @@ servers (e.Revoke g bits) (a.SentCap seq held) f s r = cc
 servers e.ToMds (a.CapAck g seq held) f s r = cc
 servers _ _ f s r = refl
 
-clients_way : (x : Event) (y : Answer) (s : ℕ → ServerCaps) (ds fs : List Record) (q : List Message) → is_refusal x y ≡ true
-    → to_client_then x y s ds fs q ≡ q
-clients_way (e.Grant g bits end) (a.SentCap seq held) s ds fs q r = cc
-clients_way (e.Revoke g bits) (a.SentCap seq held) s ds fs q r = cc
-clients_way e.Commit (a.Commit count) s ds fs q r = cc
-clients_way e.ToClient (a.Cap g seq bits end) s ds fs q r = cc
-clients_way e.ToClient (a.FlushAck g tid) s ds fs q r = cc
-clients_way e.ToClient (a.SnapTold number realm count) s ds fs q r = cc
-clients_way _ _ s ds fs q r = refl
+clients_way : (x : Event) (y : Answer) (s : ℕ → ServerCaps) (news q : List Message) → is_refusal x y ≡ true → to_client_then x y s news q ≡ q
+clients_way (e.Grant g bits end) (a.SentCap seq held) s news q r = cc
+clients_way (e.Revoke g bits) (a.SentCap seq held) s news q r = cc
+clients_way e.Commit (a.Commit count) s news q r = cc
+clients_way e.ToClient (a.Cap g seq bits end) s news q r = cc
+clients_way e.ToClient (a.FlushAck g tid) s news q r = cc
+clients_way e.ToClient (a.SnapTold number realm count) s news q r = cc
+clients_way _ _ s news q r = refl
 
 servers_way : (x : Event) (y : Answer) (ws : ℕ → List Write) (qs : ℕ → List CapSnap) (q : List Message) → is_refusal x y ≡ true
     → to_server_then x y ws qs q ≡ q
@@ -72,12 +73,29 @@ durables _ _ fs ds r = refl
 added : (x : Event) (y : Answer) (q : List Message) (fs : List Record) → is_refusal x y ≡ true → fresh_then x y q fs ≡ fs
 added e.ToMds (a.Flushed g tid) q fs r = cc
 added (e.Snap d name) (a.Snap number) q fs r = cc
+added (e.RemoveSnap t) (a.Removed u number) q fs r = cc
 added e.Commit (a.Commit count) q fs r = cc
 added _ _ q fs r = refl
 
-roots : (x : Event) (y : Answer) (q : List Message) (k : RealmRecord) → is_refusal x y ≡ true → root_then x y q k ≡ k
-roots e.ToClient (a.SnapTold number realm count) q k r = cc
-roots _ _ q k r = refl
+told : (x : Event) (y : Answer) (q : List Message) (ts : List RealmRecord) → is_refusal x y ≡ true → realms_then x y q ts ≡ ts
+told e.ToClient (a.SnapTold number realm count) q ts r = cc
+told _ _ q ts r = refl
+
+made_dir : (x : Event) (y : Answer) (d : ℕ) (was : Bool) → is_refusal x y ≡ true → setup_dir_then x y d was ≡ was
+made_dir (e.Dir g p) a.Made d was r = cc
+made_dir _ _ d was r = refl
+
+ways : (x : Event) (y : Answer) (up : ℕ → List ℕ) (d : ℕ) → is_refusal x y ≡ true → path_then x y up d ≡ up d
+ways (e.Dir g p) a.Made up d r = cc
+ways _ _ up d r = refl
+
+homes : (x : Event) (y : Answer) (f was : ℕ) → is_refusal x y ≡ true → home_then x y f was ≡ was
+homes (e.File g p) a.Made f was r = cc
+homes _ _ f was r = refl
+
+dirs : (x : Event) (y : Answer) (depth : ℕ → ℕ) (ds : List ℕ) → is_refusal x y ≡ true → directories_then x y depth ds ≡ ds
+dirs (e.Dir g p) a.Made depth ds r = cc
+dirs _ _ depth ds r = refl
 
 references : (x : Event) (y : Answer) (seq : ℕ → ℕ) (rs : List Live) → is_refusal x y ≡ true → live_then x y seq rs ≡ rs
 references (e.Begin c f bits end) (a.Ref number) seq rs r = cc
@@ -121,20 +139,26 @@ none_drawn _ _ h n r = refl
 
 pub as_before : (h : List Entry) (x : Entry) → is_refusal x.event x.answer ≡ true → IsAsBefore h (x ∷ h)
 as_before h x r =
-    let same_root : root (x ∷ h) ≡ root h = roots x.event x.answer (to_client h) (root h) r in
+    let same_realms : realms (x ∷ h) ≡ realms h = told x.event x.answer (to_client h) (realms h) r in
+    let same_path : (d : ℕ) → path (x ∷ h) d ≡ path h d = λ d. ways x.event x.answer (λ k. path h k) d r in
+    let same_way : (f : ℕ) → file_path (x ∷ h) f ≡ file_path h f = λ f. same_path (home (x ∷ h) f) ∙ ap (path h) (homes x.event x.answer f (home h f) r) in
     record {
       setup_files = λ f. made x.event x.answer f (setup_file h f) r;
       files = listed x.event x.answer (files h) r;
+      setup_dirs = λ d. made_dir x.event x.answer d (setup_dir h d) r;
+      paths = same_path;
+      directories = dirs x.event x.answer (λ d. length (path (x ∷ h) d)) (directories h) r;
+      file_paths = same_way;
       client = λ f. clients x.event x.answer f (client h f) r;
       server = λ f. servers x.event x.answer f (server h f) r;
-      to_client = clients_way x.event x.answer (λ f. server h f) (durable h) (fresh h) (to_client h) r;
+      to_client = clients_way x.event x.answer (λ f. server h f) (tell (λ d. path h d) (directories h) (durable h) (fresh h)) (to_client h) r;
       to_server = servers_way x.event x.answer (λ f. writes h f) (λ f. queued h f) (to_server h) r;
       durable = durables x.event x.answer (fresh h) (durable h) r;
       fresh = added x.event x.answer (to_server h) (fresh h) r;
-      root = same_root;
+      realms = same_realms;
       clock = refl;
       mode = λ f. refl;
-      contexts = λ f. ap root_context same_root;
+      contexts = λ f. ap (λ ps. path_context ps (realms (x ∷ h))) (same_way f) ∙ ap (λ ts. path_context (file_path h f) ts) same_realms;
       references = references x.event x.answer (λ f. (context h f).seq) (live h) r;
       begun = λ c. counts x.event x.answer c (begun h c) r;
       begun_under = λ c n. under x.event x.answer (λ f. context h f) c n (begun_under h c n) r;

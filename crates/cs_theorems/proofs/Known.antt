@@ -25,7 +25,7 @@ pub known_then : (x : Event) (y : Answer) (f : ℕ) (was : Bool) → was ≡ tru
 known_then (e.File g p) a.Made f was t = made (g == f) was t
 known_then _ _ f was t = t
 
-abbrev LiveAreKnown : List Entry → Type 0
+abbrev pub LiveAreKnown : List Entry → Type 0
 LiveAreKnown h = Each (λ r. setup_file h r.file ≡ true) (live h)
 
 known_begin : (h : List Entry) (c f : ℕ) (b : Caps) (n : ℕ) (x : Answer) → BeginIs h c f b x → LiveAreKnown h
@@ -42,11 +42,14 @@ known_end : (h : List Entry) (c : ℕ) (name : RefName) (x : Answer) → EndIs h
 known_end h c name x end_unknown i = i
 known_end h c name x (ended there) i = λ r m. i r (member_without_named c name (live h) r m)
 
-known_step : (p : ℕ) (h : List Entry) (x : Event) → LiveAreKnown h → LiveAreKnown (entry p h x ∷ h)
+pub known_step : (p : ℕ) (h : List Entry) (x : Event) → LiveAreKnown h → LiveAreKnown (entry p h x ∷ h)
 known_step p h (e.Begin c f b n) i = known_begin h c f b n _ (begin_is h c f b n) i
 known_step p h (e.End c name) i = known_end h c name _ (end_is h c name) i
 known_step p h (e.File f d) i = λ r m. known_then (e.File f d) _ r.file (setup_file h r.file) (i r m)
 known_step p h _ i = i
 
+pub known_first : LiveAreKnown []
+known_first = each_nil (λ r. setup_file [] r.file ≡ true)
+
 pub live_known : (p : ℕ) (h : List Entry) → IsRun p h → LiveAreKnown h
-live_known p h run = of_run p LiveAreKnown (each_nil (λ r. setup_file [] r.file ≡ true)) (λ g x fit before i. known_step p g x i) h run
+live_known p h run = of_run p LiveAreKnown known_first (λ g x fit before i. known_step p g x i) h run

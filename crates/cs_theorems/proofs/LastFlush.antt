@@ -96,6 +96,11 @@ last_with f a (bodies.Snap number d name) rs best i =
   where
     no_flush : (x : Flush) → bodies.Snap number d name ≡ (flush_record x).body → ⊥
     no_flush x is = absurd cc
+last_with f a (bodies.Removal t number) rs best i =
+    last_beside f a (record { body = bodies.Removal t number }) rs best (λ x is of. absurd (no_flush x is)) i
+  where
+    no_flush : (x : Flush) → bodies.Removal t number ≡ (flush_record x).body → ⊥
+    no_flush x is = absurd cc
 
 pub last_is : (f : ℕ) (a : At) (rs : List Record) → IsLast f a rs (last_flush f a rs)
 last_is f a [] = each_nil (λ r. IsOther f a r.body)

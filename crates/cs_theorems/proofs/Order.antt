@@ -1,6 +1,7 @@
 -- After each event the references, the tags and the cap snaps of every file stand in order.
-use Rattle.std.proofs.Common.{◌≡◌, refl, sym, ℕ, ◌+◌, ◌<◌, ◌≤◌, true, false, cond, not, ◌&&◌, ◌||◌, ◌==◌, nat_eq, List, [], ◌∷◌, ◌++◌, drop, Some, arith, inl, inr, ◌⊎◌, ⊎_elim, subst}
+use Rattle.std.proofs.Common.{◌≡◌, refl, sym, ap, ℕ, ◌+◌, ◌<◌, ◌≤◌, Bool, true, false, cond, not, ◌&&◌, ◌||◌, ◌==◌, nat_eq, List, [], ◌∷◌, ◌++◌, drop, Some, arith, inl, inr, ◌⊎◌, ⊎_elim, subst}
 use Rattle.std.specs.Cmp.Lexicographic.{pointwise}
+use Rattle.std.proofs.lemmas.Cmp.{nat_list_eq_equiv}
 use Rattle.std.proofs.lemmas.Bool.{cond_both, and_cases, and_from, and_left, and_parts, or_parts, both_ways, eq-eqb, eqb-true, ne_eqb, not-false, not-true, not_from_false}
 use Rattle.cs_bits.specs.declared.Caps.{Caps}
 use Rattle.cs_bits.specs.Bits.{is_empty}
@@ -14,19 +15,23 @@ use Rattle.cs_laws.specs.declared.answers.Answer.{Answer}
 use Rattle.cs_laws.specs.declared.answers.Entry.{Entry}
 use Rattle.cs_laws.specs.Answers.{may_write}
 use Rattle.cs_laws.specs.CapSnaps.{CapSnap, has_writer, is_open, is_writing, makes, writers}
-use Rattle.cs_laws.specs.Context.{differs, root_context, root_told}
-use Rattle.cs_laws.specs.Events.{begun, clock, mode}
-use Rattle.cs_laws.specs.History.{context, dirty, live, queued, root, to_client, writes}
+use Rattle.cs_laws.specs.Context.{differs, first_told, path_context}
+use Rattle.cs_laws.specs.Events.{begun, clock, mode, setup_file}
+use Rattle.cs_laws.specs.History.{context, dirty, live, queued, realms, to_client, writes}
+use Rattle.cs_laws.specs.Tree.{file_path}
 use Rattle.cs_laws.specs.Image.{Write}
 use Rattle.cs_laws.specs.Journal.{entry}
 use Rattle.cs_laws.specs.Writes.{with_write}
 use Rattle.cs_theorems.specs.Order.{HasOlder}
 use Rattle.cs_theorems.proofs.Begun.{member_without_named}
-use Rattle.cs_theorems.proofs.Contexts.{told_rises}
+use Rattle.cs_theorems.specs.Contexts.{Moves}
+use Rattle.cs_theorems.proofs.Blank.{AllBlank, none_live}
+use Rattle.cs_theorems.proofs.Contexts.{dir_stays, file_stays, told_moves}
 use Rattle.cs_theorems.proofs.Inversions.{BeginIs, begin_unknown, begin_caps, begin_snap, begin_max, begin_full, begun_ref, begin_is, EndIs, end_unknown, ended, end_is, WriteIs, write_unknown, write_no_bit, write_past, wrote, write_is, FlushSnapsIs, flush_unknown, flush_none, flush_writing, flush_sent, flush_snaps_is, FirstIs, first_idle, first_cap, first_flush_ack, first_snap, first_is}
-use Rattle.cs_theorems.proofs.Listed.{Member, each_nil}
+use Rattle.cs_theorems.proofs.Listed.{Each, Member, each_nil}
 use Rattle.cs_theorems.proofs.Opens.{Names, IsNew, Opens, names_begin, names_fewer, older_opens, open_has, opens_begin, opens_fewer, opens_made, opens_sent}
-use Rattle.cs_theorems.proofs.Piped.{PipeAt}
+use Rattle.cs_theorems.proofs.Known.{LiveAreKnown}
+use Rattle.cs_theorems.proofs.Settings.{Setting}
 use Rattle.cs_theorems.proofs.Tags.{Tags, Still, Unmade, tags_first, tags_begin, tags_fewer, tags_write, tags_made, tags_unmade, tags_sent}
 use Rattle.cs_theorems.proofs.Tests.{any_none, any_some}
 use Rattle.cs_theorems.proofs.Uses.{named_is}
@@ -131,7 +136,7 @@ step_begin h c g b end x begin_full i = i
 step_begin h c g b end x (begun_ref known issued free) i =
     let new = began_new h c g b end (context h g).seq in (
       names_begin _ _ (live h) _ new i.0,
-      λ f. in_order_begin f (context h f).seq _ _ (live h) (writes h f) (queued h f) _ new (λ _. refl) (λ w. not_writing h g f b free w) (i.1 f),
+      λ f. in_order_begin f (context h f).seq _ _ (live h) (writes h f) (queued h f) _ new (λ w. ap (λ k. (context h k).seq) (eqb-true g f (and_parts (g == f) (may_write b) w).0)) (λ w. not_writing h g f b free w) (i.1 f),
     )
 
 step_end : (h : List Entry) (c : ℕ) (name : RefName) (x : Answer) → EndIs h c name x → Ordered h
@@ -181,16 +186,68 @@ in_order_told f n old new rs ws xs d m up names i =
       opens = i.opens;
     })
 
-step_client : (h : List Entry) (x : Answer) → FirstIs h x → PipeAt h → Ordered h → Ordered (record { event = e.ToClient; answer = x } ∷ h)
-step_client h x first_idle pipe i = i
-step_client h x (first_cap f seq bits end q there) pipe i = i
-step_client h x (first_flush_ack f tid q there) pipe i = i
-step_client h x (first_snap n d realms q there) pipe i = (
+-- where the context stays none is made
+pub not_other : (a b : Context) → b ≡ a → differs a b ≡ false
+not_other a b same =
+    rw same
+    (ap not (and_from (nat_eq a.seq a.seq) (pointwise nat_eq a.snaps a.snaps) (eq-eqb a.seq a.seq refl) (nat_list_eq_equiv.refl a.snaps)))
+
+pub none_made : (f : ℕ) (old new : Context) (rs : List Live) (d : Caps) (xs : List CapSnap) → new ≡ old → makes f old new rs d xs ≡ false
+none_made f old new rs d xs same =
+    and_left _ _ (and_left (differs old new) (not (is_writing rs xs)) (not_other old new same))
+
+in_order_moved : (f : ℕ) (n : ℕ → ℕ) (old new : Context) (number : ℕ) (rs : List Live) (ws : List Write) (xs : List CapSnap) (d : Caps) (m : ℕ) → Moves number old new
+    → Names n rs → InOrder f old.seq n rs ws xs
+    → InOrder f new.seq n rs ws (cond (makes f old new rs d xs) (xs ++ record { follows = old.seq; mode = m; writers = writers f rs } ∷ []) xs)
+in_order_moved f n old new number rs ws xs d m (inl same) names i =
+    let y : CapSnap = record { follows = old.seq; mode = m; writers = writers f rs } in
+    subst (λ b. InOrder f new.seq n rs ws (cond b (xs ++ y ∷ []) xs)) (sym (none_made f old new rs d xs same))
+    (subst (λ (c : Context). InOrder f c.seq n rs ws xs) (sym same) i)
+in_order_moved f n old new number rs ws xs d m (inr rises) names i = in_order_told f n old new rs ws xs d m rises.0 names i
+
+step_client : (h : List Entry) (x : Answer) → FirstIs h x → Setting h → Ordered h → Ordered (record { event = e.ToClient; answer = x } ∷ h)
+step_client h x first_idle setting i = i
+step_client h x (first_cap f seq bits end q there) setting i = i
+step_client h x (first_flush_ack f tid q there) setting i = i
+step_client h x (first_snap n d now q there) setting i = (
   i.0,
   λ f.
-      in_order_told f (λ c. begun h c) (context h f) (root_context (root_told (to_client h) (root h))) (live h) (writes h f) (queued h f) (dirty h f) (mode h f)
-      (told_rises h n d realms q there pipe).0 i.0 (i.1 f),
+      in_order_moved f (λ c. begun h c) (context h f) (path_context (file_path h f) (first_told (to_client h) (realms h))) n (live h) (writes h f) (queued h f) (dirty h f) (mode h f)
+      (told_moves h n d now q f there setting) i.0 (i.1 f),
 )
+
+-- Files that are made
+
+-- of a file that wasn't known: no reference to it lives
+pub not_of : (f : ℕ) (r : Live) → (r.file == f) ≡ false → is_writer_of f r ≡ true → ⊥
+not_of f r other writer = both_ways (r.file == f) other (and_parts (r.file == f) _ writer).0
+
+in_order_blank : (f s : ℕ) (n : ℕ → ℕ) (rs : List Live) → Each (λ r. (r.file == f) ≡ false) rs → InOrder f s n rs [] []
+in_order_blank f s n rs none = record {
+  tags = record {
+    live_low = λ r m w. absurd (not_of f r (none r m) w);
+    same = λ r m w. absurd (not_of f r (none r m) w);
+    behind = λ r m w. absurd (not_of f r (none r m) w);
+    above = λ r m w. absurd (not_of f r (none r m) w);
+    written_low = each_nil (λ w. w.tag ≤ s);
+    written_behind = λ r m w. absurd (not_of f r (none r m) w);
+    fall = tt;
+    queued_low = each_nil (λ x. x.follows < s);
+    rise = tt;
+  };
+  opens = record { kept = each_nil _; has = each_nil _ };
+}
+
+in_order_kept : (h : List Entry) (f s : ℕ) → LiveAreKnown h → AllBlank h → (s ≡ (context h f).seq) ⊎ (setup_file h f ≡ false) → InOrderAt h f
+    → InOrder f s (λ c. begun h c) (live h) (writes h f) (queued h f)
+in_order_kept h f s known blank (inl same) i = subst (λ k. InOrder f k (λ c. begun h c) (live h) (writes h f) (queued h f)) (sym same) i
+in_order_kept h f s known blank (inr unknown) i =
+    let was = blank f unknown in
+    subst (λ xs. InOrder f s (λ c. begun h c) (live h) (writes h f) xs) (sym was.queued)
+    (subst (λ ws. InOrder f s (λ c. begun h c) (live h) ws []) (sym was.writes) (in_order_blank f s (λ c. begun h c) (live h) (none_live h f unknown known)))
+
+seq_stays : (f : ℕ) (known : Bool) (old new : Context) → (new ≡ old) ⊎ (known ≡ false) → (new.seq ≡ old.seq) ⊎ (known ≡ false)
+seq_stays f known old new stays = ⊎_elim (λ same. inl (ap (λ (c : Context). c.seq) same)) (λ unknown. inr unknown) stays
 
 -- Flushes
 
@@ -217,13 +274,15 @@ step_flush_snaps h g x (flush_sent y ys known there closed) i = (
 
 -- All events
 
-pub ordered_step : (p : ℕ) (h : List Entry) (x : Event) → PipeAt h → Ordered h → Ordered (entry p h x ∷ h)
-ordered_step p h (e.Begin c f bits end) pipe i = step_begin h c f bits end _ (begin_is h c f bits end) i
-ordered_step p h (e.End c name) pipe i = step_end h c name _ (end_is h c name) i
-ordered_step p h (e.Write c name off bytes) pipe i = step_write h c name off bytes _ (write_is h c name off bytes) i
-ordered_step p h e.ToClient pipe i = step_client h _ (first_is h) pipe i
-ordered_step p h (e.FlushSnaps f) pipe i = step_flush_snaps h f _ (flush_snaps_is h f) i
-ordered_step p h _ pipe i = i
+pub ordered_step : (p : ℕ) (h : List Entry) (x : Event) → Setting h → LiveAreKnown h → AllBlank h → Ordered h → Ordered (entry p h x ∷ h)
+ordered_step p h (e.Dir d q) setting known blank i = (i.0, λ f. in_order_kept h f _ known blank (seq_stays f _ _ _ (dir_stays p h d q f setting)) (i.1 f))
+ordered_step p h (e.File g q) setting known blank i = (i.0, λ f. in_order_kept h f _ known blank (seq_stays f _ _ _ (file_stays p h g q f setting)) (i.1 f))
+ordered_step p h (e.Begin c f bits end) setting known blank i = step_begin h c f bits end _ (begin_is h c f bits end) i
+ordered_step p h (e.End c name) setting known blank i = step_end h c name _ (end_is h c name) i
+ordered_step p h (e.Write c name off bytes) setting known blank i = step_write h c name off bytes _ (write_is h c name off bytes) i
+ordered_step p h e.ToClient setting known blank i = step_client h _ (first_is h) setting i
+ordered_step p h (e.FlushSnaps f) setting known blank i = step_flush_snaps h f _ (flush_snaps_is h f) i
+ordered_step p h _ setting known blank i = i
 
 pub ordered_first : Ordered []
 ordered_first = (

@@ -69,16 +69,16 @@ passing_same p (n ∷ ns) ms once once_too same =
     )) in
     omega (arith, rest, i.count)
 
-made_passing : (h : List Entry) (new : Context) (fs : List ℕ)
-    → count_made h new fs ≡ passing (λ f. makes f (context h f) new (live h) (dirty h f) (queued h f)) fs
+made_passing : (h : List Entry) (new : ℕ → Context) (fs : List ℕ)
+    → count_made h new fs ≡ passing (λ f. makes f (context h f) (new f) (live h) (dirty h f) (queued h f)) fs
 made_passing h new [] = refl
 made_passing h new (f ∷ fs) =
-    ap (λ n. cond (makes f (context h f) new (live h) (dirty h f) (queued h f)) 1 0 + n) (made_passing h new fs)
+    ap (λ n. cond (makes f (context h f) (new f) (live h) (dirty h f) (queued h f)) 1 0 + n) (made_passing h new fs)
 
--- how many cap snaps a new context makes, by any list of the files
-pub count_made_any : (p : ℕ) (h : List Entry) → IsRun p h → (new : Context) (fs : List ℕ) → IsEachOnce fs → ((f : ℕ) → (setup_file h f ≡ true) ↔ Member f fs)
+-- how many cap snaps new contexts make, by any list of the files
+pub count_made_any : (p : ℕ) (h : List Entry) → IsRun p h → (new : ℕ → Context) (fs : List ℕ) → IsEachOnce fs → ((f : ℕ) → (setup_file h f ≡ true) ↔ Member f fs)
     → count_made h new fs ≡ count_made h new (files h)
 count_made_any p h run new fs once known =
-    let test : ℕ → Bool = λ f. makes f (context h f) new (live h) (dirty h f) (queued h f) in
+    let test : ℕ → Bool = λ f. makes f (context h f) (new f) (live h) (dirty h f) (queued h f) in
     let same = passing_same test fs (files h) once (listed_once p h run) (λ f. ((λ m. (listed p h run f).0 ((known f).1 m)), (λ m. (known f).0 ((listed p h run f).1 m)))) in
     made_passing h new fs ∙ (same ∙ sym (made_passing h new (files h)))

@@ -1,6 +1,6 @@
 -- Once a cap snap has ceased to be writing, no write comes with a tag up to the number that it follows.
-use Rattle.std.proofs.Common.{◌≡◌, refl, sym, ◌∙◌, ℕ, ◌<◌, true, List, [], ◌∷◌, ◌++◌, ◌==◌, nat_le, Some, arith, subst}
-use Rattle.std.proofs.lemmas.Bool.{cond_both, cond-false, and_from, lt-leb}
+use Rattle.std.proofs.Common.{◌≡◌, ◌⊎◌, ⊎_elim, inl, inr, refl, sym, ◌∙◌, ℕ, ◌<◌, Bool, true, false, List, [], ◌∷◌, ◌++◌, ◌==◌, nat_le, Some, arith, subst}
+use Rattle.std.proofs.lemmas.Bool.{both_ways, cases_Bool, cond_both, cond-false, and_from, and_parts, eqb-true, lt-leb}
 use Rattle.cs_bits.specs.declared.Caps.{Caps}
 use Rattle.cs_parts.specs.declared.references.Live.{Live}
 use Rattle.cs_parts.specs.References.{is_writer_of}
@@ -10,28 +10,33 @@ use Rattle.cs_laws.specs.declared.events.RefName.{RefName}
 use Rattle.cs_laws.specs.declared.answers.Answer.{Answer}
 use Rattle.cs_laws.specs.declared.answers.Entry.{Entry}
 use Rattle.cs_laws.specs.Answers.{may_write}
-use Rattle.cs_laws.specs.Events.{clock}
-use Rattle.cs_laws.specs.History.{context, live, writes}
+use Rattle.cs_laws.specs.CapSnaps.{CapSnap}
+use Rattle.cs_snapctx.specs.Context.{Context}
+use Rattle.cs_laws.specs.Events.{clock, setup_file}
+use Rattle.cs_laws.specs.History.{context, live, queued, writes}
 use Rattle.cs_laws.specs.Image.{Write, upto}
 use Rattle.cs_laws.specs.Journal.{history, journal, entry}
 use Rattle.cs_laws.specs.Writes.{with_write}
 use Rattle.cs_theorems.specs.Snapshots.{FinishedSnapsKeepTheirWrites}
 use Rattle.cs_theorems.proofs.Begun.{member_without_named}
-use Rattle.cs_theorems.proofs.Contexts.{told_rises}
+use Rattle.cs_theorems.proofs.Blank.{AllBlank}
+use Rattle.cs_theorems.proofs.Contexts.{dir_stays, file_stays, told_moves}
 use Rattle.cs_theorems.proofs.Course.{Course, course, course_step}
 use Rattle.cs_theorems.proofs.Inversions.{BeginIs, begin_unknown, begin_caps, begin_snap, begin_max, begin_full, begun_ref, begin_is, EndIs, end_unknown, ended, end_is, WriteIs, write_unknown, write_no_bit, write_past, wrote, write_is, FirstIs, first_idle, first_cap, first_flush_ack, first_snap, first_is}
 use Rattle.cs_theorems.proofs.Listed.{Member, Each, each_end}
-use Rattle.cs_theorems.proofs.Piped.{PipeAt}
+use Rattle.cs_theorems.proofs.Known.{known_then}
+use Rattle.cs_theorems.proofs.Settings.{Setting}
 use Rattle.cs_theorems.proofs.Uses.{named_is}
 use Rattle.cs_theorems.proofs.Writers.{not_written}
 
--- the context's seq and the tag of each writer are above q
-pub record IsPast (f q s : ℕ) (rs : List Live) : Type 0 where
+-- the file is known; the context's seq and the tag of each writer are above q
+pub record IsPast (f q s : ℕ) (rs : List Live) (is_known : Bool) : Type 0 where
+  pub known : is_known ≡ true
   pub seq : q < s
   pub writers : Each (λ r. is_writer_of f r ≡ true → q < r.tag) rs
 
 abbrev IsPastAt : ℕ → ℕ → List Entry → Type 0
-IsPastAt f q h = IsPast f q (context h f).seq (live h)
+IsPastAt f q h = IsPast f q (context h f).seq (live h) (setup_file h f)
 
 past_begin : (f q : ℕ) (h : List Entry) (c g : ℕ) (b : Caps) (n : ℕ) (x : Answer) → BeginIs h c g b x → IsPastAt f q h
     → IsPastAt f q (record { event = e.Begin c g b n; answer = x } ∷ h)
@@ -41,35 +46,49 @@ past_begin f q h c g b n x begin_snap i = i
 past_begin f q h c g b n x begin_max i = i
 past_begin f q h c g b n x begin_full i = i
 past_begin f q h c g b n x (begun_ref known issued free) i = record {
+  known = i.known;
   seq = i.seq;
-  writers = each_end (λ r. is_writer_of f r ≡ true → q < r.tag) (live h) _ i.writers (λ _. i.seq);
+  writers = each_end (λ r. is_writer_of f r ≡ true → q < r.tag) (live h) _ i.writers
+      (λ w. subst (λ k. q < (context h k).seq) (sym (eqb-true g f (and_parts (g == f) (may_write b) w).0)) i.seq);
 }
 
 past_end : (f q : ℕ) (h : List Entry) (c : ℕ) (name : RefName) (x : Answer) → EndIs h c name x → IsPastAt f q h
     → IsPastAt f q (record { event = e.End c name; answer = x } ∷ h)
 past_end f q h c name x end_unknown i = i
-past_end f q h c name x (ended can) i = record { seq = i.seq; writers = λ r m. i.writers r (member_without_named c name (live h) r m) }
+past_end f q h c name x (ended can) i = record { known = i.known; seq = i.seq; writers = λ r m. i.writers r (member_without_named c name (live h) r m) }
 
-past_client : (f q : ℕ) (h : List Entry) (x : Answer) → FirstIs h x → PipeAt h → IsPastAt f q h
+past_client : (f q : ℕ) (h : List Entry) (x : Answer) → FirstIs h x → Setting h → IsPastAt f q h
     → IsPastAt f q (record { event = e.ToClient; answer = x } ∷ h)
-past_client f q h x first_idle pipe i = i
-past_client f q h x (first_cap g seq bits end rest there) pipe i = i
-past_client f q h x (first_flush_ack g tid rest there) pipe i = i
-past_client f q h x (first_snap n d realms rest there) pipe i = record {
-  seq = omega (arith, i.seq, (told_rises h n d realms rest there pipe).0);
+past_client f q h x first_idle setting i = i
+past_client f q h x (first_cap g seq bits end rest there) setting i = i
+past_client f q h x (first_flush_ack g tid rest there) setting i = i
+past_client f q h x (first_snap n d now rest there) setting i = record {
+  known = i.known;
+  seq = ⊎_elim
+      (λ same. subst (λ (c : Context). q < c.seq) (sym same) i.seq)
+      (λ rises. omega (arith, i.seq, rises.0))
+      (told_moves h n d now rest f there setting);
   writers = i.writers;
 }
 
-past_step : (p f q : ℕ) (h : List Entry) (x : Event) → PipeAt h → IsPastAt f q h → IsPastAt f q (entry p h x ∷ h)
-past_step p f q h (e.Begin c g b n) pipe i = past_begin f q h c g b n _ (begin_is h c g b n) i
-past_step p f q h (e.End c name) pipe i = past_end f q h c name _ (end_is h c name) i
-past_step p f q h e.ToClient pipe i = past_client f q h _ (first_is h) pipe i
-past_step p f q h _ pipe i = i
+-- a file or a directory is made
+past_kept : (f q : ℕ) (old new : Context) (rs : List Live) (was known : Bool) → (new ≡ old) ⊎ (was ≡ false) → known ≡ true → IsPast f q old.seq rs was
+    → IsPast f q new.seq rs known
+past_kept f q old new rs was known (inl same) is i = record { known = is; seq = subst (λ (c : Context). q < c.seq) (sym same) i.seq; writers = i.writers }
+past_kept f q old new rs was known (inr unknown) is i = absurd (both_ways was unknown i.known)
+
+past_step : (p f q : ℕ) (h : List Entry) (x : Event) → Setting h → IsPastAt f q h → IsPastAt f q (entry p h x ∷ h)
+past_step p f q h (e.Dir d k) setting i = past_kept f q _ _ _ _ _ (dir_stays p h d k f setting) i.known i
+past_step p f q h (e.File g k) setting i = past_kept f q _ _ _ _ _ (file_stays p h g k f setting) (known_then (e.File g k) _ f (setup_file h f) i.known) i
+past_step p f q h (e.Begin c g b n) setting i = past_begin f q h c g b n _ (begin_is h c g b n) i
+past_step p f q h (e.End c name) setting i = past_end f q h c name _ (end_is h c name) i
+past_step p f q h e.ToClient setting i = past_client f q h _ (first_is h) setting i
+past_step p f q h _ setting i = i
 
 -- such a writer's write isn't among those up to q
-upto_written : (f q s : ℕ) (rs : List Live) (r : Live) (off : ℕ) (bytes : List ℕ) (time : ℕ) (ws : List Write) → IsPast f q s rs → Member r rs
+upto_written : (f q s : ℕ) (rs : List Live) (r : Live) (off : ℕ) (bytes : List ℕ) (time : ℕ) (ws : List Write) (known : Bool) → IsPast f q s rs known → Member r rs
     → may_write r.bits ≡ true → upto q (with_write (Some r) off bytes time f ws) ≡ upto q ws
-upto_written f q s rs r off bytes time ws i m may =
+upto_written f q s rs r off bytes time ws known i m may =
     let w : Write = record { off = off; bytes = bytes; time = time; tag = r.tag } in
     cond_both (r.file == f) (w ∷ ws) ws (λ vs. upto q vs ≡ upto q ws)
     (λ same. cond-false (nat_le r.tag q) (w ∷ upto q ws) (upto q ws)
@@ -83,7 +102,7 @@ upto_write f q h c name off bytes x write_no_bit i = refl
 upto_write f q h c name off bytes x write_past i = refl
 upto_write f q h c name off bytes x (wrote r is may) i =
     subst (λ found. upto q (with_write found off bytes (clock h) f (writes h f)) ≡ upto q (writes h f)) (sym is)
-    (upto_written f q (context h f).seq (live h) r off bytes (clock h) (writes h f) i (named_is c name r (live h) is).1 may)
+    (upto_written f q (context h f).seq (live h) r off bytes (clock h) (writes h f) (setup_file h f) i (named_is c name r (live h) is).1 may)
 
 upto_step : (p f q : ℕ) (h : List Entry) (x : Event) → IsPastAt f q h → upto q (writes (entry p h x ∷ h) f) ≡ upto q (writes h f)
 upto_step p f q h (e.Write c name off bytes) i = upto_write f q h c name off bytes _ (write_is h c name off bytes) i
@@ -92,15 +111,20 @@ upto_step p f q h _ i = refl
 upto_steps : (p f q : ℕ) (es : List Event) (h : List Entry) → Course h → IsPastAt f q h → upto q (writes (history p h es) f) ≡ upto q (writes h f)
 upto_steps p f q [] h course i = refl
 upto_steps p f q (x ∷ es) h course i =
-    upto_steps p f q es (entry p h x ∷ h) (course_step p h x course) (past_step p f q h x course.pipe i) ∙ upto_step p f q h x i
+    upto_steps p f q es (entry p h x ∷ h) (course_step p h x course) (past_step p f q h x course.setting i) ∙ upto_step p f q h x i
 
 history_append : (p : ℕ) (es more : List Event) (h : List Entry) → history p h (es ++ more) ≡ history p (history p h es) more
 history_append p [] more h = refl
 history_append p (x ∷ es) more h = history_append p es more (entry p h x ∷ h)
 
+-- a file of which a cap snap waits is known
+queued_known : (h : List Entry) (f : ℕ) (x : CapSnap) → AllBlank h → Member x (queued h f) → setup_file h f ≡ true
+queued_known h f x blank m =
+    ⊎_elim (λ known. known) (λ unknown. absurd (subst (λ xs. Member x xs) (blank f unknown).queued m)) (cases_Bool (setup_file h f))
+
 kept_after : (p : ℕ) (h : List Entry) (more : List Event) → Course h → FinishedSnapsKeepTheirWrites h (history p h more)
 kept_after p h more i f x m closed =
-    upto_steps p f x.follows more h i (record { seq = (i.order.1 f).tags.queued_low x m; writers = not_written h i.order f x m closed })
+    upto_steps p f x.follows more h i (record { known = queued_known h f x i.blank m; seq = (i.order.1 f).tags.queued_low x m; writers = not_written h i.order f x m closed })
 
 pub keep_their_writes : (p : ℕ) (es more : List Event) → FinishedSnapsKeepTheirWrites (journal p es) (journal p (es ++ more))
 keep_their_writes p es more =

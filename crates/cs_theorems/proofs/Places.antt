@@ -16,13 +16,13 @@ use Rattle.cs_laws.specs.Image.{Write}
 use Rattle.cs_laws.specs.Flushes.{Flush, flush_message, flush_record, flush_snap, first_mode}
 use Rattle.cs_laws.specs.History.{client, to_server, durable, fresh, stand, writes, queued, sent}
 use Rattle.cs_laws.specs.Journal.{entry, history, journal}
-use Rattle.cs_laws.specs.Standing.{recorded, recorded_of, greatest_snap}
+use Rattle.cs_laws.specs.Standing.{recorded, recorded_of, greatest_number}
 use Rattle.cs_theorems.specs.Flushes.{IsMessageSent, IsRecordSent}
 use Rattle.cs_theorems.specs.Runs.{IsRun}
 use Rattle.cs_theorems.proofs.Listed.{Member, Each, each_nil, each_end, each_tail, member_left, member_right}
 use Rattle.cs_theorems.proofs.Rising.{at_first}
 use Rattle.cs_theorems.proofs.Runs.{of_run}
-use Rattle.cs_theorems.proofs.Inversions.{CheckIs, check_unknown, check_nothing, check_hold, check_ack, check_is, FlushSnapsIs, flush_unknown, flush_none, flush_writing, flush_sent, flush_snaps_is, ReceivedIs, received_idle, received_ack, received_flush, received_is, SnapIs, snap_unknown, snap_exists, snap_taken, snap_is}
+use Rattle.cs_theorems.proofs.Inversions.{CheckIs, check_unknown, check_nothing, check_hold, check_ack, check_is, FlushSnapsIs, flush_unknown, flush_none, flush_writing, flush_sent, flush_snaps_is, ReceivedIs, received_idle, received_ack, received_flush, received_is, SnapIs, snap_unknown, snap_exists, snap_taken, snap_is, RemoveIs, remove_none, remove_gone, removed, remove_is}
 
 -- the flush is on its way to the server, or its record stands
 abbrev pub Place : Flush → List Message → List Record → Type 0
@@ -40,6 +40,7 @@ member_end xs x = member_right x xs (x ∷ []) (inl refl)
 record_stays : (xs : List Flush) (x : Flush) (body : RecordBody) → IsRecordSent xs body → IsRecordSent (xs ++ x ∷ []) body
 record_stays xs x (bodies.Flush snap f tid follows meta) there = member_left _ xs (x ∷ []) there
 record_stays xs x (bodies.Snap number d name) there = tt
+record_stays xs x (bodies.Removal t number) there = tt
 
 message_stays : (xs : List Flush) (x : Flush) (m : Message) → IsMessageSent xs m → IsMessageSent (xs ++ x ∷ []) m
 message_stays xs x (messages.FlushSnap f tid follows meta) there = member_left _ xs (x ∷ []) there
@@ -120,6 +121,18 @@ places_snap xs q rs number d name i =
       flying = i.flying;
     }
 
+-- one is removed
+places_removal : (xs : List Flush) (q : List Message) (rs : List Record) (t number : ℕ) → Places xs q rs
+    → Places xs q (rs ++ record { body = bodies.Removal t number } ∷ [])
+places_removal xs q rs t number i =
+    let r : Record = record { body = bodies.Removal t number } in
+    record {
+      snap = i.snap;
+      sent = λ x there. ⊎_elim (λ flies. inl flies) (λ stands. inr (member_left (flush_record x) rs (r ∷ []) stands)) (i.sent x there);
+      standing = each_end (λ k. IsRecordSent xs k.body) rs r i.standing tt;
+      flying = i.flying;
+    }
+
 -- Steps
 
 abbrev pub AllPlaced : List Entry → Type 0
@@ -162,13 +175,21 @@ step_snap h d name x snap_unknown i = i
 step_snap h d name x snap_exists i = i
 step_snap h d name x (snap_taken directory free) i =
     subst (λ rs. Places (sent h) (to_server h) rs) (append_assoc (durable h) (fresh h) _)
-    (places_snap (sent h) (to_server h) (stand h) (greatest_snap (stand h) + 1) d name i)
+    (places_snap (sent h) (to_server h) (stand h) (greatest_number (stand h) + 1) d name i)
+
+step_remove : (h : List Entry) (t : ℕ) (x : Answer) → RemoveIs h t x → AllPlaced h → AllPlaced (record { event = e.RemoveSnap t; answer = x } ∷ h)
+step_remove h t x remove_none i = i
+step_remove h t x remove_gone i = i
+step_remove h t x (removed there stays) i =
+    subst (λ rs. Places (sent h) (to_server h) rs) (append_assoc (durable h) (fresh h) _)
+    (places_removal (sent h) (to_server h) (stand h) t (greatest_number (stand h) + 1) i)
 
 pub place_step : (p : ℕ) (h : List Entry) (x : Event) → AllPlaced h → AllPlaced (entry p h x ∷ h)
 place_step p h (e.Check g) i = step_check h g _ (check_is h g) i
 place_step p h (e.FlushSnaps g) i = step_flush_snaps h g _ (flush_snaps_is h g) i
 place_step p h e.ToMds i = step_to_server h _ (received_is h) i
 place_step p h (e.Snap d name) i = step_snap h d name _ (snap_is h d name) i
+place_step p h (e.RemoveSnap t) i = step_remove h t _ (remove_is h t) i
 place_step p h e.Commit i = subst (λ rs. Places (sent h) (to_server h) rs) (sym (append-nil (stand h))) i
 place_step p h _ i = i
 

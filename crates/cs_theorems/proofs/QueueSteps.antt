@@ -1,9 +1,9 @@
 -- After each event every file's queue stands beside its unsent cap snaps.
-use Rattle.std.proofs.Common.{◌≡◌, refl, sym, ap, ◌∙◌, subst, ℕ, ◌+◌, ◌<◌, ◌≤◌, Bool, true, false, cond, not, ◌||◌, ◌&&◌, ◌==◌, List, [], ◌∷◌, ◌++◌, Option, Some, drop, length, inl, inr, ◌⊎◌, ⊎_elim, arith}
+use Rattle.std.proofs.Common.{◌≡◌, refl, sym, ap, ◌∙◌, subst, ℕ, ◌+◌, ◌<◌, ◌≤◌, Bool, true, false, cond, not, ◌&&◌, ◌==◌, List, [], ◌∷◌, ◌++◌, Option, Some, drop, length, inl, inr, ◌⊎◌, ⊎_elim, arith}
 use Rattle.std.proofs.lemmas.Bool.{and_cases, and_from, and_parts, both_ways, cond_both, eqb-true, false_from_ne_true, false≢true, not-false, not-true}
 use Rattle.std.proofs.lemmas.List.{length-append}
 use Rattle.cs_bits.specs.declared.Caps.{Caps}
-use Rattle.cs_bits.specs.Bits.{covers, file_write, is_empty}
+use Rattle.cs_bits.specs.Bits.{covers, file_write}
 use Rattle.cs_parts.specs.declared.references.Live.{Live}
 use Rattle.cs_parts.specs.References.{has_ref, is_ref, is_writer_of, ref_named, without_ref}
 use Rattle.cs_snapctx.specs.Context.{Context}
@@ -16,10 +16,11 @@ use Rattle.cs_laws.specs.declared.events.RefName.TheVariants as names
 use Rattle.cs_laws.specs.declared.answers.Answer.{Answer}
 use Rattle.cs_laws.specs.declared.answers.Entry.{Entry}
 use Rattle.cs_laws.specs.Answers.{may_write}
-use Rattle.cs_laws.specs.CapSnaps.{CapSnap, has_writer, is_open, is_writing, makes, writers}
-use Rattle.cs_laws.specs.Context.{differs, root_context, root_told}
+use Rattle.cs_laws.specs.CapSnaps.{CapSnap, has_writer, is_open, makes, writers}
+use Rattle.cs_laws.specs.Context.{first_told, path_context}
+use Rattle.cs_laws.specs.Tree.{file_path}
 use Rattle.cs_laws.specs.Events.{clock, mode}
-use Rattle.cs_laws.specs.History.{context, dirty, live, queued, root, sent, to_client, writes}
+use Rattle.cs_laws.specs.History.{context, dirty, live, queued, realms, sent, to_client, writes}
 use Rattle.cs_laws.specs.Image.{Write, size, mtime}
 use Rattle.cs_laws.specs.Journal.{entry}
 use Rattle.cs_laws.specs.References.{can_end, named, without_named}
@@ -229,7 +230,8 @@ step_begin h c g b end x begin_snap before now i = i
 step_begin h c g b end x begin_max before now i = i
 step_begin h c g b end x begin_full before now i = i
 step_begin h c g b end x (begun_ref known issued free) before now i = λ f.
-    queue_begin f (context h f).seq _ _ _ (live h) (writes h f) (queued h f) (snaps h f) _ (λ _. refl) (before.1 f) (now.1 f) (i f)
+    queue_begin f (context h f).seq _ _ _ (live h) (writes h f) (queued h f) (snaps h f) _
+    (λ w. ap (λ k. (context h k).seq) (eqb-true g f (and_parts (g == f) (may_write b) w).0)) (before.1 f) (now.1 f) (i f)
 
 step_end : (h : List Entry) (c : ℕ) (name : RefName) (x : Answer) → EndIs h c name x → Ordered h
     → Ordered (record { event = e.End c name; answer = x } ∷ h) → AllQueue h → AllQueue (record { event = e.End c name; answer = x } ∷ h)
@@ -257,8 +259,8 @@ step_client h x (first_flush_ack g tid q there) before i = λ f.
     cond_both (g == f) (kept.without_tid tid (snaps h f)) (snaps h f) (λ ys. Queue (length (sent h)) (live h) (writes h f) (queued h f) ys)
     (λ _. queue_left _ (live h) (writes h f) (queued h f) (snaps h f) tid (i f))
     (λ _. i f)
-step_client h x (first_snap n d realms q there) before i = λ f.
-    queue_told f _ _ (context h f) (root_context (root_told (to_client h) (root h))) (live h) (writes h f) (queued h f) (snaps h f) (dirty h f) (mode h f)
+step_client h x (first_snap n d now q there) before i = λ f.
+    queue_told f _ _ (context h f) (path_context (file_path h f) (first_told (to_client h) (realms h))) (live h) (writes h f) (queued h f) (snaps h f) (dirty h f) (mode h f)
     before.0 (before.1 f) _ refl (i f)
 
 step_flush_snaps : (h : List Entry) (g : ℕ) (x : Answer) → FlushSnapsIs h g x → AllQueue h

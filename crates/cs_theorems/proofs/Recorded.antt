@@ -1,5 +1,5 @@
 -- The flushes that the server recorded are those that stand.
-use Rattle.std.proofs.Common.{◌≡◌, ◌∙◌, refl, sym, ap, ℕ, true, false, List, [], ◌∷◌, ◌++◌, append_assoc, inl}
+use Rattle.std.proofs.Common.{◌≡◌, ◌∙◌, refl, sym, ap, ℕ, true, false, List, [], ◌∷◌, ◌++◌, append_assoc}
 use Rattle.std.proofs.lemmas.List.{append-nil}
 use Rattle.cs_ids.specs.declared.objects.FileMeta.{FileMeta}
 use Rattle.cs_laws.specs.declared.events.Event.{Event}
@@ -10,19 +10,18 @@ use Rattle.cs_laws.specs.declared.answers.Entry.{Entry}
 use Rattle.cs_laws.specs.declared.messages.Message.{Message}
 use Rattle.cs_laws.specs.declared.messages.Message.TheVariants as messages
 use Rattle.cs_laws.specs.declared.records.Record.{Record}
-use Rattle.cs_laws.specs.declared.records.RecordBody.{RecordBody}
 use Rattle.cs_laws.specs.declared.records.RecordBody.TheVariants as bodies
 use Rattle.cs_laws.specs.Events.{setup_file}
 use Rattle.cs_laws.specs.History.{to_server, durable, fresh, stand}
 use Rattle.cs_laws.specs.Standing.{durable_then, fresh_then, recorded}
 use Rattle.cs_theorems.specs.Recorded.{first_flush, told, told_then}
-use Rattle.cs_theorems.specs.Told.{told_in, told_of}
+use Rattle.cs_theorems.specs.Told.{told_in}
 use Rattle.cs_theorems.specs.Runs.{IsRun}
 use Rattle.cs_theorems.specs.Underway.{IsKnown}
-use Rattle.cs_theorems.proofs.Listed.{Each, each_append, each_tail}
+use Rattle.cs_theorems.proofs.Follows.{no_records}
+use Rattle.cs_theorems.proofs.Listed.{each_append}
 use Rattle.cs_theorems.proofs.Told.{told_end}
 use Rattle.cs_theorems.proofs.Underway.{ForLog, all_fly}
-use Rattle.cs_theorems.proofs.Untouched.{apart}
 
 told_recorded : (f : ℕ) (q : List Message) (rs : List Record) → told_in f rs ++ first_flush f q ≡ told_in f (rs ++ recorded q)
 told_recorded f [] rs = append-nil (told_in f rs) ∙ ap (λ xs. told_in f xs) (sym (append-nil rs))
@@ -39,6 +38,9 @@ step e.ToMds (a.Flushed g tid) f q ds fs xs is =
 step (e.Snap d name) (a.Snap number) f q ds fs xs is =
     let r : Record = record { body = bodies.Snap number d name } in
     is ∙ (sym (append-nil (told_in f (ds ++ fs))) ∙ (sym (told_end f (ds ++ fs) r) ∙ ap (λ rs. told_in f rs) (append_assoc ds fs (r ∷ []))))
+step (e.RemoveSnap t) (a.Removed u number) f q ds fs xs is =
+    let r : Record = record { body = bodies.Removal t number } in
+    is ∙ (sym (append-nil (told_in f (ds ++ fs))) ∙ (sym (told_end f (ds ++ fs) r) ∙ ap (λ rs. told_in f rs) (append_assoc ds fs (r ∷ []))))
 step e.Commit (a.Commit count) f q ds fs xs is = is ∙ ap (λ rs. told_in f rs) (sym (append-nil (ds ++ fs)))
 step _ _ f q ds fs xs is = is
 
@@ -48,15 +50,7 @@ told_stands (x ∷ h) f = step x.event x.answer f (to_server h) (durable h) (fre
 
 -- A file that isn't known has none
 
-none_of : (h : List Entry) (f : ℕ) (b : RecordBody) → setup_file h f ≡ false → ForLog (IsKnown h) b → told_of f b ≡ []
-none_of h f (bodies.Flush snap g tid follows meta) unknown known = rw (apart h g f known unknown) refl
-none_of h f (bodies.Snap number d name) unknown known = refl
-
-none_in : (h : List Entry) (f : ℕ) (rs : List Record) → setup_file h f ≡ false → Each (λ r. ForLog (IsKnown h) r.body) rs → told_in f rs ≡ []
-none_in h f [] unknown known = refl
-none_in h f (r ∷ rs) unknown known = rw (none_of h f r.body unknown (known r (inl refl))) (none_in h f rs unknown (each_tail (λ x. ForLog (IsKnown h) x.body) r rs known))
-
 pub told_none : (p : ℕ) (h : List Entry) → IsRun p h → (f : ℕ) → setup_file h f ≡ false → told h f ≡ []
 told_none p h run f unknown =
     let flies = all_fly p h run in
-    told_stands h f ∙ none_in h f (stand h) unknown (each_append (λ x. ForLog (IsKnown h) x.body) (durable h) (fresh h) flies.durable flies.fresh)
+    told_stands h f ∙ no_records h f (stand h) unknown (each_append (λ x. ForLog (IsKnown h) x.body) (durable h) (fresh h) flies.durable flies.fresh)

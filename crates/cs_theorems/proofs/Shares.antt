@@ -20,6 +20,7 @@ use Rattle.cs_theorems.specs.Snapshots.{TagsAreOfTheBegin, WritersShareAContext}
 use Rattle.cs_theorems.proofs.Begun.{member_without_named}
 use Rattle.cs_theorems.proofs.Contexts.{IsEarlier, had_earlier}
 use Rattle.cs_theorems.proofs.Inversions.{BeginIs, begin_unknown, begin_caps, begin_snap, begin_max, begin_full, begun_ref, begin_is, EndIs, end_unknown, ended, end_is}
+use Rattle.cs_theorems.proofs.Known.{LiveAreKnown}
 use Rattle.cs_theorems.proofs.Listed.{Member, each_nil, each_end}
 use Rattle.cs_theorems.proofs.Order.{NamesAt, Ordered, none_open}
 use Rattle.cs_theorems.proofs.Tags.{at_present}
@@ -54,17 +55,17 @@ of_begin h c g b n x (begun_ref known issued free) names i =
     (subst (λ u. ((context h g).seq ≡ u.seq) × HadContext after g u)
     (sym (cond-true ((c == c) && (begun h c + 1 == begun h c + 1)) (context h g) (begun_under h c (begun h c + 1))
     (and_from (c == c) (begun h c + 1 == begun h c + 1) (eq-eqb c c refl) (eq-eqb (begun h c + 1) (begun h c + 1) refl))))
-    (refl, inl refl))
+    (refl, inl (known, refl)))
 
 of_end : (h : List Entry) (c : ℕ) (name : RefName) (x : Answer) → EndIs h c name x → TagsAreOfTheBegin h
     → TagsAreOfTheBegin (record { event = e.End c name; answer = x } ∷ h)
 of_end h c name x end_unknown i = λ r m. ((i r m).0, inr (i r m).1)
 of_end h c name x (ended can) i = λ r m. let was = i r (member_without_named c name (live h) r m) in (was.0, inr was.1)
 
-pub shares_step : (p : ℕ) (h : List Entry) (x : Event) → Ordered h → TagsAreOfTheBegin h → TagsAreOfTheBegin (entry p h x ∷ h)
-shares_step p h (e.Begin c f b n) order i = of_begin h c f b n _ (begin_is h c f b n) order.0 i
-shares_step p h (e.End c name) order i = of_end h c name _ (end_is h c name) i
-shares_step p h _ order i = λ r m. ((i r m).0, inr (i r m).1)
+pub shares_step : (p : ℕ) (h : List Entry) (x : Event) → Ordered h → LiveAreKnown h → TagsAreOfTheBegin h → TagsAreOfTheBegin (entry p h x ∷ h)
+shares_step p h (e.Begin c f b n) order known i = of_begin h c f b n _ (begin_is h c f b n) order.0 i
+shares_step p h (e.End c name) order known i = of_end h c name _ (end_is h c name) i
+shares_step p h _ order known i = λ r m. ((i r m).0, inr (i r m).1)
 
 pub shares_first : TagsAreOfTheBegin []
 shares_first = each_nil (λ r. IsOfBegin [] r (begun_under [] r.caller r.number))

@@ -111,6 +111,7 @@ last_with : (f : ℕ) (a : At) (n : ℕ) (body : RecordBody) (best : Option Flus
 last_with f a n (bodies.Flush snap g tid follows meta) best ts up rest =
     last_if (g == f) a n (record { tid = tid; file = g; follows = follows; meta = meta; snap = snap }) best ts up rest
 last_with f a n (bodies.Snap number d name) best ts up rest = rest n up
+last_with f a n (bodies.Removal t number) best ts up rest = rest n up
 
 lasts : (f : ℕ) (a : At) (n : ℕ) (rs : List Record) → RisesFrom n (nexts (told_in f rs)) → Last n (last_flush f a rs) (last_before a (told_in f rs))
 lasts f a n [] up = record { same = refl; above = tt }

@@ -1,6 +1,6 @@
--- Messages on their way are of known files and of the root, and so are the records of the server's log.
+-- Messages on their way are of known files, and so are the flushes of the server's log.
 use Rattle.std.proofs.Common.{◌≡◌, refl, ℕ, true, List, [], ◌∷◌, ◌++◌, inl, drop}
-use Rattle.std.proofs.lemmas.Bool.{cond_both, eqb-true}
+use Rattle.std.proofs.lemmas.Bool.{cond_both}
 use Rattle.cs_bits.specs.declared.Caps.{Caps}
 use Rattle.cs_bits.specs.Bits.{is_empty}
 use Rattle.cs_parts.specs.declared.capabilities.ClientCaps.{ClientCaps}
@@ -17,30 +17,27 @@ use Rattle.cs_laws.specs.declared.records.Record.{Record}
 use Rattle.cs_laws.specs.declared.records.RecordBody.{RecordBody}
 use Rattle.cs_laws.specs.declared.records.RecordBody.TheVariants as bodies
 use Rattle.cs_laws.specs.Answers.{answer_check_of, answer_check, answer_grant, answer_revoke, sent_cap}
-use Rattle.cs_laws.specs.Context.{empty_root, root_told}
+use Rattle.cs_laws.specs.Realms.{changed_records}
+use Rattle.cs_laws.specs.Tree.{directories, path}
 use Rattle.cs_laws.specs.Events.{setup_file, setup_file_then, client_knows, server_knows}
-use Rattle.cs_laws.specs.History.{client, server, to_client, to_server, root, durable, fresh, stand, used}
+use Rattle.cs_laws.specs.History.{client, server, to_client, to_server, durable, fresh, used}
 use Rattle.cs_laws.specs.Journal.{entry}
-use Rattle.cs_laws.specs.Standing.{recorded, greatest_snap, realm_then, realm_after, told_of, told}
-use Rattle.cs_theorems.proofs.Rising.{RisesTo}
+use Rattle.cs_laws.specs.Standing.{recorded, told_of, told}
 use Rattle.cs_theorems.specs.Runs.{IsRun}
-use Rattle.cs_theorems.specs.Underway.{IsRoot, AreRoot, ForClient, ForServer, IsKnown, IsToldClient, IsToldServer}
-use Rattle.cs_theorems.proofs.Course.{course_run}
-use Rattle.cs_theorems.proofs.Inversions.{FlushSnapsIs, flush_unknown, flush_none, flush_writing, flush_sent, flush_snaps_is, FirstIs, first_idle, first_cap, first_flush_ack, first_snap, first_is, ReceivedIs, received_idle, received_ack, received_flush, received_is, SnapIs, snap_unknown, snap_exists, snap_taken, snap_is}
+use Rattle.cs_theorems.specs.Underway.{ForClient, ForServer, IsKnown, IsToldClient, IsToldServer}
+use Rattle.cs_theorems.proofs.Inversions.{FlushSnapsIs, flush_unknown, flush_none, flush_writing, flush_sent, flush_snaps_is, FirstIs, first_idle, first_cap, first_flush_ack, first_snap, first_is, ReceivedIs, received_idle, received_ack, received_flush, received_is, SnapIs, snap_unknown, snap_exists, snap_taken, snap_is, RemoveIs, remove_none, remove_gone, removed, remove_is}
 use Rattle.cs_theorems.proofs.Known.{known_then}
 use Rattle.cs_theorems.proofs.Listed.{Each, each_nil, each_cons, each_append, each_end, each_tail}
-use Rattle.cs_theorems.proofs.Pipe.{snaps_in, numbers}
 use Rattle.cs_theorems.proofs.Runs.{of_run}
 
--- a record of the log that concerns a known file, or the root
+-- a record of the log that is no flush, or one of a known file
 abbrev pub ForLog : (ℕ → Type 0) → RecordBody → Type 0
 ForLog Known (bodies.Flush snap f tid follows meta) = Known f
-ForLog Known (bodies.Snap number d name) = d ≡ 1
+ForLog Known _ = Unit {0}
 
--- Known: there is a file of this number; r: the root's record that the client has; q, p: the messages on their way to the
+-- Known: there is a file of this number; q, p: the messages on their way to the
 -- client and to the server; ds, fs: the durable records and the others
-pub record Flies (Known : ℕ → Type 0) (r : RealmRecord) (q p : List Message) (ds fs : List Record) : Type 0 where
-  pub root : IsRoot r
+pub record Flies (Known : ℕ → Type 0) (q p : List Message) (ds fs : List Record) : Type 0 where
   pub told : Each (ForClient Known) q
   pub received : Each (ForServer Known) p
   pub durable : Each (λ x. ForLog Known x.body) ds
@@ -69,43 +66,31 @@ server_more Known More more (messages.Snap number d realms) k = absurd k
 log_more : (Known More : ℕ → Type 0) → ((f : ℕ) → Known f → More f) → (b : RecordBody) → ForLog Known b → ForLog More b
 log_more Known More more (bodies.Flush snap f tid follows meta) k = more f k
 log_more Known More more (bodies.Snap number d name) k = k
+log_more Known More more (bodies.Removal t number) k = k
 
-flies_more : (Known More : ℕ → Type 0) → ((f : ℕ) → Known f → More f) → (r : RealmRecord) (q p : List Message) (ds fs : List Record)
-    → Flies Known r q p ds fs → Flies More r q p ds fs
-flies_more Known More more r q p ds fs i = record {
-  root = i.root;
+flies_more : (Known More : ℕ → Type 0) → ((f : ℕ) → Known f → More f) → (q p : List Message) (ds fs : List Record)
+    → Flies Known q p ds fs → Flies More q p ds fs
+flies_more Known More more q p ds fs i = record {
   told = λ m there. client_more Known More more m (i.told m there);
   received = λ m there. server_more Known More more m (i.received m there);
   durable = λ x there. log_more Known More more x.body (i.durable x there);
   fresh = λ x there. log_more Known More more x.body (i.fresh x there);
 }
 
--- The root's record
-
-then_root : (r : RealmRecord) (b : RecordBody) → IsRoot r → IsRoot (realm_then r b)
-then_root r (bodies.Flush snap f tid follows meta) i = i
-then_root r (bodies.Snap number d name) i = record { realm = i.realm; parent = i.parent; since = i.since; prior = i.prior }
-
-pub after_root : (r : RealmRecord) (rs : List Record) → IsRoot r → IsRoot (realm_after r rs)
-after_root r [] i = i
-after_root r (x ∷ rs) i = after_root (realm_then r x.body) rs (then_root r x.body i)
-
-pub empty_is_root : IsRoot empty_root
-empty_is_root = record { realm = refl; parent = refl; since = refl; prior = refl }
-
 -- What is told and recorded
 
-of_told : (Known : ℕ → Type 0) (r : RealmRecord) (b : RecordBody) → IsRoot r → ForLog Known b → ForClient Known (told_of (realm_then r b) b)
-of_told Known r (bodies.Flush snap f tid follows meta) i k = k
-of_told Known r (bodies.Snap number d name) i k =
-    (k, record { root = realm_then r (bodies.Snap number d name); alone = refl; last = refl; is_root = then_root r (bodies.Snap number d name) i })
+of_told : (Known : ℕ → Type 0) (before : List Record) (realms : List RealmRecord) (b : RecordBody) → ForLog Known b → ForClient Known (told_of before realms b)
+of_told Known before realms (bodies.Flush snap f tid follows meta) k = k
+of_told Known before realms (bodies.Snap number d name) k = tt
+of_told Known before realms (bodies.Removal t number) k = tt
 
-each_told : (Known : ℕ → Type 0) (r : RealmRecord) (rs : List Record) → IsRoot r → Each (λ x. ForLog Known x.body) rs
-    → Each (ForClient Known) (told r rs)
-each_told Known r [] i ks = each_nil (ForClient Known)
-each_told Known r (x ∷ rs) i ks =
-    each_cons (ForClient Known) _ _ (of_told Known r x.body i (ks x (inl refl)))
-    (each_told Known (realm_then r x.body) rs (then_root r x.body i) (each_tail (λ y. ForLog Known y.body) x rs ks))
+each_told : (Known : ℕ → Type 0) (up : ℕ → List ℕ) (dirs : List ℕ) (before rs : List Record) → Each (λ x. ForLog Known x.body) rs
+    → Each (ForClient Known) (told up dirs before rs)
+each_told Known up dirs before [] ks = each_nil (ForClient Known)
+each_told Known up dirs before (x ∷ rs) ks =
+    let realms : List RealmRecord = changed_records up dirs before (before ++ x ∷ []) in
+    each_cons (ForClient Known) _ _ (of_told Known before realms x.body (ks x (inl refl)))
+    (each_told Known up dirs (before ++ x ∷ []) rs (each_tail (λ y. ForLog Known y.body) x rs ks))
 
 each_recorded : (Known : ℕ → Type 0) (q : List Message) → Each (ForServer Known) q → Each (λ x. ForLog Known x.body) (recorded q)
 each_recorded Known [] ks = each_nil (λ x. ForLog Known x.body)
@@ -118,62 +103,55 @@ each_recorded Known (messages.Snap number d realms ∷ q) ks = absurd (ks (messa
 
 -- Each kind of change
 
-flies_told : (Known : ℕ → Type 0) (r : RealmRecord) (q p : List Message) (ds fs : List Record) (m : Message) → ForClient Known m
-    → Flies Known r q p ds fs → Flies Known r (q ++ m ∷ []) p ds fs
-flies_told Known r q p ds fs m k i = record {
-  root = i.root;
+flies_told : (Known : ℕ → Type 0) (q p : List Message) (ds fs : List Record) (m : Message) → ForClient Known m
+    → Flies Known q p ds fs → Flies Known (q ++ m ∷ []) p ds fs
+flies_told Known q p ds fs m k i = record {
   told = each_end (ForClient Known) q m i.told k;
   received = i.received;
   durable = i.durable;
   fresh = i.fresh;
 }
 
-flies_sent : (Known : ℕ → Type 0) (r : RealmRecord) (q p : List Message) (ds fs : List Record) (m : Message) → ForServer Known m
-    → Flies Known r q p ds fs → Flies Known r q (p ++ m ∷ []) ds fs
-flies_sent Known r q p ds fs m k i = record {
-  root = i.root;
+flies_sent : (Known : ℕ → Type 0) (q p : List Message) (ds fs : List Record) (m : Message) → ForServer Known m
+    → Flies Known q p ds fs → Flies Known q (p ++ m ∷ []) ds fs
+flies_sent Known q p ds fs m k i = record {
   told = i.told;
   received = each_end (ForServer Known) p m i.received k;
   durable = i.durable;
   fresh = i.fresh;
 }
 
-flies_delivered : (Known : ℕ → Type 0) (r new : RealmRecord) (q p : List Message) (ds fs : List Record) → IsRoot new
-    → Flies Known r q p ds fs → Flies Known new (drop 1 q) p ds fs
-flies_delivered Known r new q p ds fs k i = record {
-  root = k;
+flies_delivered : (Known : ℕ → Type 0) (q p : List Message) (ds fs : List Record)
+    → Flies Known q p ds fs → Flies Known (drop 1 q) p ds fs
+flies_delivered Known q p ds fs i = record {
   told = each_drop (ForClient Known) q i.told;
   received = i.received;
   durable = i.durable;
   fresh = i.fresh;
 }
 
-flies_received : (Known : ℕ → Type 0) (r : RealmRecord) (q p : List Message) (ds fs more : List Record) → Each (λ x. ForLog Known x.body) more
-    → Flies Known r q p ds fs → Flies Known r q (drop 1 p) ds (fs ++ more)
-flies_received Known r q p ds fs more k i = record {
-  root = i.root;
+flies_received : (Known : ℕ → Type 0) (q p : List Message) (ds fs more : List Record) → Each (λ x. ForLog Known x.body) more
+    → Flies Known q p ds fs → Flies Known q (drop 1 p) ds (fs ++ more)
+flies_received Known q p ds fs more k i = record {
   told = i.told;
   received = each_drop (ForServer Known) p i.received;
   durable = i.durable;
   fresh = each_append (λ x. ForLog Known x.body) fs more i.fresh k;
 }
 
-flies_recorded : (Known : ℕ → Type 0) (r : RealmRecord) (q p : List Message) (ds fs : List Record) (x : Record) → ForLog Known x.body
-    → Flies Known r q p ds fs → Flies Known r q p ds (fs ++ x ∷ [])
-flies_recorded Known r q p ds fs x k i = record {
-  root = i.root;
+flies_recorded : (Known : ℕ → Type 0) (q p : List Message) (ds fs : List Record) (x : Record) → ForLog Known x.body
+    → Flies Known q p ds fs → Flies Known q p ds (fs ++ x ∷ [])
+flies_recorded Known q p ds fs x k i = record {
   told = i.told;
   received = i.received;
   durable = i.durable;
   fresh = each_end (λ y. ForLog Known y.body) fs x i.fresh k;
 }
 
-flies_commit : (Known : ℕ → Type 0) (r : RealmRecord) (q p : List Message) (ds fs : List Record)
-    → Flies Known r q p ds fs → Flies Known r (q ++ told (realm_after empty_root ds) fs) p (ds ++ fs) []
-flies_commit Known r q p ds fs i = record {
-  root = i.root;
-  told = each_append (ForClient Known) q (told (realm_after empty_root ds) fs) i.told
-      (each_told Known (realm_after empty_root ds) fs (after_root empty_root ds empty_is_root) i.fresh);
+flies_commit : (Known : ℕ → Type 0) (up : ℕ → List ℕ) (dirs : List ℕ) (q p : List Message) (ds fs : List Record)
+    → Flies Known q p ds fs → Flies Known (q ++ told up dirs ds fs) p (ds ++ fs) []
+flies_commit Known up dirs q p ds fs i = record {
+  told = each_append (ForClient Known) q (told up dirs ds fs) i.told (each_told Known up dirs ds fs i.fresh);
   received = i.received;
   durable = each_append (λ x. ForLog Known x.body) ds fs i.durable i.fresh;
   fresh = each_nil (λ x. ForLog Known x.body);
@@ -182,18 +160,18 @@ flies_commit Known r q p ds fs i = record {
 -- Steps
 
 abbrev pub AllFly : List Entry → Type 0
-AllFly h = Flies (IsKnown h) (root h) (to_client h) (to_server h) (durable h) (fresh h)
+AllFly h = Flies (IsKnown h) (to_client h) (to_server h) (durable h) (fresh h)
 
 step_grant : (h : List Entry) (g : ℕ) (bits : Caps) (end : ℕ) → AllFly h → AllFly (record { event = e.Grant g bits end; answer = answer_grant h g bits end } ∷ h)
 step_grant h g bits end i =
     cond_both (server_knows h g) (sent_cap (granted (server h g) bits end)) a.Unknown (λ x. AllFly (record { event = e.Grant g bits end; answer = x } ∷ h))
-    (λ known. flies_told _ _ _ _ _ _ _ known i)
+    (λ known. flies_told _ _ _ _ _ _ known i)
     (λ _. i)
 
 step_revoke : (h : List Entry) (g : ℕ) (bits : Caps) → AllFly h → AllFly (record { event = e.Revoke g bits; answer = answer_revoke h g bits } ∷ h)
 step_revoke h g bits i =
     cond_both (server_knows h g) (sent_cap (revoked (server h g) bits)) a.Unknown (λ x. AllFly (record { event = e.Revoke g bits; answer = x } ∷ h))
-    (λ known. flies_told _ _ _ _ _ _ _ known i)
+    (λ known. flies_told _ _ _ _ _ _ known i)
     (λ _. i)
 
 step_checked : (h : List Entry) (g : ℕ) (c : ClientCaps) (in_use : Caps) → setup_file h g ≡ true → AllFly h
@@ -201,7 +179,7 @@ step_checked : (h : List Entry) (g : ℕ) (c : ClientCaps) (in_use : Caps) → s
 step_checked h g c in_use known i =
     cond_both (is_complete c) _ _ (λ x. AllFly (record { event = e.Check g; answer = x } ∷ h)) (λ _. i)
     (λ _. cond_both (is_empty (held_back c in_use)) _ _ (λ x. AllFly (record { event = e.Check g; answer = x } ∷ h))
-    (λ _. flies_sent _ _ _ _ _ _ _ known i)
+    (λ _. flies_sent _ _ _ _ _ _ known i)
     (λ _. i))
 
 step_check : (h : List Entry) (g : ℕ) → AllFly h → AllFly (record { event = e.Check g; answer = answer_check h g } ∷ h)
@@ -214,26 +192,17 @@ step_flush_snaps : (h : List Entry) (g : ℕ) (x : Answer) → FlushSnapsIs h g 
 step_flush_snaps h g x flush_unknown i = i
 step_flush_snaps h g x flush_none i = i
 step_flush_snaps h g x flush_writing i = i
-step_flush_snaps h g x (flush_sent y ys known is closed) i = flies_sent _ _ _ _ _ _ _ known i
-
--- the root's record that the first message tells
-first_root : (Known : ℕ → Type 0) (number d : ℕ) (realms : List RealmRecord) (q all : List Message) (r : RealmRecord)
-    → all ≡ messages.Snap number d realms ∷ q → Each (ForClient Known) all → (root_told all r).own_seq ≡ number × IsRoot (root_told all r)
-first_root Known number d realms q all r is ks =
-    let k : (d ≡ 1) × AreRoot number realms = rw is at ks (messages.Snap number d realms) (inl refl) in
-    rw is (rw k.1.alone (k.1.last, k.1.is_root))
+step_flush_snaps h g x (flush_sent y ys known is closed) i = flies_sent _ _ _ _ _ _ known i
 
 step_to_client : (h : List Entry) (x : Answer) → FirstIs h x → AllFly h → AllFly (record { event = e.ToClient; answer = x } ∷ h)
 step_to_client h x first_idle i = i
-step_to_client h x (first_cap g seq bits end q is) i = flies_delivered _ _ _ _ _ _ _ i.root i
-step_to_client h x (first_flush_ack g tid q is) i = flies_delivered _ _ _ _ _ _ _ i.root i
-step_to_client h x (first_snap number d realms q is) i =
-    flies_delivered _ _ _ _ _ _ _ (first_root (IsKnown h) number d realms q (to_client h) (root h) is i.told).1 i
+step_to_client h x (first_cap g seq bits end q is) i = flies_delivered _ _ _ _ _ i
+step_to_client h x (first_flush_ack g tid q is) i = flies_delivered _ _ _ _ _ i
+step_to_client h x (first_snap number d now q is) i = flies_delivered _ _ _ _ _ i
 
-flies_acked : (Known : ℕ → Type 0) (r : RealmRecord) (q p : List Message) (ds fs : List Record)
-    → Flies Known r q p ds fs → Flies Known r q (drop 1 p) ds fs
-flies_acked Known r q p ds fs i = record {
-  root = i.root;
+flies_acked : (Known : ℕ → Type 0) (q p : List Message) (ds fs : List Record)
+    → Flies Known q p ds fs → Flies Known q (drop 1 p) ds fs
+flies_acked Known q p ds fs i = record {
   told = i.told;
   received = each_drop (ForServer Known) p i.received;
   durable = i.durable;
@@ -242,20 +211,25 @@ flies_acked Known r q p ds fs i = record {
 
 step_to_mds : (h : List Entry) (x : Answer) → ReceivedIs h x → AllFly h → AllFly (record { event = e.ToMds; answer = x } ∷ h)
 step_to_mds h x received_idle i = i
-step_to_mds h x (received_ack g seq bits q is) i = flies_acked _ _ _ _ _ _ i
+step_to_mds h x (received_ack g seq bits q is) i = flies_acked _ _ _ _ _ i
 step_to_mds h x (received_flush g tid follows meta q is) i =
-    flies_received _ _ _ _ _ _ (recorded (to_server h)) (each_recorded (IsKnown h) (to_server h) i.received) i
+    flies_received _ _ _ _ _ (recorded (to_server h)) (each_recorded (IsKnown h) (to_server h) i.received) i
 
 step_snap : (h : List Entry) (d : ℕ) (name : List ℕ) (x : Answer) → SnapIs h d name x → AllFly h → AllFly (record { event = e.Snap d name; answer = x } ∷ h)
 step_snap h d name x snap_unknown i = i
 step_snap h d name x snap_exists i = i
-step_snap h d name x (snap_taken directory free) i = flies_recorded _ _ _ _ _ _ _ (eqb-true d 1 directory) i
+step_snap h d name x (snap_taken directory free) i = flies_recorded _ _ _ _ _ _ tt i
+
+step_remove : (h : List Entry) (t : ℕ) (x : Answer) → RemoveIs h t x → AllFly h → AllFly (record { event = e.RemoveSnap t; answer = x } ∷ h)
+step_remove h t x remove_none i = i
+step_remove h t x remove_gone i = i
+step_remove h t x (removed there stays) i = flies_recorded _ _ _ _ _ _ tt i
 
 step_file : (h : List Entry) (x : Event) (y : Answer) → AllFly h
-    → Flies (λ f. setup_file_then x y f (setup_file h f) ≡ true) (root h) (to_client h) (to_server h) (durable h) (fresh h)
-step_file h x y i = flies_more (IsKnown h) (λ f. setup_file_then x y f (setup_file h f) ≡ true) (λ f k. known_then x y f (setup_file h f) k) _ _ _ _ _ i
+    → Flies (λ f. setup_file_then x y f (setup_file h f) ≡ true) (to_client h) (to_server h) (durable h) (fresh h)
+step_file h x y i = flies_more (IsKnown h) (λ f. setup_file_then x y f (setup_file h f) ≡ true) (λ f k. known_then x y f (setup_file h f) k) _ _ _ _ i
 
-fly_step : (p : ℕ) (h : List Entry) (x : Event) → AllFly h → AllFly (entry p h x ∷ h)
+pub fly_step : (p : ℕ) (h : List Entry) (x : Event) → AllFly h → AllFly (entry p h x ∷ h)
 fly_step p h (e.File f d) i = step_file h (e.File f d) _ i
 fly_step p h (e.Grant g bits end) i = step_grant h g bits end i
 fly_step p h (e.Revoke g bits) i = step_revoke h g bits i
@@ -264,12 +238,12 @@ fly_step p h (e.FlushSnaps g) i = step_flush_snaps h g _ (flush_snaps_is h g) i
 fly_step p h e.ToClient i = step_to_client h _ (first_is h) i
 fly_step p h e.ToMds i = step_to_mds h _ (received_is h) i
 fly_step p h (e.Snap d name) i = step_snap h d name _ (snap_is h d name) i
-fly_step p h e.Commit i = flies_commit _ _ _ _ _ _ i
+fly_step p h (e.RemoveSnap t) i = step_remove h t _ (remove_is h t) i
+fly_step p h e.Commit i = flies_commit (IsKnown h) (λ d. path h d) (directories h) (to_client h) (to_server h) (durable h) (fresh h) i
 fly_step p h _ i = i
 
-nothing_flies : AllFly []
+pub nothing_flies : AllFly []
 nothing_flies = record {
-  root = empty_is_root;
   told = each_nil (IsToldClient []);
   received = each_nil (IsToldServer []);
   durable = each_nil (λ x. ForLog (IsKnown []) x.body);
@@ -286,14 +260,3 @@ told_known p h run = (all_fly p h run).told
 
 pub received_known : (p : ℕ) (h : List Entry) → IsRun p h → Each (IsToldServer h) (to_server h)
 received_known p h run = (all_fly p h run).received
-
-pub root_is_root : (p : ℕ) (h : List Entry) → IsRun p h → IsRoot (root h)
-root_is_root p h run = (all_fly p h run).root
-
-pub durable_is_root : (h : List Entry) → IsRoot (realm_after empty_root (durable h))
-durable_is_root h = after_root empty_root (durable h) empty_is_root
-
--- the numbers of snapshots on their way are above that of the client's record of the root, and rise
-pub snaps_rise : (p : ℕ) (h : List Entry) → IsRun p h
-    → RisesTo (root h).own_seq (snaps_in (to_client h) ++ numbers (fresh h)) (greatest_snap (stand h))
-snaps_rise p h run = (course_run p h run).pipe.rises

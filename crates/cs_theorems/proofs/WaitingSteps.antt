@@ -11,10 +11,11 @@ use Rattle.cs_laws.specs.declared.events.RefName.{RefName}
 use Rattle.cs_laws.specs.declared.answers.Answer.{Answer}
 use Rattle.cs_laws.specs.declared.answers.Entry.{Entry}
 use Rattle.cs_laws.specs.CapSnaps.{has_writer, makes}
-use Rattle.cs_laws.specs.Context.{root_context, root_told}
+use Rattle.cs_laws.specs.Context.{first_told, path_context}
+use Rattle.cs_laws.specs.Tree.{file_path}
 use Rattle.cs_laws.specs.Events.{mode}
 use Rattle.cs_laws.specs.Flushes.{Flush, acked, first_mode, flush_snap}
-use Rattle.cs_laws.specs.History.{context, dirty, durable, fresh, live, queued, root, sent, stand, to_client, to_server, writes}
+use Rattle.cs_laws.specs.History.{context, dirty, durable, fresh, live, queued, realms, sent, stand, to_client, to_server, writes}
 use Rattle.cs_laws.specs.Image.{Write, size, mtime}
 use Rattle.cs_laws.specs.Journal.{entry}
 use Rattle.cs_laws.specs.References.{named, without_named}
@@ -72,9 +73,9 @@ step_client p h x run first_idle i = i
 step_client p h x run (first_cap g seq bits end q there) i = i
 step_client p h x run (first_flush_ack g tid q there) i = λ f.
     waiting_acked (g == f) f tid (snaps h f) (sent h) (λ n. acked h f n) (queue_order p h run f) (i f)
-step_client p h x run (first_snap n d realms q there) i = λ f.
+step_client p h x run (first_snap n d now q there) i = λ f.
     let y : Snap = kept.queued (context h f) (has_writer f (live h)) (written_meta (mode h f) (writes h f)) in
-    cond_both (makes f (context h f) (root_context (root_told (to_client h) (root h))) (live h) (dirty h f) (queued h f)) (snaps h f ++ y ∷ []) (snaps h f)
+    cond_both (makes f (context h f) (path_context (file_path h f) (first_told (to_client h) (realms h))) (live h) (dirty h f) (queued h f)) (snaps h f ++ y ∷ []) (snaps h f)
     (λ ys. Waiting f ys (sent h) (λ k. acked h f k))
     (λ _. waiting_made f (snaps h f) (sent h) (λ k. acked h f k) y refl (i f)) (λ _. i f)
 

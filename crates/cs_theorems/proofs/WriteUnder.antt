@@ -13,18 +13,23 @@ use Rattle.cs_laws.specs.declared.events.Event.TheVariants as e
 use Rattle.cs_laws.specs.declared.answers.Answer.{Answer}
 use Rattle.cs_laws.specs.declared.answers.Answer.TheVariants as a
 use Rattle.cs_laws.specs.declared.answers.Entry.{Entry}
-use Rattle.cs_laws.specs.CapSnaps.{CapSnap, has_writer, is_open}
-use Rattle.cs_laws.specs.Events.{mode}
-use Rattle.cs_laws.specs.History.{context, live, queued, writes}
+use Rattle.cs_laws.specs.Answers.{answer}
+use Rattle.cs_laws.specs.CapSnaps.{CapSnap, has_writer, is_open, makes}
+use Rattle.cs_laws.specs.Events.{mode, setup_file}
+use Rattle.cs_laws.specs.History.{context, dirty, live, queued, writes}
 use Rattle.cs_laws.specs.Image.{Write, size, mtime}
+use Rattle.cs_laws.specs.Journal.{entry}
 use Rattle.cs_laws.specs.Operations.{begun_under}
 use Rattle.cs_laws.specs.References.{named, without_named}
 use Rattle.cs_theorems.specs.Contexts.{HadContext}
 use Rattle.cs_theorems.specs.Queues.{snaps, snaps_then, makes_snap, with_ended, written_meta}
 use Rattle.cs_theorems.specs.Runs.{IsRun}
 use Rattle.cs_theorems.specs.Snapshots.{BeganUnderOne}
+use Rattle.cs_theorems.proofs.Blank.{AllBlank, makes_none, no_writer, none_live}
 use Rattle.cs_theorems.proofs.Contexts.{one_context}
 use Rattle.cs_theorems.proofs.Course.{Course, course_run}
+use Rattle.cs_theorems.proofs.Known.{LiveAreKnown}
+use Rattle.cs_theorems.proofs.Runs.{of_run}
 use Rattle.cs_theorems.proofs.Listed.{Member, Each, each_nil, each_cons, each_end, each_tail}
 use Rattle.cs_theorems.proofs.QueueAnswers.{queue_writing}
 use Rattle.cs_theorems.proofs.Queues.{IsSeen, Seen}
@@ -76,10 +81,10 @@ under_ended Held (Some r) f left ws xs i =
 
 -- an entry adds the file's context alone
 under_then : (Held : Context → Type 0) (x : Event) (y : Answer) (f : ℕ) (makes : Bool) (old : Context) (rs : List Live) (ws : List Write) (m : ℕ) (xs : List Snap)
-    → Held old → Under Held xs → Under Held (snaps_then x y f makes old rs ws m xs)
+    → (makes ≡ true → Held old) → Under Held xs → Under Held (snaps_then x y f makes old rs ws m xs)
 under_then Held e.ToClient (a.SnapTold number realm count) f makes old rs ws m xs now i =
     cond_both makes (xs ++ kept.queued old (has_writer f rs) (written_meta m ws) ∷ []) xs (λ ys. Under Held ys)
-    (λ _. each_end (λ (z : Snap). Held z.context) xs (kept.queued old (has_writer f rs) (written_meta m ws)) i now)
+    (λ made. each_end (λ (z : Snap). Held z.context) xs (kept.queued old (has_writer f rs) (written_meta m ws)) i (now made))
     (λ _. i)
 under_then Held e.ToClient (a.FlushAck g tid) f makes old rs ws m xs now i =
     cond_both (g == f) (kept.without_tid tid xs) xs (λ ys. Under Held ys) (λ _. under_left Held tid xs i) (λ _. i)
@@ -88,15 +93,30 @@ under_then Held (e.FlushSnaps g) (a.FlushSnap tid follows) f makes old rs ws m x
 under_then Held (e.End c name) a.Ended f makes old rs ws m xs now i = under_ended Held (named c name rs) f (without_named c name rs) ws xs i
 under_then Held _ _ f makes old rs ws m xs now i = i
 
-had_now : (h : List Entry) (f : ℕ) → HadContext h f (context h f)
-had_now [] f = refl
-had_now (x ∷ h) f = inl refl
+-- the present one, if the file is known
+had_now : (h : List Entry) (f : ℕ) → setup_file h f ≡ true → HadContext h f (context h f)
+had_now [] f known = absurd (false≢true known)
+had_now (x ∷ h) f known = inl (known, refl)
 
-pub had_each : (h : List Entry) (f : ℕ) → Each (λ (x : Snap). HadContext h f x.context) (snaps h f)
-had_each [] f = each_nil (λ (x : Snap). HadContext [] f x.context)
-had_each (x ∷ h) f =
-    under_then (λ c. HadContext (x ∷ h) f c) x.event x.answer f (makes_snap x h f) (context h f) (live h) (writes h f) (mode h f) (snaps h f)
-    (inr (had_now h f)) (λ y m. inr (had_each h f y m))
+-- a file of which a cap snap is made is known
+made_known : (h : List Entry) (f : ℕ) (new : Context) → LiveAreKnown h → AllBlank h → makes f (context h f) new (live h) (dirty h f) (queued h f) ≡ true → setup_file h f ≡ true
+made_known h f new known blank made =
+    ⊎_elim
+    (λ is. is)
+    (λ unknown. absurd (both_ways (makes f (context h f) new (live h) (dirty h f) (queued h f))
+    (makes_none f (context h f) new (live h) (dirty h f) (queued h f) (no_writer f (live h) (none_live h f unknown known)) (blank f unknown).dirty) made))
+    (cases_Bool (setup_file h f))
+
+abbrev HadEach : List Entry → Type 0
+HadEach h = (f : ℕ) → Each (λ (x : Snap). HadContext h f x.context) (snaps h f)
+
+had_step : (p : ℕ) (h : List Entry) (x : Event) → Course h → HadEach h → HadEach (entry p h x ∷ h)
+had_step p h x course i f =
+    under_then (λ c. HadContext (entry p h x ∷ h) f c) x (answer p h x) f (makes_snap (entry p h x) h f) (context h f) (live h) (writes h f) (mode h f) (snaps h f)
+    (λ made. inr (had_now h f (made_known h f (context (entry p h x ∷ h) f) course.known course.blank made))) (λ y m. inr (i f y m))
+
+pub had_each : (p : ℕ) (h : List Entry) → IsRun p h → (f : ℕ) → Each (λ (x : Snap). HadContext h f x.context) (snaps h f)
+had_each p h run = of_run p HadEach (λ f. each_nil (λ (x : Snap). HadContext [] f x.context)) (λ g x fit before i. had_step p g x (course_run p g before) i) h run
 
 -- The one that is writing
 
@@ -158,7 +178,7 @@ under_written p h run f r m w writing =
     let same : begun_under h r.caller r.number ≡ x.snap.context =
     one_context h f course.contexts (begun_under h r.caller r.number) x.snap.context
     (subst (λ g. HadContext h g (begun_under h r.caller r.number)) file began.1)
-    (had_each h f x.snap x.there) (sym began.0 ∙ (tag ∙ sym q.seen.follows)) in
+    (had_each p h run f x.snap x.there) (sym began.0 ∙ (tag ∙ sym q.seen.follows)) in
     same ∙ ap (λ o. unwrap_or o (context h f)) (sym x.context)
 
 under_present : (p : ℕ) (h : List Entry) → IsRun p h → (f : ℕ) (r : Live) → Member r (live h) → is_writer_of f r ≡ true

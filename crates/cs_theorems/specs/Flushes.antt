@@ -14,7 +14,7 @@ use Rattle.cs_theorems.specs.Lists.{Each, Member, RisesFrom}
 -- the number of a record that is a flush of the file, alone
 abbrev pub tid_of : ℕ → RecordBody → List ℕ
 tid_of f (bodies.Flush snap g tid follows meta) = if g == f then tid ∷ [] else []
-tid_of f (bodies.Snap number d name) = []
+tid_of f _ = []
 
 -- the numbers of a file's flushes among these records, in order
 abbrev pub tids : ℕ → List Record → List ℕ
@@ -38,7 +38,7 @@ pub record FlushesStandOnce (h : List Entry) : Type 0 where
 -- a record of a flush is that of one of these
 abbrev pub IsRecordSent : List Flush → RecordBody → Type 0
 IsRecordSent xs (bodies.Flush snap f tid follows meta) = Member (record { tid = tid; file = f; follows = follows; meta = meta; snap = snap }) xs
-IsRecordSent xs (bodies.Snap number d name) = Unit {0}
+IsRecordSent xs _ = Unit {0}
 
 -- a message with a flush is that of one of these
 abbrev pub IsMessageSent : List Flush → Message → Type 0

@@ -7,6 +7,7 @@ pub mod Lists
 pub mod Metadata
 pub mod Order
 pub mod Queues
+pub mod Realms
 pub mod Recorded
 pub mod References
 pub mod Refusals

@@ -2,19 +2,24 @@
 use Rattle.std.specs.Prelude.{◌≡◌, ℕ, List}
 use Rattle.cs_laws.specs.declared.answers.Entry.{Entry}
 use Rattle.cs_laws.specs.Events.{setup_file, files, begun, clock, mode}
-use Rattle.cs_laws.specs.History.{client, server, to_client, to_server, durable, fresh, root, context, live, writes, dirty, queued, sent}
+use Rattle.cs_laws.specs.Tree.{directories, file_path, path, setup_dir}
+use Rattle.cs_laws.specs.History.{client, server, to_client, to_server, durable, fresh, realms, context, live, writes, dirty, queued, sent}
 use Rattle.cs_laws.specs.Operations.{begun_under, operations_drawn, applied}
 
 pub record IsAsBefore (h new : List Entry) : Type 0 where
   pub setup_files : (f : ℕ) → setup_file new f ≡ setup_file h f
   pub files : files new ≡ files h
+  pub setup_dirs : (d : ℕ) → setup_dir new d ≡ setup_dir h d
+  pub paths : (d : ℕ) → path new d ≡ path h d
+  pub directories : directories new ≡ directories h
+  pub file_paths : (f : ℕ) → file_path new f ≡ file_path h f
   pub client : (f : ℕ) → client new f ≡ client h f
   pub server : (f : ℕ) → server new f ≡ server h f
   pub to_client : to_client new ≡ to_client h
   pub to_server : to_server new ≡ to_server h
   pub durable : durable new ≡ durable h
   pub fresh : fresh new ≡ fresh h
-  pub root : root new ≡ root h
+  pub realms : realms new ≡ realms h
   pub clock : clock new ≡ clock h
   pub mode : (f : ℕ) → mode new f ≡ mode h f
   pub contexts : (f : ℕ) → context new f ≡ context h f

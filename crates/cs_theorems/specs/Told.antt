@@ -12,7 +12,7 @@ use Rattle.cs_laws.specs.Shown.{is_before}
 -- what the table has of a record
 abbrev pub told_of : ℕ → RecordBody → List (ℕ × FileMeta)
 told_of f (bodies.Flush snap g tid follows meta) = if g == f then (follows, meta) ∷ [] else []
-told_of f (bodies.Snap number d name) = []
+told_of f _ = []
 
 -- the table of these records
 abbrev pub told_in : ℕ → List Record → List (ℕ × FileMeta)

@@ -20,6 +20,6 @@ pub use refusals::refused_events_change_the_journal_alone;
 pub use snapshots::{
     contexts_never_fall, finished_snaps_are_not_written, finished_snaps_keep_their_writes,
     follows_rise, one_context_for_each_seq, only_the_last_is_writing, tags_are_of_the_begin,
-    tags_never_fall, writers_share_a_context, writers_share_a_tag,
+    tags_never_fall, told_parents_are_known, writers_share_a_context, writers_share_a_tag,
     writing_while_an_older_writer_lives,
 };

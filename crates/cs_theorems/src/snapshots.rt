@@ -3,10 +3,11 @@ ghost use Rattle.std.specs.Prelude.{ℕ, List, ◌++◌};
 ghost use Rattle.cs_laws.specs.declared.events.Event.{Event};
 ghost use Rattle.cs_laws.specs.Journal.{journal};
 ghost use Rattle.cs_theorems.specs.Contexts.{ContextsNeverFall, OneContextForEachSeq};
+ghost use Rattle.cs_theorems.specs.Realms.{NextTellsKnownParents};
 ghost use Rattle.cs_theorems.specs.Snapshots.{FinishedSnapsAreNotWritten, FinishedSnapsKeepTheirWrites, OnlyTheLastIsWriting, QueuesRise, TagsAreOfTheBegin, TagsNeverFall, WritersShareAContext, WritersShareATag, WritingWhileOlder};
 
-/// A file's context changes only where the client is told of a snapshot. Its seq rises then, to the
-/// snapshot's number.
+/// The context of a file that the client knows changes only where the client is told of a snapshot or
+/// a removal. There it stays, or its seq rises to that number.
 pub fn contexts_never_fall()
     ensures { (pages : ℕ) (es : List Event) → ContextsNeverFall (journal pages es) }
 {}
@@ -14,6 +15,12 @@ pub fn contexts_never_fall()
 /// Two contexts that a file had, each after some part of the journal, are the same if their seqs are.
 pub fn one_context_for_each_seq()
     ensures { (pages : ℕ) (es : List Event) → OneContextForEachSeq (journal pages es) }
+{}
+
+/// Each realm record that the client is told names a parent that the client knows when its turn comes,
+/// or none.
+pub fn told_parents_are_known()
+    ensures { (pages : ℕ) (es : List Event) → NextTellsKnownParents (journal pages es) }
 {}
 
 /// Each live reference's tag is the seq of the context that its file had when it began.

@@ -10,14 +10,14 @@ use Rattle.std.specs.BTreeMap.{get}
 use Rattle.std.specs.Option.{option_map, option_map_or}
 use Rattle.cs_parts.specs.declared.references.Live.{Live}
 use Rattle.cs_refs.specs.Table.{writers_of}
-use Rattle.cs_snapctx.specs.Context.{Context}
+use Rattle.cs_snapctx.specs.declared.realm.RealmRecord.{RealmRecord}
 use Rattle.cs_laws.specs.CapSnaps.{has_writer}
 use Rattle.cs_theorems.specs.References.{IsEachOnce}
 use Rattle.cs_theorems.proofs.Listed.{Member, member_right}
 use Rattle.cs_theorems.proofs.QueueAnswers.{count_none}
 use Rattle.cs_theorems.proofs.Tests.{any_some}
 use Rattle.cs_world.specs.declared.state.FileState.{FileState}
-use Rattle.cs_world.specs.Changed.{Changes, ChangesAll, changed_row, count_changed, is_among, needs_at, needs_snap}
+use Rattle.cs_world.specs.Changed.{Changes, ChangesAll, count_changed, is_among, needs_at, needs_told, told_row}
 use Rattle.cs_world.specs.Tables.{Files}
 
 -- Lists of files
@@ -55,16 +55,16 @@ same_at : (b : Bool) (mid : Files) (f g : ℕ) → (f == g) ≡ b → get nat_cm
 same_at true mid f g t none = ap (λ k. get nat_cmp mid k) (sym (eqb-true f g t)) ∙ none
 same_at false mid f g t none = refl
 
-changed_at : (is_other writes : Bool) (ctx : Context) (mid new : Files) (f : ℕ) (needed : Bool) (o : Option FileState) → get nat_cmp mid f ≡ o
-    → Changes is_other writes ctx mid new f needed o → (g : ℕ)
-    → get nat_cmp new g ≡ cond (f == g) (option_map (changed_row is_other writes ctx) o) (get nat_cmp mid g)
-changed_at is_other writes ctx mid new f needed None is c g = c.1 g ∙ same_at (f == g) mid f g refl is
-changed_at is_other writes ctx mid new f needed (Some r) is c g = c.1 g
+changed_at : (up : ℕ → List ℕ) (ts : List RealmRecord) (writes : Bool) (mid new : Files) (f : ℕ) (needed : Bool) (o : Option FileState) → get nat_cmp mid f ≡ o
+    → Changes up ts writes mid new f needed o → (g : ℕ)
+    → get nat_cmp new g ≡ cond (f == g) (option_map (told_row up ts writes) o) (get nat_cmp mid g)
+changed_at up ts writes mid new f needed None is c g = c.1 g ∙ same_at (f == g) mid f g refl is
+changed_at up ts writes mid new f needed (Some r) is c g = c.1 g
 
-needed_at : (is_other writes : Bool) (ctx : Context) (mid new : Files) (f : ℕ) (needed : Bool) (o : Option FileState)
-    → Changes is_other writes ctx mid new f needed o → needed ≡ option_map_or (needs_snap is_other writes) o false
-needed_at is_other writes ctx mid new f needed None c = c.0
-needed_at is_other writes ctx mid new f needed (Some r) c = c.0
+needed_at : (up : ℕ → List ℕ) (ts : List RealmRecord) (writes : Bool) (mid new : Files) (f : ℕ) (needed : Bool) (o : Option FileState)
+    → Changes up ts writes mid new f needed o → needed ≡ option_map_or (needs_told up ts writes) o false
+needed_at up ts writes mid new f needed None c = c.0
+needed_at up ts writes mid new f needed (Some r) c = c.0
 
 -- here, at an equal file; was: the file was among those before
 one_row : (b was : Bool) (F : ℕ → FileState → FileState) (old : Files) (f g : ℕ) → (f == g) ≡ b
@@ -76,24 +76,24 @@ one_row false true F old f g t = refl
 one_row false false F old f g t = refl
 
 -- The row of one more file is changed: fs are those before it
-pub record ChangesNext (is_other : Bool) (rs : List Live) (ctx : Context) (old mid new : Files) (fs : List ℕ) (f : ℕ) (needed : Bool) : Type 0 where
-  pub rows : ChangesAll is_other rs ctx old mid fs
-  pub next : Changes is_other (has_writer f rs) ctx mid new f needed (get nat_cmp mid f)
+pub record ChangesNext (up : ℕ → List ℕ) (ts : List RealmRecord) (rs : List Live) (old mid new : Files) (fs : List ℕ) (f : ℕ) (needed : Bool) : Type 0 where
+  pub rows : ChangesAll up ts rs old mid fs
+  pub next : Changes up ts (has_writer f rs) mid new f needed (get nat_cmp mid f)
   pub absent : Member f fs → ⊥
 
-same_before : (is_other : Bool) (rs : List Live) (ctx : Context) (old mid new : Files) (fs : List ℕ) (f : ℕ) (needed : Bool)
-    → ChangesNext is_other rs ctx old mid new fs f needed → get nat_cmp mid f ≡ get nat_cmp old f
-same_before is_other rs ctx old mid new fs f needed i =
+same_before : (up : ℕ → List ℕ) (ts : List RealmRecord) (rs : List Live) (old mid new : Files) (fs : List ℕ) (f : ℕ) (needed : Bool)
+    → ChangesNext up ts rs old mid new fs f needed → get nat_cmp mid f ≡ get nat_cmp old f
+same_before up ts rs old mid new fs f needed i =
     let outside : is_among f fs ≡ false = not_among f fs i.absent in
     rw outside at (i.rows f)
 
-pub next_rows : (is_other : Bool) (rs : List Live) (ctx : Context) (old mid new : Files) (fs : List ℕ) (f : ℕ) (needed : Bool)
-    → ChangesNext is_other rs ctx old mid new fs f needed → ChangesAll is_other rs ctx old new (fs ++ f ∷ [])
-next_rows is_other rs ctx old mid new fs f needed i = λ g.
-    let F : ℕ → FileState → FileState = λ k. changed_row is_other (has_writer k rs) ctx in
-    let before : get nat_cmp mid f ≡ get nat_cmp old f = same_before is_other rs ctx old mid new fs f needed i in
+pub next_rows : (up : ℕ → List ℕ) (ts : List RealmRecord) (rs : List Live) (old mid new : Files) (fs : List ℕ) (f : ℕ) (needed : Bool)
+    → ChangesNext up ts rs old mid new fs f needed → ChangesAll up ts rs old new (fs ++ f ∷ [])
+next_rows up ts rs old mid new fs f needed i = λ g.
+    let F : ℕ → FileState → FileState = λ k. told_row up ts (has_writer k rs) in
+    let before : get nat_cmp mid f ≡ get nat_cmp old f = same_before up ts rs old mid new fs f needed i in
     let now : get nat_cmp new g ≡ cond (f == g) (option_map (F f) (get nat_cmp mid f)) (get nat_cmp mid g) =
-    changed_at is_other (has_writer f rs) ctx mid new f needed (get nat_cmp mid f) refl i.next g in
+    changed_at up ts (has_writer f rs) mid new f needed (get nat_cmp mid f) refl i.next g in
     now
     ∙ (ap (λ o. cond (f == g) (option_map (F f) o) (get nat_cmp mid g)) before
     ∙ (ap (λ o. cond (f == g) (option_map (F f) (get nat_cmp old f)) o) (i.rows g)
@@ -102,28 +102,28 @@ next_rows is_other rs ctx old mid new fs f needed i = λ g.
 
 -- Their count
 
-count_append : (is_other : Bool) (rs : List Live) (old : Files) (fs : List ℕ) (f : ℕ)
-    → count_changed is_other rs old (fs ++ f ∷ []) ≡ count_changed is_other rs old fs + cond (needs_at is_other rs old f) 1 0
-count_append is_other rs old [] f = omega arith
-count_append is_other rs old (x ∷ xs) f = omega (arith, count_append is_other rs old xs f)
+count_append : (up : ℕ → List ℕ) (ts : List RealmRecord) (rs : List Live) (old : Files) (fs : List ℕ) (f : ℕ)
+    → count_changed up ts rs old (fs ++ f ∷ []) ≡ count_changed up ts rs old fs + cond (needs_at up ts rs old f) 1 0
+count_append up ts rs old [] f = omega arith
+count_append up ts rs old (x ∷ xs) f = omega (arith, count_append up ts rs old xs f)
 
 at_most_one : (b : Bool) (m n : ℕ) → m ≤ n → cond b 1 0 + m ≤ suc n
 at_most_one true m n small = omega arith
 at_most_one false m n small = omega arith
 
-pub count_small : (is_other : Bool) (rs : List Live) (old : Files) (fs : List ℕ) → count_changed is_other rs old fs ≤ length fs
-count_small is_other rs old [] = omega arith
-count_small is_other rs old (f ∷ fs) = at_most_one (needs_at is_other rs old f) (count_changed is_other rs old fs) (length fs) (count_small is_other rs old fs)
+pub count_small : (up : ℕ → List ℕ) (ts : List RealmRecord) (rs : List Live) (old : Files) (fs : List ℕ) → count_changed up ts rs old fs ≤ length fs
+count_small up ts rs old [] = omega arith
+count_small up ts rs old (f ∷ fs) = at_most_one (needs_at up ts rs old f) (count_changed up ts rs old fs) (length fs) (count_small up ts rs old fs)
 
-pub next_count : (is_other : Bool) (rs : List Live) (ctx : Context) (old mid new : Files) (fs : List ℕ) (f : ℕ) (needed : Bool) (count : ℕ)
-    → ChangesNext is_other rs ctx old mid new fs f needed → count ≡ count_changed is_other rs old fs
-    → count + cond needed 1 0 ≡ count_changed is_other rs old (fs ++ f ∷ [])
-next_count is_other rs ctx old mid new fs f needed count i is =
-    let before : get nat_cmp mid f ≡ get nat_cmp old f = same_before is_other rs ctx old mid new fs f needed i in
-    let need : needed ≡ needs_at is_other rs old f =
-    needed_at is_other (has_writer f rs) ctx mid new f needed (get nat_cmp mid f) i.next
-    ∙ ap (λ o. option_map_or (needs_snap is_other (has_writer f rs)) o false) before in
-    rw (is, need) (sym (count_append is_other rs old fs f))
+pub next_count : (up : ℕ → List ℕ) (ts : List RealmRecord) (rs : List Live) (old mid new : Files) (fs : List ℕ) (f : ℕ) (needed : Bool) (count : ℕ)
+    → ChangesNext up ts rs old mid new fs f needed → count ≡ count_changed up ts rs old fs
+    → count + cond needed 1 0 ≡ count_changed up ts rs old (fs ++ f ∷ [])
+next_count up ts rs old mid new fs f needed count i is =
+    let before : get nat_cmp mid f ≡ get nat_cmp old f = same_before up ts rs old mid new fs f needed i in
+    let need : needed ≡ needs_at up ts rs old f =
+    needed_at up ts (has_writer f rs) mid new f needed (get nat_cmp mid f) i.next
+    ∙ ap (λ o. option_map_or (needs_told up ts (has_writer f rs)) o false) before in
+    rw (is, need) (sym (count_append up ts rs old fs f))
 
 -- Whether a file has a writer is told by how many it has
 

@@ -4,18 +4,18 @@ use Rattle.std.specs.Ordering.{nat_cmp}
 use Rattle.std.specs.BTreeMap.{get}
 use Rattle.cs_laws.specs.declared.answers.Entry.{Entry}
 use Rattle.cs_snapctx.specs.declared.realm.RealmRecord.{RealmRecord}
-use Rattle.cs_snapctx.specs.Context.{Context}
 use Rattle.cs_laws.specs.declared.messages.Message.{Message}
 use Rattle.cs_laws.specs.declared.messages.Message.TheVariants as messages
-use Rattle.cs_laws.specs.Context.{empty_root, last_record, root_context}
 use Rattle.cs_laws.specs.Events.{setup_file}
-use Rattle.cs_laws.specs.History.{root, to_client, to_server}
+use Rattle.cs_laws.specs.History.{realms, to_client, to_server}
+use Rattle.cs_theorems.specs.Realms.{ParentsAreKnown, TellsKnownParents}
 use Rattle.cs_theorems.specs.Runs.{IsRun}
+use Rattle.cs_theorems.proofs.Applying.{run_tells_known}
 use Rattle.cs_theorems.specs.Underway.{IsToldClient, IsToldServer}
 use Rattle.cs_theorems.proofs.Listed.{Member}
 use Rattle.cs_theorems.proofs.Underway.{told_known, received_known}
 use Rattle.cs_world.specs.declared.state.State.{State}
-use Rattle.cs_world.specs.Delivered.{IsFirst, TellsContext}
+use Rattle.cs_world.specs.Delivered.{IsFirst}
 use Rattle.cs_world.specs.Tables.{Refines}
 use Rattle.cs_world.proofs.Rows.{row_unknown}
 
@@ -38,20 +38,11 @@ first_received p h m run is = received_known p h run m (first_member m (to_serve
 pub never_absent : (h : List Entry) (s : State) (f : ℕ) → Refines h s → setup_file h f ≡ true → get nat_cmp s.files f ≡ None → ⊥
 never_absent h s f t known absent = let unknown : setup_file h f ≡ false = row_unknown h s f t absent in cc
 
--- The one record that comes with a snapshot
-
-pub told_alone : (p : ℕ) (h : List Entry) (number realm : ℕ) (realms : List RealmRecord) → IsRun p h
-    → IsFirst (messages.Snap number realm realms) (to_client h) → length realms ≡ 1
-told_alone p h number realm realms run is = ap length (first_told p h (messages.Snap number realm realms) run is).1.alone
-
-same_last : (realms : List RealmRecord) (r a b : RealmRecord) → realms ≡ r ∷ [] → last_record realms a ≡ last_record realms b
-same_last realms r a b alone = rw alone refl
-
-pub told_last : (p : ℕ) (h : List Entry) (number realm : ℕ) (realms : List RealmRecord) (context : Context) → IsRun p h
-    → IsFirst (messages.Snap number realm realms) (to_client h) → context ≡ root_context (last_record realms empty_root) → TellsContext h number realm context
-told_last p h number realm realms context run is after =
-    let alone = (first_told p h (messages.Snap number realm realms) run is).1 in
-    record { realms = realms; first = is; after = after ∙ ap root_context (same_last realms alone.root empty_root (root h) alone.alone) }
+-- The realm records that come with a snapshot or a removal name parents that are known.
+pub told_parents : (p : ℕ) (h : List Entry) (number realm : ℕ) (told : List RealmRecord) → IsRun p h → IsFirst (messages.Snap number realm told) (to_client h)
+    → ParentsAreKnown (realms h) told
+told_parents p h number realm told run is =
+    subst (λ q. TellsKnownParents (realms h) q) (first_of (messages.Snap number realm told) (to_client h) is) (run_tells_known p h run)
 
 -- what stands in front of a list of messages
 pub front_is : (m : Message) (items q : List Message) → 0 < length items → m ≡ slice_index_or items 0 m → items ≡ q → IsFirst m q

@@ -10,12 +10,13 @@ pub mod Finished
 pub mod Flushed
 pub mod Fronts
 pub mod Kept
-pub mod Logs
+pub mod Nearest
 pub mod NewFiles
 pub mod Pieces
 pub mod Reading
 pub mod Received
 pub mod Rows
 pub mod Showing
+pub mod TakenIn
 pub mod ToldAt
 pub mod Written

@@ -11,7 +11,7 @@ use Rattle.cs_laws.specs.declared.objects.ObjOp.{ObjOp}
 use Rattle.cs_laws.specs.Answers.{bytes_from}
 use Rattle.cs_laws.specs.Objects.{object_byte}
 use Rattle.cs_world.specs.Shown.{file_byte}
-use Rattle.cs_world.proofs.Pieces.{covers_up, in_object}
+use Rattle.cs_world.proofs.Pieces.{in_object}
 
 pub length_bytes : (b : ℕ → ℕ) (off n : ℕ) → length (bytes_from b off n) ≡ n
 length_bytes b off zero = refl
@@ -90,11 +90,6 @@ all_left off count ps cuts =
 pub left_fits : (off count got : ℕ) (p : Piece) (ps : List Piece) → AreLeft off count got (p ∷ ps) → p.obj_off + p.len ≤ 65536
 left_fits off count got p ps left =
     in_object p (All-head HasPlaces p ps left.placed) (All-head (LiesInOne OBJECT_SIZE) p ps left.within)
-
--- and in the range
-pub left_low : (off count got : ℕ) (p : Piece) (ps : List Piece) → AreLeft off count got (p ∷ ps) → got + p.len ≤ count
-left_low off count got p ps left =
-    omega (arith, left.covered.0, covers_up (end_of p) (off + count) ps left.covered.1)
 
 -- one piece less
 pub left_next : (off count got : ℕ) (p : Piece) (ps : List Piece) → AreLeft off count got (p ∷ ps) → AreLeft off count (got + p.len) ps

@@ -1,8 +1,9 @@
 -- What is shown of a file, by the tables and by the store.
-use Rattle.std.proofs.Common.{◌≡◌, ◌∙◌, refl, sym, ap, ℕ, zero, suc, ◌+◌, ◌<◌, ◌≤◌, ◌&&◌, Bool, true, false, List, ◌∷◌, nat_lt, nat_le, cond, Some, arith}
+use Rattle.std.proofs.Common.{◌≡◌, ◌∙◌, refl, sym, ap, ℕ, zero, suc, ◌+◌, ◌<◌, ◌≤◌, ◌&&◌, Bool, true, false, List, ◌∷◌, nat_lt, nat_le, cond, Option, Some, None, is_some, ◌==◌, ◌++◌, arith}
 use Rattle.std.specs.Ordering.{nat_cmp}
 use Rattle.std.specs.BTreeMap.{get}
-use Rattle.std.proofs.lemmas.Bool.{and_parts, leb-true, ltb-true}
+use Rattle.std.proofs.lemmas.Bool.{and_parts, cond-false, cond-true, cond_both, leb-true, ltb-true}
+use Rattle.std.specs.List.{list_any}
 use Rattle.cs_ids.specs.declared.objects.FileMeta.{FileMeta}
 use Rattle.cs_laws.specs.declared.events.Event.TheVariants as events
 use Rattle.cs_laws.specs.declared.answers.Answer.{Answer}
@@ -11,47 +12,41 @@ use Rattle.cs_laws.specs.declared.answers.Entry.{Entry}
 use Rattle.cs_laws.specs.declared.objects.At.{At}
 use Rattle.cs_laws.specs.declared.objects.At.TheVariants as at
 use Rattle.cs_laws.specs.declared.objects.ObjOp.{ObjOp}
-use Rattle.cs_laws.specs.Answers.{answer_show, bytes_from, shown, stands}
+use Rattle.cs_laws.specs.Answers.{answer_show, bytes_from, covers_file, is_gone, shown, standing_context, stands}
 use Rattle.cs_laws.specs.Events.{setup_file}
-use Rattle.cs_laws.specs.Fits.{greatest_end, is_shown, most_shown}
+use Rattle.cs_laws.specs.Fits.{greatest_end, is_shown, is_state, most_shown}
 use Rattle.cs_laws.specs.History.{context, live, stand, writes}
 use Rattle.cs_laws.specs.Image as images
 use Rattle.cs_laws.specs.Metadata.{meta_at}
 use Rattle.cs_laws.specs.Operations.{applied}
 use Rattle.cs_laws.specs.Owed.{owed}
 use Rattle.cs_laws.specs.Shown.{writes_at}
-use Rattle.cs_laws.specs.Standing.{greatest_snap}
+use Rattle.cs_laws.specs.Standing.{dir_of, is_removed}
+use Rattle.cs_laws.specs.Tree.{file_path, home}
+use Rattle.cs_tree.specs.Directories.{path_of}
+use Rattle.cs_records.specs.Records.{all}
 use Rattle.cs_theorems.specs.Runs.{IsRun}
 use Rattle.cs_theorems.proofs.Agreeing.{run_holds}
 use Rattle.cs_theorems.proofs.Ends.{states_end}
 use Rattle.cs_theorems.proofs.Owing.{owed_head, owed_snap}
 use Rattle.cs_theorems.proofs.Recorded.{told_stands}
 use Rattle.cs_theorems.proofs.Sizes.{meta_is}
-use Rattle.cs_theorems.proofs.SnapNumbers.{snap_numbers}
+use Rattle.cs_theorems.proofs.Covering.{covers_by, stands_dir}
 use Rattle.cs_theorems.proofs.Told.{last_told_is}
 use Rattle.cs_theorems.specs.Recorded.{told}
 use Rattle.cs_theorems.specs.Told.{last_told}
 use Rattle.cs_world.specs.declared.state.State.{State}
 use Rattle.cs_world.specs.declared.state.FileState.{FileState}
-use Rattle.cs_world.specs.Records.{all, is_drawn}
+use Rattle.cs_world.specs.declared.shows.Standing.{Standing}
+use Rattle.cs_world.specs.declared.shows.Standing.TheVariants as standing
 use Rattle.cs_world.specs.Storing.{calls_store}
-use Rattle.cs_world.specs.Shown.{file_byte, is_owed, shown_count}
+use Rattle.cs_world.specs.Shown.{file_byte, is_owed, shown_count, standing_in, standing_of}
 use Rattle.cs_world.specs.Tables.{Refines, row}
 use Rattle.cs_world.proofs.Rows.{row_is, row_known}
 
--- A number that was drawn stands
-
-numbers : (b : Bool) (p : ℕ) (h : List Entry) (s : ℕ) → nat_le 1 s ≡ b → IsRun p h → (b && nat_le s (greatest_snap (stand h))) ≡ stands (at.Snap s) (stand h)
-numbers true p h s low run = sym (snap_numbers p h run s (leb-true 1 s low))
-numbers false p h s low run = rw low refl
-
-pub drawn_stands : (p : ℕ) (h : List Entry) (a : At) → IsRun p h → is_drawn a (greatest_snap (stand h)) ≡ stands a (stand h)
-drawn_stands p h at.Head run = refl
-drawn_stands p h (at.Snap s) run = numbers (nat_le 1 s) p h s refl run
-
 -- The tables tell what is owed, and the metadata
 
-pub owed_is : (p : ℕ) (h : List Entry) (f : ℕ) (a : At) → IsRun p h → setup_file h f ≡ true → is_owed (row h f) (context h f) (live h) f a ≡ owed h f a
+pub owed_is : (p : ℕ) (h : List Entry) (f : ℕ) (a : At) → IsRun p h → setup_file h f ≡ true → is_owed (row h f) (live h) f a ≡ owed h f a
 owed_is p h f at.Head run known = sym (owed_head p h run f known)
 owed_is p h f (at.Snap s) run known = sym (owed_snap p h run f s known)
 
@@ -68,38 +63,83 @@ pub stored_bytes : (p : ℕ) (h : List Entry) (f : ℕ) (a : At) (ops : List Obj
     → bytes_from (file_byte a f ops) off n ≡ bytes_from (images.image (writes_at a (writes h f))) off n
 stored_bytes p h f a ops off n run is = rw is (bytes_alike (file_byte a f (applied h)) (images.image (writes_at a (writes h f))) off n (λ i. run_holds p h run a f i))
 
-tests_pass : (k s o : Bool) (x : Answer) → k ≡ true → s ≡ true → o ≡ false → cond k (cond s (cond o answers.Pending x) answers.NoSnap) answers.Unknown ≡ x
-tests_pass k s o x known there free = rw (known, there, free) refl
+-- Whether the server has the state
 
-test_owed : (k s o : Bool) (x : Answer) → k ≡ true → s ≡ true → o ≡ true
-    → cond k (cond s (cond o answers.Pending x) answers.NoSnap) answers.Unknown ≡ answers.Pending
-test_owed k s o x known there owes = rw (known, there, owes) refl
+-- the answer where it doesn't, and where it does
+abbrev pub by_standing : Standing → Answer → Answer
+by_standing standing.There x = x
+by_standing standing.Absent x = answers.NoSnap
+by_standing standing.Gone x = answers.Gone
 
-test_stands : (k s : Bool) (x : Answer) → k ≡ true → s ≡ false → cond k (cond s x answers.NoSnap) answers.Unknown ≡ answers.NoSnap
-test_stands k s x known none = rw (known, none) refl
+standing_snap : (p : ℕ) (h : List Entry) (f s : ℕ) (x : Answer) (o : Option ℕ) → IsRun p h → 1 ≤ s → dir_of s (stand h) ≡ o
+    → cond (stands (at.Snap s) (stand h)) (cond (is_gone (at.Snap s) (stand h)) answers.Gone (cond (covers_file (at.Snap s) (standing_context h f)) x answers.NoSnap)) answers.NoSnap
+    ≡ by_standing (standing_in (stand h) (file_path h f) s o) x
+standing_snap p h f s x None run low is =
+    cond-false (stands (at.Snap s) (stand h)) _ answers.NoSnap (stands_dir s (stand h) ∙ ap is_some is)
+standing_snap p h f s x (Some e) run low is =
+    cond-true (stands (at.Snap s) (stand h)) _ answers.NoSnap (stands_dir s (stand h) ∙ ap is_some is) ∙ by_removal (is_removed s (stand h)) refl
+  where
+    by_removal : (b : Bool) → is_removed s (stand h) ≡ b
+        → cond b answers.Gone (cond (covers_file (at.Snap s) (standing_context h f)) x answers.NoSnap)
+        ≡ by_standing (cond b standing.Gone (cond (list_any (λ d. d == e) (file_path h f)) standing.There standing.Absent)) x
+    by_removal true gone = refl
+    by_removal false stays =
+        ap (λ c. cond c x answers.NoSnap) (covers_by p h f s e run low is stays)
+        ∙ cond_both (list_any (λ d. d == e) (file_path h f)) standing.There standing.Absent (λ t. cond (list_any (λ d. d == e) (file_path h f)) x answers.NoSnap ≡ by_standing t x)
+        (λ yes_it. cond-true _ x answers.NoSnap yes_it) (λ no_it. cond-false _ x answers.NoSnap no_it)
 
-pub shown_is : (h : List Entry) (f : ℕ) (a : At) (off len : ℕ) (meta : FileMeta) (bytes : List ℕ) → setup_file h f ≡ true → stands a (stand h) ≡ true
-    → owed h f a ≡ false → meta ≡ meta_at f a (stand h)
+-- the answer where the server has the state
+abbrev answer_there : List Entry → ℕ → At → ℕ → ℕ → Answer
+answer_there h f a off len = cond (owed h f a) answers.Pending (shown (meta_at f a (stand h)) (writes_at a (writes h f)) off len)
+
+-- the answer to a show of a file that is known
+pub show_is : (p : ℕ) (h : List Entry) (f : ℕ) (a : At) (off len : ℕ) → IsRun p h → setup_file h f ≡ true → is_state a ≡ true
+    → answer_show h f a off len
+    ≡ by_standing (standing_of (stand h) (file_path h f) a) (answer_there h f a off len)
+show_is p h f at.Head off len run known state = cond-true (setup_file h f) _ answers.Unknown known
+show_is p h f (at.Snap s) off len run known state =
+    cond-true (setup_file h f) _ answers.Unknown known ∙ standing_snap p h f s _ (dir_of s (stand h)) run (leb-true 1 s state) refl
+
+-- The same of the tables
+
+pub table_standing : (h : List Entry) (s : State) (f : ℕ) (a : At) (r : FileState) (now : Standing) → Refines h s → get nat_cmp s.files f ≡ Some r
+    → now ≡ standing_of (all s.records) (path_of s.directories r.home) a → now ≡ standing_of (stand h) (file_path h f) a
+table_standing h s f a r now t has is =
+    let same : all s.records ≡ stand h = λ i. t.durable i ++ t.fresh i in
+    is
+    ∙ (ap (λ x. standing_of (all s.records) (path_of s.directories x.home) a) (row_is h s f r t has)
+    ∙ ((λ i. standing_of (same i) (t.tree.paths (home h f) i) a)))
+
+pub pending_is : (p : ℕ) (h : List Entry) (f : ℕ) (a : At) (off len : ℕ) → IsRun p h → setup_file h f ≡ true → is_state a ≡ true
+    → standing.There ≡ standing_of (stand h) (file_path h f) a → owed h f a ≡ true → answers.Pending ≡ answer_show h f a off len
+pending_is p h f a off len run known state there owes =
+    sym (show_is p h f a off len run known state ∙ (ap (λ t. by_standing t (answer_there h f a off len)) (sym there) ∙ cond-true (owed h f a) answers.Pending _ owes))
+
+shows_it : (p : ℕ) (h : List Entry) (f : ℕ) (a : At) (off len : ℕ) → IsRun p h → setup_file h f ≡ true → is_state a ≡ true
+    → standing.There ≡ standing_of (stand h) (file_path h f) a → owed h f a ≡ false → answer_show h f a off len ≡ shown (meta_at f a (stand h)) (writes_at a (writes h f)) off len
+shows_it p h f a off len run known state there free =
+    show_is p h f a off len run known state ∙ (ap (λ t. by_standing t (answer_there h f a off len)) (sym there) ∙ cond-false (owed h f a) answers.Pending _ free)
+
+pub shown_is : (p : ℕ) (h : List Entry) (f : ℕ) (a : At) (off len : ℕ) (meta : FileMeta) (bytes : List ℕ) → IsRun p h → setup_file h f ≡ true → is_state a ≡ true
+    → standing.There ≡ standing_of (stand h) (file_path h f) a → owed h f a ≡ false → meta ≡ meta_at f a (stand h)
     → bytes ≡ bytes_from (images.image (writes_at a (writes h f))) off (shown_count meta.size off len) → answers.Size meta bytes ≡ answer_show h f a off len
-shown_is h f a off len meta bytes known there free is held =
+shown_is p h f a off len meta bytes run known state there free is held =
     let now : answers.Size meta bytes ≡ shown (meta_at f a (stand h)) (writes_at a (writes h f)) off len = rw (held, is) refl in
-    now ∙ sym (tests_pass (setup_file h f) (stands a (stand h)) (owed h f a) (shown (meta_at f a (stand h)) (writes_at a (writes h f)) off len) known there free)
+    now ∙ sym (shows_it p h f a off len run known state there free)
 
-pub pending_is : (h : List Entry) (f : ℕ) (a : At) (off len : ℕ) → setup_file h f ≡ true → stands a (stand h) ≡ true → owed h f a ≡ true
-    → answers.Pending ≡ answer_show h f a off len
-pending_is h f a off len known there owes =
-    sym (test_owed (setup_file h f) (stands a (stand h)) (owed h f a) (shown (meta_at f a (stand h)) (writes_at a (writes h f)) off len) known there owes)
+pub absent_is : (p : ℕ) (h : List Entry) (f : ℕ) (a : At) (off len : ℕ) → IsRun p h → setup_file h f ≡ true → is_state a ≡ true
+    → standing.Absent ≡ standing_of (stand h) (file_path h f) a → answers.NoSnap ≡ answer_show h f a off len
+absent_is p h f a off len run known state none = sym (show_is p h f a off len run known state ∙ ap (λ t. by_standing t (answer_there h f a off len)) (sym none))
 
-pub no_snap_is : (h : List Entry) (f : ℕ) (a : At) (off len : ℕ) → setup_file h f ≡ true → stands a (stand h) ≡ false → answers.NoSnap ≡ answer_show h f a off len
-no_snap_is h f a off len known none =
-    sym (test_stands (setup_file h f) (stands a (stand h)) (cond (owed h f a) answers.Pending (shown (meta_at f a (stand h)) (writes_at a (writes h f)) off len)) known none)
+pub gone_is : (p : ℕ) (h : List Entry) (f : ℕ) (a : At) (off len : ℕ) → IsRun p h → setup_file h f ≡ true → is_state a ≡ true
+    → standing.Gone ≡ standing_of (stand h) (file_path h f) a → answers.Gone ≡ answer_show h f a off len
+gone_is p h f a off len run known state gone = sym (show_is p h f a off len run known state ∙ ap (λ t. by_standing t (answer_there h f a off len)) (sym gone))
 
 -- it reads the store
-pub reads_store : (h : List Entry) (f : ℕ) (a : At) (off len : ℕ) → setup_file h f ≡ true → stands a (stand h) ≡ true → owed h f a ≡ false
-    → calls_store (events.Show f a off len) (answer_show h f a off len) ≡ true
-reads_store h f a off len known there free =
-    ap (λ y. calls_store (events.Show f a off len) y)
-    (tests_pass (setup_file h f) (stands a (stand h)) (owed h f a) (shown (meta_at f a (stand h)) (writes_at a (writes h f)) off len) known there free)
+pub reads_store : (p : ℕ) (h : List Entry) (f : ℕ) (a : At) (off len : ℕ) → IsRun p h → setup_file h f ≡ true → is_state a ≡ true
+    → standing.There ≡ standing_of (stand h) (file_path h f) a → owed h f a ≡ false → calls_store (events.Show f a off len) (answer_show h f a off len) ≡ true
+reads_store p h f a off len run known state there free =
+    ap (λ y. calls_store (events.Show f a off len) y) (shows_it p h f a off len run known state there free)
 
 -- What is asked of the store lies in the file
 
@@ -121,16 +161,10 @@ meta_small p h f a run free = rw (meta_is p h run f a free) (states_end p h run 
 
 -- The same of the tables of a state
 
-pub standing : (h : List Entry) (s : State) (a : At) → Refines h s → IsRun s.pages h → (b : Bool) → is_drawn a (greatest_snap (all s.records)) ≡ b → stands a (stand h) ≡ b
-standing h s a t run b is =
-    let same : all s.records ≡ stand h = rw (t.durable, t.fresh) refl in
-    let drawn : is_drawn a (greatest_snap (stand h)) ≡ b = rw same at is in
-    sym (drawn_stands s.pages h a run) ∙ drawn
-
 pub owes : (h : List Entry) (s : State) (f : ℕ) (a : At) (r : FileState) → Refines h s → IsRun s.pages h → get nat_cmp s.files f ≡ Some r → (b : Bool)
-    → is_owed r s.context s.refs.live f a ≡ b → owed h f a ≡ b
+    → is_owed r s.refs.live f a ≡ b → owed h f a ≡ b
 owes h s f a r t run has b is =
-    let now : is_owed (row h f) (context h f) (live h) f a ≡ b = rw (row_is h s f r t has, t.context, t.live) at is in
+    let now : is_owed (row h f) (live h) f a ≡ b = rw (row_is h s f r t has, t.live) at is in
     sym (owed_is s.pages h f a run (row_known h s f r t has)) ∙ now
 
 pub told_meta : (h : List Entry) (s : State) (f : ℕ) (a : At) (r : FileState) (meta : FileMeta) → Refines h s → IsRun s.pages h → get nat_cmp s.files f ≡ Some r

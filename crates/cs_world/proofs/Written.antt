@@ -1,5 +1,5 @@
 -- What a write does to the tables.
-use Rattle.std.proofs.Common.{◌≡◌, ◌∙◌, refl, sym, subst, ℕ, ◌+◌, ◌<◌, ◌≤◌, ◌==◌, Bool, true, false, cond, List, [], ◌∷◌, length, Option, Some, None, inl, nat_lt, arith}
+use Rattle.std.proofs.Common.{◌≡◌, ◌∙◌, refl, sym, ap, subst, ℕ, ◌+◌, ◌<◌, ◌≤◌, ◌==◌, Bool, true, false, cond, List, [], ◌∷◌, length, Option, Some, None, inl, nat_lt, arith}
 use Rattle.std.proofs.lemmas.Bool.{eq-eqb, eqb-true}
 use Rattle.std.proofs.lemmas.Bool.Decides.{nat_tests}
 use Rattle.std.specs.Ordering.{nat_cmp}
@@ -17,7 +17,8 @@ use Rattle.cs_laws.specs.declared.answers.Entry.{Entry}
 use Rattle.cs_laws.specs.declared.objects.ObjOp.{ObjOp}
 use Rattle.cs_laws.specs.Answers.{may_write, answer_write}
 use Rattle.cs_laws.specs.Events.{setup_file, clock, mode}
-use Rattle.cs_laws.specs.History.{client, server, live, writes, dirty}
+use Rattle.cs_laws.specs.Tree.{home}
+use Rattle.cs_laws.specs.History.{client, context, server, live, writes, dirty}
 use Rattle.cs_laws.specs.Image.{Write}
 use Rattle.cs_laws.specs.Operations.{begun_under, operations, written_on, operations_drawn, applied}
 use Rattle.cs_laws.specs.References.{named}
@@ -56,19 +57,28 @@ row_is h s r t run lives =
     rw known at (t.rows r.file)
 
 -- a write is made under the context that its reference began under
-under_is : (h : List Entry) (s : State) (r : Live) → Refines h s → IsRun s.pages h → Member r (live h) → may_write r.bits ≡ true
-    → context_under s.context (get nat_cmp s.files r.file) ≡ begun_under h r.caller r.number
-under_is h s r t run lives may =
+under_is : (h : List Entry) (s : State) (r : Live) → IsRun s.pages h → Member r (live h) → may_write r.bits ≡ true
+    → context_under (row h r.file) ≡ begun_under h r.caller r.number
+under_is h s r run lives may =
     let writer : is_writer_of r.file r ≡ true = rw (eq-eqb r.file r.file refl, may) refl in
-    rw (row_is h s r t run lives, t.context) (sym (write_under s.pages h run r.file r lives writer))
+    sym (write_under s.pages h run r.file r lives writer)
+
+-- the table has the file of a live reference
+pub file_there : (h : List Entry) (s : State) (c : ℕ) (name : RefName) (r : Live) → Refines h s → IsRun s.pages h → named c name s.refs.live ≡ Some r
+    → get nat_cmp s.files r.file ≡ Some (row h r.file)
+file_there h s c name r t run found =
+    let here : named c name (live h) ≡ Some r = rw t.live at found in
+    row_is h s r t run (named_is c name r (live h) here).1
 
 pub brought_is : (h : List Entry) (s : State) (c : ℕ) (name : RefName) (off : ℕ) (bytes : List ℕ) (r : Live) (under : Context) → Refines h s → IsRun s.pages h
-    → named c name s.refs.live ≡ Some r → may_write r.bits ≡ true → under ≡ context_under s.context (get nat_cmp s.files r.file)
+    → named c name s.refs.live ≡ Some r → may_write r.bits ≡ true → (x : FileState) → get nat_cmp s.files r.file ≡ Some x → under ≡ context_under x
     → operations (s.operations + 1) r.file off bytes under (pieces_of OBJECT_SIZE off (length bytes))
     ≡ written_on (named c name (live h)) (λ q. begun_under h q.caller q.number) (operations_drawn h) off bytes
-brought_is h s c name off bytes r under t run found may is =
+brought_is h s c name off bytes r under t run found may x has is =
     let here : named c name (live h) ≡ Some r = rw t.live at found in
-    let began : under ≡ begun_under h r.caller r.number = is ∙ under_is h s r t run (named_is c name r (live h) here).1 may in
+    let both : Some x ≡ Some (row h r.file) = sym has ∙ file_there h s c name r t run found in
+    let same : x ≡ row h r.file = cc in
+    let began : under ≡ begun_under h r.caller r.number = is ∙ (ap context_under same ∙ under_is h s r run (named_is c name r (live h) here).1 may) in
     rw (here, began, t.operations) refl
 
 pub wrote_is : (h : List Entry) (s : State) (c : ℕ) (name : RefName) (off : ℕ) (bytes : List ℕ) (r : Live) → Refines h s
@@ -85,6 +95,8 @@ abbrev row_after : Bool → List Entry → Write → ℕ → FileState
 row_after b h w f = record {
   client = client h f;
   server = server h f;
+  home = home h f;
+  context = context h f;
   meta = written_meta (mode h f) (cond b (w ∷ writes h f) (writes h f));
   dirty = cond b (union (dirty h f) file_write) (dirty h f);
   snaps = snaps h f;
@@ -124,7 +136,8 @@ written_refines h s c name off bytes r files n t run found marks count =
       sent_to_client = t.sent_to_client;
       sent_to_server = t.sent_to_server;
       clock = t.clock;
-      context = t.context;
+      tree = t.tree;
+      realms = t.realms;
       live = t.live;
       operations = count ∙ rw t.operations refl;
       begun = t.begun;

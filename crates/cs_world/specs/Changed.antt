@@ -8,7 +8,9 @@ use Rattle.cs_bits.specs.Bits.{is_empty}
 use Rattle.cs_snapctx.specs.Context.{Context}
 use Rattle.cs_parts.specs.declared.references.Live.{Live}
 use Rattle.cs_capsnap.specs.CapSnaps.{finished, is_writing, queued, writing_context}
+use Rattle.cs_snapctx.specs.declared.realm.RealmRecord.{RealmRecord}
 use Rattle.cs_laws.specs.CapSnaps.{has_writer}
+use Rattle.cs_laws.specs.Context.{differs, path_context}
 use Rattle.cs_world.specs.declared.state.FileState.{FileState}
 use Rattle.cs_world.specs.Tables.{Files, PutsRow, SameRows}
 
@@ -19,14 +21,27 @@ abbrev pub needs_snap : Bool → Bool → FileState → Bool
 needs_snap is_other writes r = (is_other && not (is_writing r.snaps)) && (writes || not (is_empty r.dirty))
 
 -- its row afterwards
-abbrev pub changed_row : Bool → Bool → Context → FileState → FileState
-changed_row is_other writes old r =
-    if needs_snap is_other writes r then record r { snaps = r.snaps ++ queued old writes r.meta ∷ [] } else r
+abbrev pub changed_row : Bool → Context → FileState → FileState
+changed_row writes new r = record r {
+  context = new;
+  snaps = if needs_snap (differs r.context new) writes r then r.snaps ++ queued r.context writes r.meta ∷ [] else r.snaps;
+}
+
+-- The client is told of realms: up has the path of each directory, and ts are the realms' last records
+
+abbrev pub told_context : (ℕ → List ℕ) → List RealmRecord → FileState → Context
+told_context up ts r = path_context (up r.home) ts
+
+abbrev pub needs_told : (ℕ → List ℕ) → List RealmRecord → Bool → FileState → Bool
+needs_told up ts writes r = needs_snap (differs r.context (told_context up ts r)) writes r
+
+abbrev pub told_row : (ℕ → List ℕ) → List RealmRecord → Bool → FileState → FileState
+told_row up ts writes r = changed_row writes (told_context up ts r) r
 
 -- what this does to the table, if it has the file; needed: whether it got a cap snap
-abbrev pub Changes : Bool → Bool → Context → Files → Files → ℕ → Bool → Option FileState → Type 0
-Changes is_other writes ctx old new f needed None = (needed ≡ false) × SameRows old new
-Changes is_other writes ctx old new f needed (Some r) = (needed ≡ needs_snap is_other writes r) × PutsRow old new f (changed_row is_other writes ctx r)
+abbrev pub Changes : (ℕ → List ℕ) → List RealmRecord → Bool → Files → Files → ℕ → Bool → Option FileState → Type 0
+Changes up ts writes old new f needed None = (needed ≡ false) × SameRows old new
+Changes up ts writes old new f needed (Some r) = (needed ≡ needs_told up ts writes r) × PutsRow old new f (told_row up ts writes r)
 
 -- The contexts of several files
 
@@ -34,17 +49,17 @@ abbrev pub is_among : ℕ → List ℕ → Bool
 is_among g fs = list_any (λ f. f == g) fs
 
 -- the row of each of these files is changed, and no other
-abbrev pub ChangesAll : Bool → List Live → Context → Files → Files → List ℕ → Type 0
-ChangesAll is_other rs ctx old new fs =
-    (g : ℕ) → get nat_cmp new g ≡ (if is_among g fs then option_map (changed_row is_other (has_writer g rs) ctx) (get nat_cmp old g) else get nat_cmp old g)
+abbrev pub ChangesAll : (ℕ → List ℕ) → List RealmRecord → List Live → Files → Files → List ℕ → Type 0
+ChangesAll up ts rs old new fs =
+    (g : ℕ) → get nat_cmp new g ≡ (if is_among g fs then option_map (told_row up ts (has_writer g rs)) (get nat_cmp old g) else get nat_cmp old g)
 
-abbrev pub needs_at : Bool → List Live → Files → ℕ → Bool
-needs_at is_other rs old f = option_map_or (needs_snap is_other (has_writer f rs)) (get nat_cmp old f) false
+abbrev pub needs_at : (ℕ → List ℕ) → List RealmRecord → List Live → Files → ℕ → Bool
+needs_at up ts rs old f = option_map_or (needs_told up ts (has_writer f rs)) (get nat_cmp old f) false
 
 -- how many of these files get a cap snap
-abbrev pub count_changed : Bool → List Live → Files → List ℕ → ℕ
-count_changed is_other rs old [] = 0
-count_changed is_other rs old (f ∷ fs) = (if needs_at is_other rs old f then 1 else 0) + count_changed is_other rs old fs
+abbrev pub count_changed : (ℕ → List ℕ) → List RealmRecord → List Live → Files → List ℕ → ℕ
+count_changed up ts rs old [] = 0
+count_changed up ts rs old (f ∷ fs) = (if needs_at up ts rs old f then 1 else 0) + count_changed up ts rs old fs
 
 -- A reference to a file has ended
 
@@ -64,7 +79,6 @@ unwritten_row rs f g r =
 abbrev pub FinishesUnwritten : List Live → Files → Files → ℕ → Type 0
 FinishesUnwritten rs old new f = (g : ℕ) → get nat_cmp new g ≡ option_map (unwritten_row rs f g) (get nat_cmp old g)
 
--- the context that a write to a file is made under, which the table has or not
-abbrev pub context_under : Context → Option FileState → Context
-context_under present None = present
-context_under present (Some r) = unwrap_or (writing_context r.snaps) present
+-- the context that a write to a file is made under
+abbrev pub context_under : FileState → Context
+context_under r = unwrap_or (writing_context r.snaps) r.context

@@ -1,6 +1,6 @@
 pub mod Changed
+pub mod Contexts
 pub mod Delivered
-pub mod Records
 pub mod Seen
 pub mod Shown
 pub mod Storing

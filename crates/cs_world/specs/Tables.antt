@@ -1,5 +1,5 @@
 -- How the tables of a world stand for its history.
-use Rattle.std.specs.Prelude.{◌≡◌, ℕ, ◌<◌, List, [], ◌∷◌, if◌then◌else◌, Option, Some, None, reverse, length, ◌==◌, max}
+use Rattle.std.specs.Prelude.{◌≡◌, ℕ, ◌<◌, ◌||◌, Bool, is_some, List, [], ◌∷◌, if◌then◌else◌, Option, Some, None, reverse, length, ◌==◌, max}
 use Rattle.std.specs.Ordering.{nat_cmp}
 use Rattle.std.specs.BTreeMap.{get, BTreeMap}
 use Rattle.cs_ids.specs.declared.objects.FileMeta.{FileMeta}
@@ -14,8 +14,11 @@ use Rattle.cs_laws.specs.declared.answers.Answer.{Answer}
 use Rattle.cs_laws.specs.declared.answers.Entry.{Entry}
 use Rattle.cs_laws.specs.Answers.{answer}
 use Rattle.cs_laws.specs.Events.{setup_file, files, begun, clock, mode}
-use Rattle.cs_laws.specs.Context.{root_context}
-use Rattle.cs_laws.specs.History.{client, server, to_client, to_server, root, durable, fresh, live, writes, dirty, sent}
+use Rattle.cs_snapctx.specs.Context.{Context}
+use Rattle.cs_laws.specs.Tree.{directories, home, is_directory, path}
+use Rattle.cs_tree.specs.declared.directories.Directory.{Directory}
+use Rattle.cs_tree.specs.Directories.{has_directory, inos, path_of}
+use Rattle.cs_laws.specs.History.{client, context, server, to_client, to_server, realms, durable, fresh, live, writes, dirty, sent}
 use Rattle.cs_laws.specs.Operations.{operations_drawn}
 use Rattle.cs_refs.specs.Table.{begun_of}
 use Rattle.cs_theorems.specs.Queues.{snaps, written_meta}
@@ -33,15 +36,21 @@ abbrev pub meta : List Entry → ℕ → FileMeta
 meta h f = written_meta (mode h f) (writes h f)
 
 abbrev pub row : List Entry → ℕ → FileState
-row h f = record { client = client h f; server = server h f; meta = meta h f; dirty = dirty h f; snaps = snaps h f; told = told h f }
+row h f = record { client = client h f; server = server h f; home = home h f; context = context h f; meta = meta h f; dirty = dirty h f; snaps = snaps h f; told = told h f }
 
 -- the row of a file of which nothing was granted, and to which nothing was written
-abbrev pub new_row : FileState
-new_row = record { client = no_client_caps; server = no_server_caps; meta = record { size = 0; mtime = 0; mode = 420 }; dirty = no_caps; snaps = []; told = [] }
+abbrev pub new_row : ℕ → Context → FileState
+new_row d ctx = record { client = no_client_caps; server = no_server_caps; home = d; context = ctx; meta = record { size = 0; mtime = 0; mode = 420 }; dirty = no_caps; snaps = []; told = [] }
 
 -- what the table of files has at a file
 abbrev pub row_of : List Entry → ℕ → Option FileState
 row_of h f = if setup_file h f then Some (row h f) else None
+
+-- the table of directories has these directories, with these paths, in this order
+pub record IsTree (dir : ℕ → Bool) (up : ℕ → List ℕ) (listed : List ℕ) (ds : List Directory) : Type 0 where
+  pub known : (d : ℕ) → has_directory d ds ≡ dir d
+  pub paths : (d : ℕ) → path_of ds d ≡ up d
+  pub order : inos ds ≡ listed
 
 -- the tables are those of the history
 pub record Refines (h : List Entry) (s : State) : Type 0 where
@@ -50,7 +59,8 @@ pub record Refines (h : List Entry) (s : State) : Type 0 where
   pub sent_to_client : s.to_client.items ≡ to_client h
   pub sent_to_server : s.to_server.items ≡ to_server h
   pub clock : s.clock ≡ clock h
-  pub context : s.context ≡ root_context (root h)
+  pub tree : IsTree (λ d. is_directory h d) (λ d. path h d) (directories h) s.directories
+  pub realms : s.realms ≡ realms h
   pub live : s.refs.live ≡ live h
   pub operations : s.operations ≡ operations_drawn h
   pub begun : (c : ℕ) → begun_of c s.refs ≡ begun h c
@@ -104,6 +114,10 @@ CompletesIn old new f used None None = SameRows old new
 CompletesIn old new f used (Some d) (Some r) = (completion r.client (union used r.dirty) ≡ d) × CompletesBy old new f r d
 CompletesIn old new f used None (Some r) = ⊥
 CompletesIn old new f used (Some d) None = ⊥
+
+-- a directory or a file of the tables has the inode
+abbrev pub is_in_tables : ℕ → State → Bool
+is_in_tables i s = has_directory i s.directories || is_some (get nat_cmp s.files i)
 
 -- a row after a write up to an end, at a time
 abbrev pub written_row : FileState → ℕ → ℕ → FileState

@@ -1,12 +1,13 @@
 // The client's events: deliveries and checks.
-ghost use Rattle.std.specs.Prelude.{◌≡◌, length, IfOk, OnErr};
+ghost use Rattle.std.specs.Prelude.{◌≡◌, None, IfOk, OnErr, OnOk};
 ghost use Rattle.std.specs.BTreeMap.{get};
 ghost use Rattle.std.specs.Ordering.{nat_cmp};
 ghost use Rattle.cs_laws.specs.declared.events.Event.TheVariants as events;
 ghost use Rattle.cs_laws.specs.declared.messages.Message.TheVariants as messages;
-ghost use Rattle.cs_laws.specs.Context.{empty_root, last_record, root_context};
-ghost use Rattle.cs_laws.specs.History.{to_client};
-ghost use Rattle.cs_world.specs.Delivered.{IsFirst, TellsContext};
+ghost use Rattle.cs_snapctx.specs.Records.{missing_parent, with_record, with_records};
+ghost use Rattle.cs_laws.specs.History.{realms, to_client};
+ghost use Rattle.cs_theorems.specs.Realms.{ParentsAreKnown};
+ghost use Rattle.cs_world.specs.Delivered.{IsFirst, TellsRealms};
 ghost use Rattle.cs_world.specs.Tables.{Steps, KeepsJournal, IsReady, CompletesIn, past};
 
 use crate::snaps::change_all;
@@ -15,8 +16,8 @@ use cs_bits::Caps;
 use cs_caps::Done;
 use cs_ids::{Ino, Memory, Seq, Snap, Tid};
 use cs_laws::{Answer, Message, RealmRecordList};
-use cs_snapctx::SnapContext;
-use std::alloc::Global;
+use cs_realms::{RealmFault, Realms};
+use cs_snapctx::RealmRecord;
 use std::collections::BTreeMap;
 
 pub fn to_client(state: &mut State) -> Result<Answer, Memory>
@@ -47,8 +48,8 @@ pub fn to_client(state: &mut State) -> Result<Answer, Memory>
             realms,
         } => {
             let (number, realm) = (*number, *realm);
-            let context = told_context(state.alloc, realms)?;
-            deliver_snap(state, number, realm, context)
+            take_in(&mut state.realms, realms)?;
+            deliver_snap(state, number, realm)
         }
         Message::CapAck { .. } | Message::FlushSnap { .. } => unreachable!(),
     }
@@ -87,26 +88,21 @@ fn deliver_ack(state: &mut State, file: Ino, tid: Tid) -> Answer
     Answer::FlushAck { file, tid }
 }
 
-// The context of all files becomes this one.
-fn deliver_snap(
-    state: &mut State,
-    number: Snap,
-    realm: Ino,
-    context: SnapContext,
-) -> Result<Answer, Memory>
-    requires ready { IsReady state.old }
-    requires first { TellsContext (past state.old) number realm context }
+// A snapshot or a removal is told, and its realm records are taken in: the files' contexts follow.
+fn deliver_snap(state: &mut State, number: Snap, realm: Ino) -> Result<Answer, Memory>
+    requires ready { IsReady (record state.old { realms = realms (past state.old) }) }
+    requires told { TellsRealms (past state.old) number realm state.old.realms }
     ensures ok { IfOk result (λ a. Steps state.old state.new events.ToClient a) }
     ensures err { OnErr result (KeepsJournal state.old state.new) }
 {
     let made = change_all(
+        state.alloc,
         &mut state.files,
         state.made.as_slice(),
         &state.refs,
-        &state.context,
-        &context,
+        &state.directories,
+        &state.realms,
     )?;
-    state.context = context;
     let _ = state.to_client.pop_front();
     Ok(Answer::SnapTold {
         number,
@@ -115,22 +111,30 @@ fn deliver_snap(
     })
 }
 
-// The root's context, by its record, which is the one in the list.
-fn told_context(alloc: Global, realms: &RealmRecordList) -> Result<SnapContext, Memory>
-    requires { length realms.now ≡ 1 }
-    ensures { IfOk result (λ c. c ≡ root_context (last_record realms.now empty_root)) }
+// Takes realm records in, each as the last one of its realm. They come parents first.
+fn take_in(realms: &mut Realms, told: &RealmRecordList) -> Result<(), Memory>
+    requires { ParentsAreKnown realms.old told.now }
+    ensures { OnOk result (realms.new ≡ with_records told.now realms.old) }
 {
-    let Some(root) = realms.get(0) else {
-        unreachable!()
-    };
-    SnapContext::merge(
-        alloc,
-        root.own.as_slice(),
-        root.prior.as_slice(),
-        root.own_seq,
-        &SnapContext::empty(alloc),
-        root.since,
-    )
+    for i in 0..told.len() {
+        let Some(record) = told.get(i) else {
+            unreachable!()
+        };
+        take_one(realms, record)?;
+    }
+    Ok(())
+}
+
+// Takes one in, of which the parent is known, if it names one.
+fn take_one(realms: &mut Realms, told: &RealmRecord) -> Result<(), Memory>
+    requires { missing_parent realms.old told.now ≡ None }
+    ensures { OnOk result (realms.new ≡ with_record told.now realms.old) }
+{
+    match realms.apply(told) {
+        Ok(_) => Ok(()),
+        Err(RealmFault::Memory) => Err(Memory),
+        Err(RealmFault::NoParent { .. }) => unreachable!(),
+    }
 }
 
 #[tactic(auto, using(crate::proofs::Checks::says_nothing, crate::proofs::Checks::says_hold, crate::proofs::Checks::says_ack))]

@@ -3,7 +3,7 @@
 #![tactic(auto)]
 
 mod client;
-mod records;
+mod contexts;
 mod references;
 mod server;
 mod setup;

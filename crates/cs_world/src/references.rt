@@ -37,7 +37,7 @@ pub fn begin(
     if is_beyond(&caps.client, bits, end) {
         return Ok(Answer::Again(Why::Max));
     }
-    let tag = state.context.seq();
+    let tag = caps.context.seq();
     match state.refs.begin(caller, file, bits, end, tag) {
         Ok(number) => Ok(Answer::Ref { number }),
         Err(fault) => match fault {

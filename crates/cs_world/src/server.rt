@@ -8,7 +8,7 @@ ghost use Rattle.cs_world.specs.Tables.{Steps, KeepsJournal, IsReady, past};
 
 use crate::state::{State, send_cap};
 use cs_bits::Caps;
-use cs_ids::{FileMeta, Ino, Memory, Name, Seq, Tid};
+use cs_ids::{FileMeta, Ino, Memory, Name, Seq, Snap, Tid};
 use cs_laws::{Answer, Message};
 
 pub fn grant(state: &mut State, file: Ino, bits: Caps, max: u32) -> Result<Answer, Memory>
@@ -40,14 +40,29 @@ pub fn snap(state: &mut State, dir: Ino, name: &Name) -> Result<Answer, Memory>
     ensures ok { IfOk result (λ a. Steps state.old state.new (events.Snap dir name.now) a) }
     ensures err { OnErr result (KeepsJournal state.old state.new) }
 {
-    if dir.get() != 1 {
+    if !state.directories.contains(dir) {
         return Ok(Answer::Unknown);
     }
-    if state.records.has_snap(name) {
+    if state.records.has_snap_named(dir, name) {
         return Ok(Answer::Exists);
     }
     let number = state.records.add_snap(dir, name)?;
     Ok(Answer::Snap { number })
+}
+
+pub fn remove_snap(state: &mut State, snap: Snap) -> Result<Answer, Memory>
+    requires { IsReady state.old }
+    ensures ok { IfOk result (λ a. Steps state.old state.new (events.RemoveSnap snap) a) }
+    ensures err { OnErr result (KeepsJournal state.old state.new) }
+{
+    if !state.records.has_snap(snap) {
+        return Ok(Answer::NoSnap);
+    }
+    if state.records.is_removed(snap) {
+        return Ok(Answer::Gone);
+    }
+    let number = state.records.add_removal(snap)?;
+    Ok(Answer::Removed { snap, number })
 }
 
 pub fn commit(state: &mut State) -> Result<Answer, Memory>
@@ -55,7 +70,9 @@ pub fn commit(state: &mut State) -> Result<Answer, Memory>
     ensures ok { IfOk result (λ a. Steps state.old state.new events.Commit a) }
     ensures err { OnErr result (KeepsJournal state.old state.new) }
 {
-    let count = state.records.commit(&mut state.to_client)?;
+    let count = state
+        .records
+        .commit(&state.directories, &mut state.to_client)?;
     Ok(Answer::Commit { count })
 }
 
@@ -116,7 +133,7 @@ fn receive_flush(
     let Some(row) = state.files.get_mut(&file) else {
         unreachable!()
     };
-    state.records.add_flush(file, tid, follows, meta)?;
+    state.records.add_flush(true, file, tid, follows, meta)?;
     row.told.push(follows, meta)?;
     let _ = state.to_server.pop_front();
     Ok(Answer::Flushed { file, tid })

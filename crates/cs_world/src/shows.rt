@@ -1,13 +1,16 @@
 // What the store and the server's records hold of a file.
-ghost use Rattle.std.specs.Prelude.{◌≡◌, ℕ, ◌+◌, ◌≤◌, ◌/◌, ◌%◌, true, false, length, IfOk, OnErr, IsErrOf};
+ghost use Rattle.std.specs.Prelude.{◌≡◌, ℕ, ◌+◌, ◌==◌, ◌≤◌, ◌/◌, ◌%◌, true, false, length, IfOk, OnErr, IsErrOf};
+ghost use Rattle.std.specs.List.{list_any};
 ghost use Rattle.cs_ids.specs.Devices.{Rose};
 ghost use Rattle.cs_laws.specs.declared.events.Event.TheVariants as events;
 ghost use Rattle.cs_laws.specs.declared.answers.Answer.TheVariants as answers;
 ghost use Rattle.cs_laws.specs.Answers.{answer_show, bytes_from};
-ghost use Rattle.cs_laws.specs.Fits.{is_shown};
+ghost use Rattle.cs_laws.specs.Fits.{fits};
+ghost use Rattle.cs_tree.specs.Directories.{path_of};
+ghost use Rattle.cs_records.specs.Records.{all};
 ghost use Rattle.cs_laws.specs.Objects.{object_byte};
 ghost use Rattle.cs_laws.specs.Operations.{applied};
-ghost use Rattle.cs_world.specs.Shown.{file_byte, is_any_unacked, is_owed, is_owed_at_present, is_unsettled, shown_count};
+ghost use Rattle.cs_world.specs.Shown.{file_byte, is_any_unacked, is_owed, is_owed_at_present, is_unsettled, shown_count, standing_of};
 ghost use Rattle.cs_world.specs.Storing.{calls_store};
 ghost use Rattle.cs_world.specs.Tables.{Steps, KeepsJournal, IsReady, past};
 
@@ -17,8 +20,9 @@ use cs_geom::split_objects;
 use cs_ids::{Bytes, Failed, Ino, Memory, Obj};
 use cs_laws::{Answer, At, StepFault};
 use cs_objstore::ObjStore;
+use cs_records::Records;
 use cs_refs::Refs;
-use cs_snapctx::SnapContext;
+use cs_tree::Directories;
 use std::alloc::Global;
 
 /// Shows a file at a snapshot, or at present: its metadata by the server's records, and bytes of it by
@@ -32,7 +36,7 @@ pub fn show<O: ObjStore>(
     len: u32,
 ) -> Result<Answer, StepFault>
     requires ready { IsReady state.old }
-    requires fits { is_shown off len ≡ true }
+    requires fits { fits (events.Show file at.now off len) ≡ true }
     requires listed { O.ops store.old ≡ applied (past state.old) }
     ensures ok { IfOk result (λ a. Steps state.old state.new (events.Show file at.now off len) a) }
     ensures listed { O.ops store.new ≡ O.ops store.old }
@@ -46,25 +50,69 @@ pub fn show<O: ObjStore>(
     let Some(row) = state.files.get(&file) else {
         return Ok(Answer::Unknown);
     };
-    if !state.records.stands(*at) {
-        return Ok(Answer::NoSnap);
+    match standing_of(&state.records, &state.directories, row.home, *at) {
+        Standing::Absent => Ok(Answer::NoSnap),
+        Standing::Gone => Ok(Answer::Gone),
+        Standing::There => {
+            if is_owed(row, &state.refs, file, *at) {
+                return Ok(Answer::Pending);
+            }
+            let meta = row.told.at(*at);
+            let count = shown_count(meta.size, off, len);
+            let bytes = read_file(state.alloc, store, file, *at, off, count)?;
+            Ok(Answer::Size { meta, bytes })
+        }
     }
-    if is_owed(row, &state.context, &state.refs, file, *at) {
-        return Ok(Answer::Pending);
+}
+
+// Whether the server has a state of a file.
+#[derive(Clone, Copy)]
+pub enum Standing {
+    // The head, or a snapshot that covers the file.
+    There,
+    // No such snapshot, or none that covers the file.
+    Absent,
+    // A snapshot that is removed.
+    Gone,
+}
+
+// Whether the server has a state of a file in a directory.
+fn standing_of(records: &Records, directories: &Directories, home: Ino, at: At) -> Standing
+    ensures { result ≡ standing_of (all records.now) (path_of directories.now home) at }
+{
+    let At::Snap(snap) = at else {
+        return Standing::There;
+    };
+    let Some(dir) = records.snap_dir(snap) else {
+        return Standing::Absent;
+    };
+    if records.is_removed(snap) {
+        Standing::Gone
+    } else if is_below(directories, home, dir) {
+        Standing::There
+    } else {
+        Standing::Absent
     }
-    let meta = row.told.at(*at);
-    let count = shown_count(meta.size, off, len);
-    let bytes = read_file(state.alloc, store, file, *at, off, count)?;
-    Ok(Answer::Size { meta, bytes })
+}
+
+// Whether a directory is another one or below it.
+fn is_below(directories: &Directories, home: Ino, dir: Ino) -> bool
+    ensures { result ≡ list_any (λ d. d == dir) (path_of directories.now home) }
+{
+    match directories.path(home) {
+        Some(path) => path.contains(&dir),
+        // One that isn't known is below the root alone.
+        None => dir.get() == 1,
+    }
 }
 
 // Whether the server may not have yet what a file was.
-fn is_owed(row: &FileState, context: &SnapContext, refs: &Refs, file: Ino, at: At) -> bool
-    ensures { result ≡ is_owed row.now context.now refs.now.live file at }
+fn is_owed(row: &FileState, refs: &Refs, file: Ino, at: At) -> bool
+    ensures { result ≡ is_owed row.now refs.now.live file at }
 {
     match at {
         At::Head => is_head_owed(row, refs, file),
-        At::Snap(s) => context.seq().get() < s.get() || row.snaps.unacked_below(s),
+        At::Snap(s) => row.context.seq().get() < s.get() || row.snaps.unacked_below(s),
     }
 }
 
@@ -151,6 +199,7 @@ fn read_part<O: ObjStore>(
     }
 }
 
+// So many bytes, all of them 0.
 fn zeros(alloc: Global, count: u32) -> Result<Vec<u8>, Memory>
     ensures { IfOk result (λ bytes. length bytes.items ≡ count) }
 {

@@ -6,67 +6,84 @@ ghost use Rattle.std.specs.Ordering.{nat_cmp};
 ghost use Rattle.cs_laws.specs.declared.events.Event.TheVariants as events;
 ghost use Rattle.cs_theorems.specs.References.{IsEachOnce};
 ghost use Rattle.cs_laws.specs.Context.{differs};
-ghost use Rattle.cs_world.specs.Changed.{Changes, ChangesAll, Finishes, FinishesUnwritten, context_under, count_changed, needs_snap};
+ghost use Rattle.cs_snapctx.specs.Context.{empty_context};
+ghost use Rattle.cs_tree.specs.Directories.{path_of};
+ghost use Rattle.cs_world.specs.Changed.{Changes, ChangesAll, Finishes, FinishesUnwritten, changed_row, context_under, count_changed, needs_snap};
 ghost use Rattle.cs_world.specs.Tables.{Steps, KeepsJournal, IsReady};
 
+use crate::contexts::home_context;
 use crate::state::{FileState, State};
 use cs_capsnap::Ready;
 use cs_ids::{Ino, Memory, Tid};
 use cs_laws::{Answer, Message};
+use cs_realms::Realms;
 use cs_refs::Refs;
 use cs_snapctx::SnapContext;
+use cs_tree::Directories;
+use std::alloc::Global;
 use std::collections::BTreeMap;
+use std::mem;
 
-/// The context of each of these files becomes another one: a file that has a writer or dirty metadata
-/// gets a cap snap, unless one is writing. How many do.
+/// The client was told of realms: each of these files that has another context now, and has a writer or
+/// dirty metadata, gets a cap snap with the one before, unless one is writing. How many do.
 pub fn change_all(
+    alloc: Global,
     files: &mut BTreeMap<Ino, FileState>,
     made: &[Ino],
     refs: &Refs,
-    old: &SnapContext,
-    new: &SnapContext,
+    directories: &Directories,
+    realms: &Realms,
 ) -> Result<u32, Memory>
     requires few { length made.now ≤ 10000 }
     requires once { IsEachOnce made.now }
-    ensures count { IfOk result (λ n. n ≡ count_changed (differs old.now new.now) refs.now.live files.old made.now) }
-    ensures rows { OnOk result (ChangesAll (differs old.now new.now) refs.now.live old.now files.old files.new made.now) }
+    ensures count { IfOk result (λ n. n ≡ count_changed (path_of directories.now) realms.now refs.now.live files.old made.now) }
+    ensures rows { OnOk result (ChangesAll (path_of directories.now) realms.now refs.now.live files.old files.new made.now) }
 {
-    let is_other = old != new;
+    let empty = SnapContext::empty(alloc);
     let mut count = 0;
     for file in made {
         let has_writer = refs.writers(*file) > 0;
-        if change(files, *file, is_other, has_writer, old)? {
+        if change(files, *file, has_writer, directories, realms, &empty)? {
             count += 1;
         }
     }
     Ok(count)
 }
 
-// The context of a file is another one, or the same. Whether it got a cap snap.
+// The context of a file is that of its nearest realm now, or the empty one where it has none. Whether it
+// got a cap snap.
 fn change(
     files: &mut BTreeMap<Ino, FileState>,
     file: Ino,
-    is_other: bool,
     has_writer: bool,
-    old: &SnapContext,
+    directories: &Directories,
+    realms: &Realms,
+    empty: &SnapContext,
 ) -> Result<bool, Memory>
-    ensures { IfOk result (λ b. Changes is_other has_writer old.now files.old files.new file b (get nat_cmp files.old file)) }
+    requires { empty.now ≡ empty_context }
+    ensures { IfOk result (λ b. Changes (path_of directories.now) realms.now has_writer files.old files.new file b (get nat_cmp files.old file)) }
 {
     let Some(state) = files.get_mut(&file) else {
         return Ok(false);
     };
-    let needed = needs_snap(state, is_other, has_writer);
-    if needed {
-        state.snaps.queue(old.copy()?, has_writer, state.meta)?;
-    }
-    Ok(needed)
+    let told = home_context(directories, realms, state.home).unwrap_or(empty);
+    change_row(state, told, has_writer)
 }
 
-// Whether a file needs a cap snap where its context becomes another one.
-fn needs_snap(state: &FileState, is_other: bool, has_writer: bool) -> bool
-    ensures { result ≡ needs_snap is_other has_writer state.now }
+// A file's context becomes this one, or stays. Whether it got a cap snap.
+fn change_row(state: &mut FileState, told: &SnapContext, has_writer: bool) -> Result<bool, Memory>
+    ensures needed { IfOk result (λ b. b ≡ needs_snap (differs state.old.context told.now) has_writer state.old) }
+    ensures row { OnOk result (state.new ≡ changed_row has_writer told.now state.old) }
 {
-    is_other && !state.snaps.is_writing() && (has_writer || !state.dirty.is_none())
+    if state.context == *told {
+        return Ok(false);
+    }
+    let needed = !state.snaps.is_writing() && (has_writer || !state.dirty.is_none());
+    let old = mem::replace(&mut state.context, told.copy()?);
+    if needed {
+        state.snaps.queue(old, has_writer, state.meta)?;
+    }
+    Ok(needed)
 }
 
 /// A reference to a file has ended. Where no writer of the file is left, a cap snap that is writing
@@ -93,18 +110,11 @@ fn finish(files: &mut BTreeMap<Ino, FileState>, file: Ino)
 }
 
 /// The context that a write to a file is made under: that of the cap snap that is writing, or else the
-/// present one.
-pub fn context_under<'a>(
-    files: &'a BTreeMap<Ino, FileState>,
-    file: Ino,
-    present: &'a SnapContext,
-) -> &'a SnapContext
-    ensures { result.now ≡ context_under present.now (get nat_cmp files.now file) }
+/// file's own.
+pub fn context_under(state: &FileState) -> &SnapContext
+    ensures { result.now ≡ context_under state.now }
 {
-    match files.get(&file) {
-        Some(state) => state.snaps.writing_context().unwrap_or(present),
-        None => present,
-    }
+    state.snaps.writing_context().unwrap_or(&state.context)
 }
 
 pub fn flush_snaps(state: &mut State, file: Ino) -> Result<Answer, Memory>

@@ -4,15 +4,17 @@ ghost use Rattle.cs_laws.specs.Answers.{sent_cap};
 ghost use Rattle.cs_laws.specs.Flight.{cap_message};
 ghost use Rattle.cs_world.specs.Tables.{Refines, PutsRow, new_row};
 
-use crate::records::Records;
 use crate::told::Told;
 use cs_bits::Caps;
 use cs_caps::{Cap, Held};
 use cs_capsnap::CapSnaps;
 use cs_ids::{FileMeta, Ino, Memory};
 use cs_laws::{Answer, Entry, Message};
+use cs_realms::Realms;
+use cs_records::Records;
 use cs_refs::Refs;
 use cs_snapctx::SnapContext;
+use cs_tree::Directories;
 use std::alloc::Global;
 use std::collections::{BTreeMap, VecDeque};
 
@@ -26,6 +28,10 @@ pub struct FileState {
     pub client: Cap,
     /// The server's end.
     pub server: Held,
+    /// The directory in which it was made.
+    pub home: Ino,
+    /// Its snapshot context.
+    pub context: SnapContext,
     /// Its metadata, as the client has written it.
     pub meta: FileMeta,
     /// Which of it was changed and not sent in a flush.
@@ -44,8 +50,10 @@ pub struct State {
     pub entries: Vec<Entry>,
     /// The script's time.
     pub clock: u64,
-    /// The snapshot context of all files: the root is the one realm.
-    pub context: SnapContext,
+    /// The directories, as client and server know them.
+    pub directories: Directories,
+    /// The realms of which the client was told.
+    pub realms: Realms,
     pub files: BTreeMap<Ino, FileState>,
     /// The files in the order in which they were made.
     pub made: Vec<Ino>,
@@ -60,17 +68,18 @@ pub struct State {
     pub records: Records,
 }
 
-pub fn start(alloc: Global, pages: u32) -> State
-    ensures entries { result.entries.items ≡ [] }
-    ensures pages { result.pages ≡ pages }
-    ensures tables { Refines [] result }
+pub fn start(alloc: Global, pages: u32) -> Result<State, Memory>
+    ensures entries { IfOk result (λ s. s.entries.items ≡ []) }
+    ensures pages { IfOk result (λ s. s.pages ≡ pages) }
+    ensures tables { IfOk result (λ s. Refines [] s) }
 {
-    State {
+    Ok(State {
         alloc,
         pages,
         entries: Vec::new(alloc),
         clock: 0,
-        context: SnapContext::empty(alloc),
+        directories: Directories::new(alloc)?,
+        realms: Realms::new(alloc)?,
         files: BTreeMap::new(alloc),
         made: Vec::new(alloc),
         to_client: VecDeque::new(alloc),
@@ -79,20 +88,25 @@ pub fn start(alloc: Global, pages: u32) -> State
         operations: 0,
         flushes: 0,
         records: Records::new(alloc),
-    }
+    })
 }
 
-/// Adds a file, of which nothing was granted and to which nothing was written yet.
+/// Adds a file in a directory, with this snapshot context. Nothing of it was granted, and nothing was
+/// written to it yet.
 pub fn add_file(
     alloc: Global,
     files: &mut BTreeMap<Ino, FileState>,
     file: Ino,
+    home: Ino,
+    context: SnapContext,
 ) -> Result<(), Memory>
-    ensures { OnOk result (PutsRow files.old files.new file new_row) }
+    ensures { OnOk result (PutsRow files.old files.new file (new_row home context)) }
 {
     let state = FileState {
         client: Cap::new(),
         server: Held::new(),
+        home,
+        context,
         meta: FileMeta {
             size: 0,
             mtime: 0,

@@ -10,8 +10,8 @@ ghost use Rattle.cs_world.specs.Tables.{Steps, IsReady, IsKept, KeepsJournal, pa
 
 use crate::client::{check, to_client};
 use crate::references::{begin, end};
-use crate::server::{commit, grant, revoke, snap, to_mds};
-use crate::setup::file;
+use crate::server::{commit, grant, remove_snap, revoke, snap, to_mds};
+use crate::setup::{dir, file};
 use crate::shows::show;
 use crate::snaps::flush_snaps;
 use crate::state::State;
@@ -43,6 +43,7 @@ pub fn answer<O: ObjStore>(
     let _told: Option<RefName> = None;
     let _at: Option<At> = None;
     match event {
+        Event::Dir { dir: made, parent } => Ok(dir(state, *made, *parent)?),
         Event::File { file: made, parent } => Ok(file(state, *made, *parent)?),
         Event::Begin {
             caller,
@@ -64,6 +65,7 @@ pub fn answer<O: ObjStore>(
         Event::Grant { file, bits, max } => Ok(grant(state, *file, *bits, *max)?),
         Event::Revoke { file, bits } => Ok(revoke(state, *file, *bits)?),
         Event::Snap { dir, name } => Ok(snap(state, *dir, name)?),
+        Event::RemoveSnap { snap } => Ok(remove_snap(state, *snap)?),
         Event::Commit => Ok(commit(state)?),
         Event::Show { file, at, off, len } => show(state, store, *file, at, *off, *len),
     }

@@ -22,7 +22,7 @@ fn a_grant_is_sent_and_delivered(rt: HostRuntime) -> Result<(), Fail> {
         .ok()
         .ok_or("memory")?;
     for event in &events {
-        let is_ready = world.is_live() && world.entries().len() < 10_000;
+        let is_ready = event.fits() && world.is_live() && world.entries().len() < 10_000;
         assert!(rt; is_ready);
         world.step(event)?;
     }

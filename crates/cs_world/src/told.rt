@@ -64,6 +64,7 @@ impl Told {
             },
         }
     }
+
     // How many of the flushes follow a number before a state. They stand in front of the others.
     fn count_before(&self, at: At) -> usize
         ensures bound { result ≤ length self.now }

@@ -12,6 +12,7 @@ ghost use Rattle.cs_world.specs.Storing.{AppliesFront, brings, calls_store};
 
 use crate::state::{State, start};
 use crate::step::step;
+use cs_ids::Memory;
 use cs_laws::{Answer, Entry, Event, StepFault};
 use cs_objstore::ObjStore;
 use std::alloc::Global;
@@ -58,12 +59,15 @@ impl<O: ObjStore, L> World<O, L> {
         ensures ok { IfOk result (λ w. w ≡ record { pages = pages; history = []; live = true; store = store; log = log }) }
         ensures err { IfErr result (λ f. f ≡ record { store = store; log = log }) }
     {
-        Ok(World {
-            state: start(alloc, pages),
-            is_live: true,
-            store,
-            log,
-        })
+        match start(alloc, pages) {
+            Ok(state) => Ok(World {
+                state,
+                is_live: true,
+                store,
+                log,
+            }),
+            Err(Memory) => Err(MakeFault { store, log }),
+        }
     }
 
     /// Does one event, and enters it with its answer. A line of a script has to spell the event. The

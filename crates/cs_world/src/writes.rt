@@ -62,8 +62,10 @@ pub fn write<O: ObjStore>(
     }
     let file = live.file;
     let drawn = state.operations;
-    let context = context_under(&state.files, file, &state.context);
-    state.operations = apply_pieces(store, context, drawn, file, off, bytes)?;
+    let Some(row) = state.files.get(&file) else {
+        unreachable!()
+    };
+    state.operations = apply_pieces(store, context_under(row), drawn, file, off, bytes)?;
     mark(&mut state.files, file, end, state.clock);
     Ok(Answer::Wrote)
 }

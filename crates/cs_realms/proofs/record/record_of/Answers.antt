@@ -1,6 +1,6 @@
 use Rattle.std.proofs.Common.{sym, ◌∙◌, ap}
 use Rattle.std.specs.Option.{option_copied}
-use Rattle.cs_realms.specs.Records.{is_of}
+use Rattle.cs_snapctx.specs.Records.{is_of}
 use Rattle.cs_realms.proofs.Places.{found, looked_up, not_found}
 use Rattle.cs_realms.proofs.record.record_of.Goals as goal
 

@@ -1,9 +1,10 @@
 use Rattle.std.proofs.Common.{◌≡◌, refl, sym, ap, subst, arith, length}
 use Rattle.std.proofs.lemmas.List.{length-reverse}
-use Rattle.cs_laws.specs.Context.{differs}
 use Rattle.cs_laws.specs.Events.{files}
+use Rattle.cs_laws.specs.History.{realms}
 use Rattle.cs_theorems.specs.References.{IsEachOnce}
 use Rattle.cs_theorems.proofs.Counts.{files_few}
+use Rattle.cs_tree.specs.Directories.{path_of}
 use Rattle.cs_world.specs.Changed.{ChangesAll, count_changed}
 use Rattle.cs_world.specs.Tables.{past}
 use Rattle.cs_world.proofs.ContextChange.{made_all, told_answer, told_refines}
@@ -26,17 +27,17 @@ pub returns-clause-ok : goal.returns-clause-ok
 returns-clause-ok c =
     let s = c.args.state.now in
     let h = past s in
-    let new = c.args.context in
+    let before = record s { realms = realms h } in
     let now = c.change_all.new.files in
     let made = c.in_ok-made.made in
     let t = c.requires.ready.tables in
     let run = c.requires.ready.run in
-    let told = c.requires.first in
-    let counted = subst (λ ns. made ≡ count_changed (differs s.context new) s.refs.live s.files ns) c.as_slice.ensures.value c.in_ok-made.ensures.count in
-    let changed = subst (λ ns. ChangesAll (differs s.context new) s.refs.live s.context s.files now ns) c.as_slice.ensures.value c.in_ok-made.ensures.rows in
+    let told = c.requires.told in
+    let counted = subst (λ ns. made ≡ count_changed (path_of s.directories) s.realms s.refs.live s.files ns) c.as_slice.ensures.value c.in_ok-made.ensures.count in
+    let changed = subst (λ ns. ChangesAll (path_of s.directories) s.realms s.refs.live s.files now ns) c.as_slice.ensures.value c.in_ok-made.ensures.rows in
     record {
-      answer = told_answer h s c.args.number c.args.realm made new t run told counted;
+      answer = told_answer h before c.args.number c.args.realm made s.realms t run told counted;
       entries = refl;
       pages = refl;
-      tables = told_refines h s c.args.number c.args.realm made new now c.pop_front.new.self t run told changed c.pop_front.ensures.rest;
+      tables = told_refines h before c.args.number c.args.realm made s.realms now c.pop_front.new.self t run told changed c.pop_front.ensures.rest;
     }

@@ -1,27 +1,40 @@
-use Rattle.std.proofs.Common.{subst, ⊎_elim}
+use Rattle.std.proofs.Common.{◌∙◌, sym, ap, subst, ⊎_elim}
+use Rattle.cs_snapctx.specs.Records.{with_records}
+use Rattle.cs_theorems.specs.Realms.{ParentsAreKnown}
 use Rattle.cs_laws.specs.declared.messages.Message.TheVariants as messages
 use Rattle.cs_laws.specs.History.{to_client}
 use Rattle.cs_theorems.specs.Underway.{IsToldClient}
 use Rattle.cs_world.specs.Delivered.{IsFirst}
 use Rattle.cs_world.specs.Tables.{past}
-use Rattle.cs_world.proofs.Delivered.{first_told, front_is, told_alone, told_last}
+use Rattle.cs_world.proofs.ContextChange.{with_realms}
+use Rattle.cs_world.proofs.Delivered.{first_told, front_is, told_parents}
 use Rattle.cs_world.proofs.client.to_client.Goals as goal
 
-pub told_context-requires : goal.told_context-requires
-told_context-requires c =
+pub take_in-requires : goal.take_in-requires
+take_in-requires c =
     let s = c.args.state.now in
     let m = c.in-Snap in
     let front = front_is c.in-Some.message.now s.to_client.items (to_client (past s)) c.in-Some.ensures.item.3.0 c.in-Some.ensures.lookup c.requires.tables.sent_to_client in
     let first : IsFirst (messages.Snap m.number m.realm m.realms) (to_client (past s)) = rw m.is at front in
-    told_alone s.pages (past s) m.number m.realm m.realms c.requires.run first
+    subst (λ ts. ParentsAreKnown ts m.realms) (sym c.requires.tables.realms) (told_parents s.pages (past s) m.number m.realm m.realms c.requires.run first)
 
-pub deliver_snap-requires-clause-first : goal.deliver_snap-requires-clause-first
-deliver_snap-requires-clause-first c =
+pub deliver_snap-requires-clause-ready : goal.deliver_snap-requires-clause-ready
+deliver_snap-requires-clause-ready c = record {
+  tables = with_realms (past c.args.state.now) c.args.state.now c.requires.tables;
+  run = c.requires.run;
+  room = c.requires.room;
+}
+
+pub deliver_snap-requires-clause-told : goal.deliver_snap-requires-clause-told
+deliver_snap-requires-clause-told c =
     let s = c.args.state.now in
     let m = c.in-Snap in
     let front = front_is c.in-Some.message.now s.to_client.items (to_client (past s)) c.in-Some.ensures.item.3.0 c.in-Some.ensures.lookup c.requires.tables.sent_to_client in
-    let first : IsFirst (messages.Snap m.number m.realm m.realms) (to_client (past s)) = rw m.is at front in
-    told_last s.pages (past s) m.number m.realm m.realms c.in_ok-context-in-Snap.context c.requires.run first c.in_ok-context-in-Snap.ensures
+    record {
+      told = m.realms;
+      first = rw m.is at front;
+      after = c.in_ok-take_in-in-Snap.ensures ∙ ap (λ ts. with_records m.realms ts) c.requires.tables.realms;
+    }
 
 pub unreachable-requires : goal.unreachable-requires
 unreachable-requires c =

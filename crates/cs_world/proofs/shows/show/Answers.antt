@@ -1,25 +1,49 @@
 use Rattle.std.proofs.Common.{rules, ◌≡◌, ◌∙◌, refl, sym, ◌≤◌, true, false}
-use Rattle.cs_laws.specs.Answers.{stands}
-use Rattle.cs_laws.specs.Fits.{greatest_end}
+use Rattle.std.proofs.lemmas.Bool.{and_parts}
+use Rattle.cs_laws.specs.Fits.{greatest_end, is_shown, is_state}
 use Rattle.cs_laws.specs.History.{stand}
 use Rattle.cs_laws.specs.Metadata.{meta_at}
 use Rattle.cs_laws.specs.Owed.{owed}
+use Rattle.cs_laws.specs.Tree.{file_path}
+use Rattle.cs_world.specs.declared.shows.Standing.TheVariants as standing
+use Rattle.cs_world.specs.Shown.{standing_of}
 use Rattle.cs_world.specs.Tables.{past}
 use Rattle.cs_world.proofs.Pieces.{any_err}
 use Rattle.cs_world.proofs.Rows.{row_known}
-use Rattle.cs_world.proofs.Showing.{count_within, meta_small, no_snap_is, owes, pending_is, reads_store, shown_is, standing, stored_bytes, told_meta}
+use Rattle.cs_world.proofs.Showing.{absent_is, count_within, gone_is, meta_small, owes, pending_is, reads_store, shown_is, stored_bytes, table_standing, told_meta}
 use Rattle.cs_world.proofs.shows.show.Goals as goal
 
-pub returns-then-not-stands-clause-ok : goal.returns-then-not-stands-clause-ok
-returns-then-not-stands-clause-ok g c =
+pub returns-in-Absent-clause-ok : goal.returns-in-Absent-clause-ok
+returns-in-Absent-clause-ok g c =
     let s = c.args.state.now in
     let h = past s in
+    let f = c.args.file in
     let a = c.args.at.now in
     let ready = c.requires.ready in
-    let known = row_known h s c.args.file c.in-Some.row.now ready.tables (sym c.in-Some.ensures.value) in
-    let none : stands a (stand h) ≡ false = standing h s a ready.tables ready.run false (sym c.stands.ensures ∙ c.if-not-stands.true) in
+    let has = sym c.in-Some.ensures.value in
+    let known = row_known h s f c.in-Some.row.now ready.tables has in
+    let state = (and_parts (is_state a) (is_shown c.args.off c.args.len) c.requires.fits).0 in
+    let stands = table_standing h s f a c.in-Some.row.now standing.Absent ready.tables has (sym c.in-Absent.is ∙ c.standing_of.ensures) in
     record {
-      answer = no_snap_is h c.args.file a c.args.off c.args.len known none;
+      answer = absent_is s.pages h f a c.args.off c.args.len ready.run known state stands;
+      entries = refl;
+      pages = refl;
+      tables = search rules;
+    }
+
+pub returns-in-Gone-clause-ok : goal.returns-in-Gone-clause-ok
+returns-in-Gone-clause-ok g c =
+    let s = c.args.state.now in
+    let h = past s in
+    let f = c.args.file in
+    let a = c.args.at.now in
+    let ready = c.requires.ready in
+    let has = sym c.in-Some.ensures.value in
+    let known = row_known h s f c.in-Some.row.now ready.tables has in
+    let state = (and_parts (is_state a) (is_shown c.args.off c.args.len) c.requires.fits).0 in
+    let stands = table_standing h s f a c.in-Some.row.now standing.Gone ready.tables has (sym c.in-Gone.is ∙ c.standing_of.ensures) in
+    record {
+      answer = gone_is s.pages h f a c.args.off c.args.len ready.run known state stands;
       entries = refl;
       pages = refl;
       tables = search rules;
@@ -34,10 +58,11 @@ returns-then-is_owed-clause-ok g c =
     let ready = c.requires.ready in
     let has = sym c.in-Some.ensures.value in
     let known = row_known h s f c.in-Some.row.now ready.tables has in
-    let there : stands a (stand h) ≡ true = standing h s a ready.tables ready.run true (sym c.stands.ensures ∙ c.if-not-stands.false) in
+    let state = (and_parts (is_state a) (is_shown c.args.off c.args.len) c.requires.fits).0 in
+    let stands = table_standing h s f a c.in-Some.row.now standing.There ready.tables has (sym c.in-There.is ∙ c.standing_of.ensures) in
     let owing : owed h f a ≡ true = owes h s f a c.in-Some.row.now ready.tables ready.run has true (sym c.is_owed.ensures ∙ c.if-is_owed.true) in
     record {
-      answer = pending_is h f a c.args.off c.args.len known there owing;
+      answer = pending_is s.pages h f a c.args.off c.args.len ready.run known state stands owing;
       entries = refl;
       pages = refl;
       tables = search rules;
@@ -54,10 +79,11 @@ read_file-requires-clause-within g c κs within =
     let free : owed h f a ≡ false = owes h s f a c.in-Some.row.now ready.tables ready.run has false (sym c.is_owed.ensures ∙ c.if-is_owed.false) in
     let is : c.at-meta.result ≡ meta_at f a (stand h) = told_meta h s f a c.in-Some.row.now c.at-meta.result ready.tables ready.run has c.at-meta.ensures in
     let small : c.at-meta.result.size ≤ greatest_end = rw is (meta_small s.pages h f a ready.run free) in
-    rw c.shown_count-count.ensures (count_within c.at-meta.result.size c.args.off c.args.len c.requires.fits small)
+    let shown = (and_parts (is_state a) (is_shown c.args.off c.args.len) c.requires.fits).1 in
+    rw c.shown_count-count.ensures (count_within c.at-meta.result.size c.args.off c.args.len shown small)
 
-pub returns-in_err-bytes-clause-called : goal.returns-in_err-bytes-clause-called
-returns-in_err-bytes-clause-called g c =
+pub returns-in_err-bytes-in-There-clause-called : goal.returns-in_err-bytes-in-There-clause-called
+returns-in_err-bytes-in-There-clause-called g c =
     let s = c.args.state.now in
     let h = past s in
     let f = c.args.file in
@@ -65,12 +91,13 @@ returns-in_err-bytes-clause-called g c =
     let ready = c.requires.ready in
     let has = sym c.in-Some.ensures.value in
     let known = row_known h s f c.in-Some.row.now ready.tables has in
-    let there : stands a (stand h) ≡ true = standing h s a ready.tables ready.run true (sym c.stands.ensures ∙ c.if-not-stands.false) in
+    let state = (and_parts (is_state a) (is_shown c.args.off c.args.len) c.requires.fits).0 in
+    let stands = table_standing h s f a c.in-Some.row.now standing.There ready.tables has (sym c.in-There.is ∙ c.standing_of.ensures) in
     let free : owed h f a ≡ false = owes h s f a c.in-Some.row.now ready.tables ready.run has false (sym c.is_owed.ensures ∙ c.if-is_owed.false) in
-    any_err c.from_residual.result (reads_store h f a c.args.off c.args.len known there free)
+    any_err c.from_residual.result (reads_store s.pages h f a c.args.off c.args.len ready.run known state stands free)
 
-pub returns-clause-ok : goal.returns-clause-ok
-returns-clause-ok g c =
+pub returns-in_ok-bytes-in-There-clause-ok : goal.returns-in_ok-bytes-in-There-clause-ok
+returns-in_ok-bytes-in-There-clause-ok g c =
     let s = c.args.state.now in
     let h = past s in
     let f = c.args.file in
@@ -78,12 +105,13 @@ returns-clause-ok g c =
     let ready = c.requires.ready in
     let has = sym c.in-Some.ensures.value in
     let known = row_known h s f c.in-Some.row.now ready.tables has in
-    let there : stands a (stand h) ≡ true = standing h s a ready.tables ready.run true (sym c.stands.ensures ∙ c.if-not-stands.false) in
+    let state = (and_parts (is_state a) (is_shown c.args.off c.args.len) c.requires.fits).0 in
+    let stands = table_standing h s f a c.in-Some.row.now standing.There ready.tables has (sym c.in-There.is ∙ c.standing_of.ensures) in
     let free : owed h f a ≡ false = owes h s f a c.in-Some.row.now ready.tables ready.run has false (sym c.is_owed.ensures ∙ c.if-is_owed.false) in
     let is : c.at-meta.result ≡ meta_at f a (stand h) = told_meta h s f a c.in-Some.row.now c.at-meta.result ready.tables ready.run has c.at-meta.ensures in
-    let held = c.in_ok-bytes.ensures.bytes ∙ stored_bytes s.pages h f a (g.O.ObjStore.ops c.args.store.now) c.args.off c.shown_count-count.result ready.run c.requires.listed in
+    let held = c.in_ok-bytes-in-There.ensures.bytes ∙ stored_bytes s.pages h f a (g.O.ObjStore.ops c.args.store.now) c.args.off c.shown_count-count.result ready.run c.requires.listed in
     record {
-      answer = shown_is h f a c.args.off c.args.len c.at-meta.result c.in_ok-bytes.bytes known there free is (rw c.shown_count-count.ensures at held);
+      answer = shown_is s.pages h f a c.args.off c.args.len c.at-meta.result c.in_ok-bytes-in-There.bytes ready.run known state stands free is (rw c.shown_count-count.ensures at held);
       entries = refl;
       pages = refl;
       tables = search rules;

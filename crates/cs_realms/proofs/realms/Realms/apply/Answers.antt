@@ -1,18 +1,20 @@
-use Rattle.std.proofs.Common.{◌≡◌, ◌∙◌, ap, filter, sym}
-use Rattle.cs_realms.specs.Changes.{changes, is_of_change}
-use Rattle.cs_realms.specs.Records.{with_record}
-use Rattle.cs_realms.proofs.Once.{once}
-use Rattle.cs_realms.proofs.Stays.{stays_distinct}
+use Rattle.std.proofs.Common.{position, ◌∙◌, ap, subst, sym}
+use Rattle.cs_snapctx.specs.Records.{AreDistinct, is_of}
+use Rattle.cs_realms.proofs.Once.{once_taken}
+use Rattle.cs_realms.proofs.Places.{no_place}
 use Rattle.cs_realms.proofs.realms.Realms.apply.Goals as goal
 
-pub of-requires : goal.of-requires
-of-requires c =
-    let is : c.in_ok-records.records.items ≡ with_record c.args.r.now c.self.inside.records.items =
-    c.in_ok-records.ensures ∙ ap (with_record c.args.r.now) c.as_slice-2.ensures.value in
-    rw is (stays_distinct c.args.r.now c.self.inside.records.items c.self.invariant.distinct)
+pub add-requires : goal.add-requires
+add-requires c =
+    rw (← c.self.view_is)
+    (no_place c.args.r.now.realm c.self.inside.records.items (sym (c.place_of.ensures ∙ ap (position (is_of c.args.r.now.realm)) c.as_slice-2.ensures.value) ∙ c.in-None.is))
 
-pub returns-clause-each : goal.returns-clause-each
-returns-clause-each c i =
-    let is : c.in_ok-changed.changed ≡ changes c.args.self.now c.next.inside.records.items =
-    c.in_ok-changed.ensures ∙ ap (changes c.args.self.now) (sym c.next.view_is) in
-    ap (filter (is_of_change i)) is ∙ once c.args.self.now c.next.inside.records.items c.next.invariant.distinct i
+pub returns-in_ok-replace-in-Some-place_of-clause-each : goal.returns-in_ok-replace-in-Some-place_of-clause-each
+returns-in_ok-replace-in-Some-place_of-clause-each c =
+    once_taken c.args.r.now c.args.self.now c.replace.new.self c.in_ok-replace-in-Some-place_of.field-0 (subst AreDistinct c.self.view_is c.self.invariant.distinct)
+    c.in_ok-replace-in-Some-place_of.ensures.records c.in_ok-replace-in-Some-place_of.ensures.changed
+
+pub returns-in_ok-add-in-None-clause-each : goal.returns-in_ok-add-in-None-clause-each
+returns-in_ok-add-in-None-clause-each c =
+    once_taken c.args.r.now c.args.self.now c.add.new.self c.in_ok-add-in-None.field-0 (subst AreDistinct c.self.view_is c.self.invariant.distinct)
+    c.in_ok-add-in-None.ensures.records c.in_ok-add-in-None.ensures.changed

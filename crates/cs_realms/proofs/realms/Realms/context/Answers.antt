@@ -1,8 +1,8 @@
 use Rattle.std.proofs.Common.{◌≡◌, None, Some, position, sym, ◌∙◌, ap}
 use Rattle.std.specs.List.{slice_get}
 use Rattle.std.specs.Option.{option_copied, option_map}
-use Rattle.cs_realms.specs.Contexts.{context, context_of}
-use Rattle.cs_realms.specs.Records.{is_of, record_of}
+use Rattle.cs_snapctx.specs.Contexts.{context, context_of}
+use Rattle.cs_snapctx.specs.Records.{is_of, record_of}
 use Rattle.cs_realms.proofs.Places.{found_in, looked_up, none_kept, not_found}
 use Rattle.cs_realms.proofs.realms.Realms.context.Goals as goal
 

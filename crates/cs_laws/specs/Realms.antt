@@ -1,0 +1,57 @@
+-- The realms, by the records of the server's log, the oldest first.
+use Rattle.std.specs.Prelude.{ℕ, ◌==◌, ◌||◌, not, Bool, false, List, [], ◌∷◌, ◌++◌, Option, Some, None, drop, filter, find, if◌then◌else◌}
+use Rattle.std.specs.List.{list_any, filter_map}
+use Rattle.cs_snapctx.specs.declared.realm.RealmRecord.{RealmRecord}
+use Rattle.cs_snapctx.specs.Records.{changed_record}
+use Rattle.cs_laws.specs.declared.records.Record.{Record}
+use Rattle.cs_laws.specs.declared.records.RecordBody.{RecordBody}
+use Rattle.cs_laws.specs.declared.records.RecordBody.TheVariants as bodies
+
+-- What the records say of one directory
+
+abbrev pub is_snap_of : ℕ → RecordBody → Bool
+is_snap_of d (bodies.Snap number e name) = e == d
+is_snap_of d _ = false
+
+-- a directory is a realm from its first snapshot on, and the root from the start
+abbrev pub is_realm : List Record → ℕ → Bool
+is_realm rs d = (d == 1) || list_any (λ r. is_snap_of d r.body) rs
+
+-- a realm's own snapshots, the newest first, and the number of its last snapshot or removal
+pub record Own : Type 0 where
+  pub seq : ℕ
+  pub snaps : List ℕ
+
+abbrev pub has_snap : ℕ → Own → Bool
+has_snap s o = list_any (λ t. t == s) o.snaps
+
+abbrev pub own_then : ℕ → Own → RecordBody → Own
+own_then d o (bodies.Flush snap f tid follows meta) = o
+own_then d o (bodies.Snap number e name) = if e == d then record { seq = number; snaps = number ∷ o.snaps } else o
+own_then d o (bodies.Removal s number) =
+    if has_snap s o then record { seq = number; snaps = filter (λ t. not (t == s)) o.snaps } else o
+
+-- after these records
+abbrev pub own_after : ℕ → Own → List Record → Own
+own_after d o [] = o
+own_after d o (r ∷ rs) = own_after d (own_then d o r.body) rs
+
+abbrev pub own : ℕ → List Record → Own
+own d rs = own_after d (record { seq = 0; snaps = [] }) rs
+
+-- Realm records
+
+-- the realm of a directory, whose way up is the path; each directory stood before the first snapshot
+abbrev pub realm_record : List ℕ → List Record → ℕ → Option RealmRecord
+realm_record up rs d =
+    if is_realm rs d
+    then Some (record { realm = d; parent = find (is_realm rs) (drop 1 up); since = 1; own_seq = (own d rs).seq; own = (own d rs).snaps; prior = [] })
+    else None
+
+-- path: the path of each directory; ds: the directories, parents first
+abbrev pub realm_records : (ℕ → List ℕ) → List ℕ → List Record → List RealmRecord
+realm_records path ds rs = filter_map (λ d. realm_record (path d) rs d) ds
+
+-- the realm records that differ from those before
+abbrev pub changed_records : (ℕ → List ℕ) → List ℕ → List Record → List Record → List RealmRecord
+changed_records path ds before after = filter_map (λ d. changed_record (realm_record (path d) before d) (realm_record (path d) after d)) ds

@@ -1,0 +1,8 @@
+pub mod Changed
+pub mod KeptNow
+pub mod Lists
+pub mod Logs
+pub mod Members
+pub mod Named
+pub mod Tables
+pub mod Telling

@@ -1,0 +1,11 @@
+-- The records of the server's log, as contracts see them.
+use Rattle.std.specs.Prelude.{◌++◌, List}
+use Rattle.cs_laws.specs.declared.records.Record.{Record}
+
+-- the durable records, and those behind them that aren't, each the oldest first
+pub record Standing : Type 0 where
+  pub durable : List Record
+  pub fresh : List Record
+
+abbrev pub all : Standing → List Record
+all s = s.durable ++ s.fresh

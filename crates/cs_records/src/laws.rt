@@ -1,0 +1,33 @@
+// Laws of what the client is told. Each is the contract of a function that does nothing.
+ghost use Rattle.std.specs.Prelude.{◌≡◌, ◌<◌, ℕ, List, [], ◌∷◌, ◌++◌, Some, true, false};
+ghost use Rattle.std.specs.List.{filter_map};
+ghost use Rattle.cs_laws.specs.declared.records.Record.{Record};
+ghost use Rattle.cs_laws.specs.declared.records.RecordBody.TheVariants as bodies;
+ghost use Rattle.cs_laws.specs.Realms.{changed_records, is_realm};
+ghost use Rattle.cs_laws.specs.Standing.{dir_of, greatest_number, has_snap_named, told};
+ghost use Rattle.cs_records.specs.Example.{directories, first, names_after_removal, path, removal, root, second, told_first, told_removal, told_root, told_second};
+ghost use Rattle.cs_records.specs.Log.{IsLog, IsNextRemoval};
+ghost use Rattle.cs_records.specs.Below.{snapped_record, removed_record};
+
+/// After a snapshot the client is told of the realm of its directory and, where that is a realm only
+/// from this snapshot on, of each realm that has it now as the nearest realm above, and of no other;
+/// after the CephFS documentation of snapshots and the comments of Linux `fs/ceph/snap.c`.
+pub fn a_snapshot_tells_its_realm_and_those_now_below()
+    ensures { (path : ℕ → List ℕ) (ds : List ℕ) (before : List Record) (number d : ℕ) (name : List ℕ) → greatest_number before < number → changed_records path ds before (before ++ record { body = bodies.Snap number d name } ∷ []) ≡ filter_map (snapped_record path before number d name) ds }
+{}
+
+/// After a removal the client is told of the realm of the snapshot's directory alone.
+pub fn a_removal_tells_its_realm_alone()
+    ensures { (path : ℕ → List ℕ) (ds : List ℕ) (before : List Record) (s number d : ℕ) → IsLog before → IsNextRemoval before s number → dir_of s before ≡ Some d → changed_records path ds before (before ++ record { body = bodies.Removal s number } ∷ []) ≡ filter_map (removed_record path before s number d) ds }
+{}
+
+/// Directory 2 is in the root, and directory 3 in that. A snapshot of directory 3 comes first: its realm
+/// is below the root's. One of directory 2 makes that the parent of 3's realm, which is told with it. One
+/// of the root tells of the root alone, and the removal of the first of directory 3 alone.
+pub fn told_by_example()
+    ensures first { told path directories [] (first ∷ []) ≡ told_first }
+    ensures second { told path directories (first ∷ []) (second ∷ []) ≡ told_second }
+    ensures root { told path directories (first ∷ second ∷ []) (root ∷ []) ≡ told_root }
+    ensures removal { told path directories (first ∷ second ∷ root ∷ []) (removal ∷ []) ≡ told_removal }
+    ensures name { names_after_removal ≡ true ∷ false ∷ [] }
+{}

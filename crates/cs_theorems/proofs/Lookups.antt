@@ -1,0 +1,146 @@
+-- What the realm records that are told make of those that were there.
+use Rattle.std.proofs.Common.{◌≡◌, ◌⊎◌, refl, sym, ap, ◌∙◌, subst, ℕ, ◌==◌, Bool, true, false, cond, nat_eq, List, [], ◌∷◌, Option, Some, None, inl, inr, ⊎_elim}
+use Rattle.std.specs.Cmp.Lexicographic.{pointwise, same_text}
+use Rattle.std.specs.List.{cons_option, filter_map}
+use Rattle.std.proofs.lemmas.Bool.{and_parts, cond-true, cond-false, eq-eqb, eqb-true, both_ways, true≢false, false_from_ne_true}
+use Rattle.cs_snapctx.specs.declared.realm.RealmRecord.{RealmRecord}
+use Rattle.cs_snapctx.specs.Records.{changed_record, is_as_before, is_of, is_same_parent, is_same_record, record_of, with_record, with_records}
+use Rattle.cs_realms.proofs.Stays.{record_of-with}
+use Rattle.cs_laws.specs.declared.records.Record.{Record}
+use Rattle.cs_laws.specs.Realms.{changed_records, is_realm, realm_record}
+use Rattle.cs_theorems.proofs.Listed.{Member}
+use Rattle.cs_theorems.proofs.RealmPaths.{HasRealms, realm_of}
+
+-- Records that a function of the directories gives
+
+module _ (g : ℕ → Option RealmRecord) (named : (d : ℕ) (r : RealmRecord) → g d ≡ Some r → r.realm ≡ d) where
+  other_realm : (d x : ℕ) (t : RealmRecord) → g x ≡ Some t → (g d ≡ Some t → ⊥) → is_of d t ≡ false
+  other_realm d x t there not =
+      false_from_ne_true (is_of d t) (λ same. not (subst (λ k. g k ≡ Some t) (sym (named x t there) ∙ eqb-true t.realm d same) there))
+
+  pub none_told : (d : ℕ) (ds : List ℕ) (ts : List RealmRecord) → g d ≡ None → record_of d (with_records (filter_map g ds) ts) ≡ record_of d ts
+  none_told d [] ts none = refl
+  none_told d (x ∷ xs) ts none = at (g x) refl (λ us. none_told d xs us none)
+    where
+      at : (o : Option RealmRecord) → g x ≡ o → ((us : List RealmRecord) → record_of d (with_records (filter_map g xs) us) ≡ record_of d us)
+          → record_of d (with_records (cons_option o (filter_map g xs)) ts) ≡ record_of d ts
+      at None is rest = rest ts
+      at (Some t) is rest =
+          rest (with_record t ts)
+          ∙ (record_of-with d t ts ∙ cond-false (is_of d t) (Some t) (record_of d ts) (other_realm d x t is (λ same. let both : None ≡ Some t = sym none ∙ same in cc)))
+
+  pub one_told : (d : ℕ) (r : RealmRecord) (ds : List ℕ) (ts : List RealmRecord) → g d ≡ Some r → Member d ds ⊎ (record_of d ts ≡ Some r)
+      → record_of d (with_records (filter_map g ds) ts) ≡ Some r
+  one_told d r [] ts is (inl there) = absurd there
+  one_told d r [] ts is (inr was) = was
+  one_told d r (x ∷ xs) ts is there = at (g x) refl (λ us more. one_told d r xs us is more)
+    where
+      here : (t : RealmRecord) → g x ≡ Some t → x ≡ d → record_of d (with_record t ts) ≡ Some r
+      here t gives same =
+          let both : Some t ≡ Some r = sym gives ∙ (ap g same ∙ is) in
+          let t_r : t ≡ r = cc in
+          record_of-with d t ts ∙ (cond-true (is_of d t) (Some t) (record_of d ts) (eq_of (named x t gives ∙ same)) ∙ both)
+        where
+          eq_of : t.realm ≡ d → is_of d t ≡ true
+          eq_of e = eq-eqb t.realm d e
+
+      still : (t : RealmRecord) → g x ≡ Some t → record_of d ts ≡ Some r → record_of d (with_record t ts) ≡ Some r
+      still t gives was = go (is_of d t) refl
+        where
+          go : (b : Bool) → is_of d t ≡ b → record_of d (with_record t ts) ≡ Some r
+          go true same = here t gives (sym (named x t gives) ∙ eqb-true t.realm d same)
+          go false other = record_of-with d t ts ∙ (cond-false (is_of d t) (Some t) (record_of d ts) other ∙ was)
+
+      at : (o : Option RealmRecord) → g x ≡ o
+          → ((us : List RealmRecord) → Member d xs ⊎ (record_of d us ≡ Some r) → record_of d (with_records (filter_map g xs) us) ≡ Some r)
+          → record_of d (with_records (cons_option o (filter_map g xs)) ts) ≡ Some r
+      at None none rest =
+          ⊎_elim
+          (λ m. ⊎_elim (λ same. absurd (let both : None ≡ Some r = sym none ∙ (ap g same ∙ is) in cc)) (λ more. rest ts (inl more)) m)
+          (λ was. rest ts (inr was))
+          there
+      at (Some t) gives rest =
+          ⊎_elim
+          (λ m. ⊎_elim (λ same. rest (with_record t ts) (inr (here t gives same))) (λ more. rest (with_record t ts) (inl more)) m)
+          (λ was. rest (with_record t ts) (inr (still t gives was)))
+          there
+
+-- Records that differ
+
+same_parent : (a b : Option ℕ) → is_same_parent a b ≡ true → a ≡ b
+same_parent None None is = refl
+same_parent (Some p) (Some q) is = ap (λ k. Some k) (eqb-true p q is)
+same_parent None (Some q) is = absurd (true≢false (sym is))
+same_parent (Some p) None is = absurd (true≢false (sym is))
+
+same_record : (a b : RealmRecord) → is_same_record a b ≡ true → a ≡ b
+same_record a b is =
+    let realm = and_parts (a.realm == b.realm) _ is in
+    let parent = and_parts (is_same_parent a.parent b.parent) _ realm.1 in
+    let since = and_parts (a.since == b.since) _ parent.1 in
+    let seq = and_parts (a.own_seq == b.own_seq) _ since.1 in
+    let lists = and_parts (pointwise nat_eq a.own b.own) (pointwise nat_eq a.prior b.prior) seq.1 in
+    λ i. record {
+      realm = eqb-true a.realm b.realm realm.0 i;
+      parent = same_parent a.parent b.parent parent.0 i;
+      since = eqb-true a.since b.since since.0 i;
+      own_seq = eqb-true a.own_seq b.own_seq seq.0 i;
+      own = same_text a.own b.own (sym lists.0) i;
+      prior = same_text a.prior b.prior (sym lists.1) i;
+    }
+
+before_is : (b : Option RealmRecord) (r : RealmRecord) → is_as_before b r ≡ true → b ≡ Some r
+before_is None r is = absurd (true≢false (sym is))
+before_is (Some a) r is = ap (λ x. Some x) (same_record a r is)
+
+pub changed_is : (b a : Option RealmRecord) (t : RealmRecord) → changed_record b a ≡ Some t → a ≡ Some t
+changed_is b None t is = absurd cc
+changed_is b (Some r) t is = at (is_as_before b r) is
+  where
+    at : (c : Bool) → cond c None (Some r) ≡ Some t → Some r ≡ Some t
+    at true none = absurd cc
+    at false same = same
+
+-- The records of the log
+
+abbrev pub changed_at : (ℕ → List ℕ) → List Record → List Record → ℕ → Option RealmRecord
+changed_at up before after d = changed_record (realm_record (up d) before d) (realm_record (up d) after d)
+
+pub changed_realm : (up : ℕ → List ℕ) (before after : List Record) (d : ℕ) (t : RealmRecord) → changed_at up before after d ≡ Some t → t.realm ≡ d
+changed_realm up before after d t is = at (is_realm after d) (changed_is (realm_record (up d) before d) (realm_record (up d) after d) t is)
+  where
+    at : (b : Bool) → cond b (Some (realm_of up after d)) None ≡ Some t → t.realm ≡ d
+    at true same = let r_t : realm_of up after d ≡ t = cc in sym (ap (λ (r : RealmRecord). r.realm) r_t)
+    at false none = absurd cc
+
+-- the client's records go on from those before to those after
+pub has_changed : (up : ℕ → List ℕ) (ds : List ℕ) (before after : List Record) (ts : List RealmRecord)
+    → ((d : ℕ) → is_realm before d ≡ true → is_realm after d ≡ true) → ((d : ℕ) → is_realm after d ≡ true → Member d ds)
+    → HasRealms up before ts → HasRealms up after (with_records (changed_records up ds before after) ts)
+has_changed up ds before after ts stays listed i = record { has = λ d. at d (is_realm after d) refl }
+  where
+    none : (d : ℕ) → changed_at up before after d ≡ None → record_of d (with_records (changed_records up ds before after) ts) ≡ realm_record (up d) before d
+    none d is = none_told (changed_at up before after) (changed_realm up before after) d ds ts is ∙ i.has d
+
+    gone : (d : ℕ) (b : Bool) → is_realm before d ≡ b → is_realm after d ≡ false → realm_record (up d) before d ≡ None
+    gone d true was not = absurd (both_ways (is_realm after d) not (stays d was))
+    gone d false was not = ap (λ c. cond c (Some (realm_of up before d)) None) was
+
+    differ : (d : ℕ) (b : Bool) → is_as_before (realm_record (up d) before d) (realm_of up after d) ≡ b → is_realm after d ≡ true
+        → changed_at up before after d ≡ cond b None (Some (realm_of up after d))
+    differ d b same is =
+        ap (λ c. changed_record (realm_record (up d) before d) (cond c (Some (realm_of up after d)) None)) is
+        ∙ ap (λ c. cond c None (Some (realm_of up after d))) same
+
+    told : (d : ℕ) (b : Bool) → is_as_before (realm_record (up d) before d) (realm_of up after d) ≡ b → is_realm after d ≡ true
+        → record_of d (with_records (changed_records up ds before after) ts) ≡ Some (realm_of up after d)
+    told d true same is = none d (differ d true same is) ∙ before_is (realm_record (up d) before d) (realm_of up after d) same
+    told d false other is =
+        one_told (changed_at up before after) (changed_realm up before after) d (realm_of up after d) ds ts (differ d false other is) (inl (listed d is))
+
+    at : (d : ℕ) (b : Bool) → is_realm after d ≡ b → record_of d (with_records (changed_records up ds before after) ts) ≡ realm_record (up d) after d
+    at d true is =
+        told d (is_as_before (realm_record (up d) before d) (realm_of up after d)) refl is ∙ sym (ap (λ c. cond c (Some (realm_of up after d)) None) is)
+    at d false not =
+        none d (ap (λ c. changed_record (realm_record (up d) before d) (cond c (Some (realm_of up after d)) None)) not)
+        ∙ (gone d (is_realm before d) refl not ∙ sym (ap (λ c. cond c (Some (realm_of up after d)) None) not))

@@ -1,0 +1,11 @@
+//! The tree of directories. Each directory has a way up to the root, and the directories stand parents
+//! first.
+#![tactic(auto)]
+
+mod directories;
+mod path;
+#[cfg(test)]
+mod tests;
+
+pub use directories::{Directories, Directory};
+pub use path::DirPath;

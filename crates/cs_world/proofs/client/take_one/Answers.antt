@@ -1,0 +1,8 @@
+use Rattle.std.proofs.Common.{◌≡◌, ◌∙◌, sym, ap, Some, None, Err}
+use Rattle.cs_world.proofs.client.take_one.Goals as goal
+
+pub unreachable-requires : goal.unreachable-requires
+unreachable-requires c =
+    let missing = (c.apply.ensures.no_parent c.in-Err-NoParent.field-0-0).0 (c.in-Err-NoParent.is ∙ ap Err c.in-Err-NoParent.field-0-is) in
+    let never : None ≡ Some c.in-Err-NoParent.field-0-0 = sym c.requires ∙ missing in
+    cc
