@@ -8,6 +8,8 @@ mod finished;
 mod grammar_tests;
 mod input;
 mod journal;
+#[cfg(test)]
+mod one_file_tests;
 mod run_fault;
 mod serve;
 #[cfg(test)]

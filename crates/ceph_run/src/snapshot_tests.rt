@@ -10,12 +10,12 @@ pub const UNDER_A_WRITER: &[u8] =
 const SHOWN: &[u8] =
     b"ceph-journal 1\n1 file 100 1 -> made\n2 grant 100 Frw 4096 -> sent 1 held Frw\n3 toclient -> cap 100 1 Frw 4096\n4 begin 1 100 Fw 4 -> ref 1\n5 write 1 1 0 6161 -> wrote\n6 snap 1 a -> snap 1\n7 commit -> commit 1\n8 toclient -> snap 1 1 1\n9 begin 2 100 Fw 4 -> again snap\n10 write 1 1 2 6262 -> wrote\n11 show 100 1 0 4 -> pending\n12 end 1 1 -> ended\n13 flushsnaps 100 -> flushsnap 1 0\n14 tomds -> flushed 100 1\n15 commit -> commit 1\n16 toclient -> flushack 100 1\n17 show 100 1 0 4 -> size 4 mtime 0 mode 0644 bytes 61616262\nend 17\n";
 
-// The same, and a writer behind the snapshot.
+// The same, a writer behind the snapshot, and a flush of what the file is at present.
 const LATER_WRITES: &[u8] =
-    b"ceph-script 1\nfile 100 1\ngrant 100 Frw 4096\ntoclient\nbegin 1 100 Fw 4\nwrite 1 1 0 6161\nsnap 1 a\ncommit\ntoclient\nbegin 2 100 Fw 4\nwrite 1 1 2 6262\nshow 100 1 0 4\nend 1 1\nflushsnaps 100\ntomds\ncommit\ntoclient\nshow 100 1 0 4\nbegin 1 100 Fw 4\nwrite 1 2 0 7a\nend 1 2\nshow 100 1 0 4\nshow 100 head 0 4\n";
+    b"ceph-script 1\nfile 100 1\ngrant 100 Frw 4096\ntoclient\nbegin 1 100 Fw 4\nwrite 1 1 0 6161\nsnap 1 a\ncommit\ntoclient\nbegin 2 100 Fw 4\nwrite 1 1 2 6262\nshow 100 1 0 4\nend 1 1\nflushsnaps 100\ntomds\ncommit\ntoclient\nshow 100 1 0 4\nbegin 1 100 Fw 4\nwrite 1 2 0 7a\nend 1 2\nshow 100 1 0 4\nshow 100 head 0 4\nflush 100\ntomds\ncommit\ntoclient\nshow 100 head 0 4\n";
 
-const HEAD_PENDING: &[u8] =
-    b"ceph-journal 1\n1 file 100 1 -> made\n2 grant 100 Frw 4096 -> sent 1 held Frw\n3 toclient -> cap 100 1 Frw 4096\n4 begin 1 100 Fw 4 -> ref 1\n5 write 1 1 0 6161 -> wrote\n6 snap 1 a -> snap 1\n7 commit -> commit 1\n8 toclient -> snap 1 1 1\n9 begin 2 100 Fw 4 -> again snap\n10 write 1 1 2 6262 -> wrote\n11 show 100 1 0 4 -> pending\n12 end 1 1 -> ended\n13 flushsnaps 100 -> flushsnap 1 0\n14 tomds -> flushed 100 1\n15 commit -> commit 1\n16 toclient -> flushack 100 1\n17 show 100 1 0 4 -> size 4 mtime 0 mode 0644 bytes 61616262\n18 begin 1 100 Fw 4 -> ref 2\n19 write 1 2 0 7a -> wrote\n20 end 1 2 -> ended\n21 show 100 1 0 4 -> size 4 mtime 0 mode 0644 bytes 61616262\n22 show 100 head 0 4 -> pending\nend 22\n";
+const HEAD_FLUSHED: &[u8] =
+    b"ceph-journal 1\n1 file 100 1 -> made\n2 grant 100 Frw 4096 -> sent 1 held Frw\n3 toclient -> cap 100 1 Frw 4096\n4 begin 1 100 Fw 4 -> ref 1\n5 write 1 1 0 6161 -> wrote\n6 snap 1 a -> snap 1\n7 commit -> commit 1\n8 toclient -> snap 1 1 1\n9 begin 2 100 Fw 4 -> again snap\n10 write 1 1 2 6262 -> wrote\n11 show 100 1 0 4 -> pending\n12 end 1 1 -> ended\n13 flushsnaps 100 -> flushsnap 1 0\n14 tomds -> flushed 100 1\n15 commit -> commit 1\n16 toclient -> flushack 100 1\n17 show 100 1 0 4 -> size 4 mtime 0 mode 0644 bytes 61616262\n18 begin 1 100 Fw 4 -> ref 2\n19 write 1 2 0 7a -> wrote\n20 end 1 2 -> ended\n21 show 100 1 0 4 -> size 4 mtime 0 mode 0644 bytes 61616262\n22 show 100 head 0 4 -> pending\n23 flush 100 -> flush 2\n24 tomds -> flushed 100 2\n25 commit -> commit 1\n26 toclient -> flushack 100 2\n27 show 100 head 0 4 -> size 4 mtime 0 mode 0644 bytes 7a616262\nend 27\n";
 
 // Two snapshots, one writer, one cap snap.
 const TWO_SNAPSHOTS: &[u8] =
@@ -49,7 +49,7 @@ const COVERED: &[u8] =
 fn snapshots_are_answered(rt: HostRuntime) -> Result<(), Fail> {
     let table: [(&[u8], &[u8], usize); 6] = [
         (UNDER_A_WRITER, SHOWN, 2),
-        (LATER_WRITES, HEAD_PENDING, 3),
+        (LATER_WRITES, HEAD_FLUSHED, 3),
         (TWO_SNAPSHOTS, ONE_CAP_SNAP, 1),
         (WRITE_AFTER, SHOWN_EMPTY, 1),
         (REFUSED, REFUSALS, 0),
@@ -68,10 +68,10 @@ fn snapshots_are_answered(rt: HostRuntime) -> Result<(), Fail> {
 #[test]
 fn a_store_that_fails_to_read_has_all_operations(rt: HostRuntime) -> Result<(), Fail> {
     let failing = FaultyStore::new(rt.alloc(), &[3])?;
-    let (status, store, sink) = run_over(rt.alloc(), UNDER_A_WRITER, failing)?;
+    let (status, store, sink) = run_over(rt.alloc(), LATER_WRITES, failing)?;
     let taken = sink.bytes();
     assert_eq!(rt; status, 6);
-    assert!(rt; SHOWN.starts_with(taken));
+    assert!(rt; HEAD_FLUSHED.starts_with(taken));
     assert!(rt; taken.ends_with(b"\n16 toclient -> flushack 100 1\n"));
     assert_eq!(rt; store.ops().len(), 2);
     Ok(())

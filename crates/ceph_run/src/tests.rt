@@ -37,7 +37,7 @@ fn inputs_end_with_their_status_and_text(rt: HostRuntime) -> Result<(), Fail> {
         (b"ceph-script 1\n", 0, b"ceph-journal 1\nend 0\n"),
         (b"", 2, b"ceph-fault script 1 header\n"),
         (
-            b"ceph-script 1\nclock 5\n",
+            b"ceph-script 1\nlookup 1 1 x\n",
             2,
             b"ceph-fault script 2 notbuilt\n",
         ),

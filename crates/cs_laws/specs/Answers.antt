@@ -1,7 +1,7 @@
 -- The answer to each event, by tests in the order in which they are made.
 use Rattle.std.specs.Prelude.{ℕ, zero, suc, ◌+◌, ◌-◌, min, ◌==◌, ◌&&◌, Bool, true, false, List, [], ◌∷◌, Option, Some, None, if◌then◌else◌, nat_lt, nat_le, length, ◌||◌}
 use Rattle.cs_bits.specs.declared.Caps.{Caps}
-use Rattle.cs_bits.specs.Bits.{is_empty, covers, file_write}
+use Rattle.cs_bits.specs.Bits.{is_empty, covers, auth_excl, file_read, file_write}
 use Rattle.cs_parts.specs.declared.capabilities.ClientCaps.{ClientCaps}
 use Rattle.cs_parts.specs.declared.capabilities.ServerCaps.{ServerCaps}
 use Rattle.cs_parts.specs.declared.references.Live.{Live}
@@ -26,10 +26,10 @@ use Rattle.cs_laws.specs.CapSnaps.{CapSnap, is_open, is_writing, makes}
 use Rattle.cs_laws.specs.Context.{path_context}
 use Rattle.cs_laws.specs.Realms.{realm_records}
 use Rattle.cs_laws.specs.Tree.{directories, file_path, is_directory, path}
-use Rattle.cs_laws.specs.Events.{setup_file, files, client_knows, server_knows, begun}
+use Rattle.cs_laws.specs.Events.{setup_file, files, client_knows, server_knows, clock, begun}
 use Rattle.cs_laws.specs.History.{client, server, to_client, to_server, realms, context, live, writes, dirty, queued, fresh, stand, sent, used}
 use Rattle.cs_laws.specs.References.{can_end, named}
-use Rattle.cs_laws.specs.Image.{Write, image}
+use Rattle.cs_laws.specs.Image.{Write, image, size}
 use Rattle.cs_laws.specs.Metadata.{meta_at}
 use Rattle.cs_laws.specs.Owed.{owed}
 use Rattle.cs_laws.specs.Shown.{writes_at}
@@ -42,6 +42,9 @@ is_in_use h i = is_directory h i || setup_file h i
 -- the answer to a line that makes a directory or a file, i, in another
 abbrev pub answer_made : List Entry → ℕ → ℕ → Answer
 answer_made h i p = if is_in_use h i then answers.Exists else if is_directory h p then answers.Made else answers.NoDir
+
+abbrev pub answer_clock : List Entry → ℕ → Answer
+answer_clock h t = if nat_lt t (clock h) then answers.Back else answers.Now t
 
 -- the set has the right to write
 abbrev pub may_write : Caps → Bool
@@ -72,6 +75,41 @@ answer_write_on (Some r) off count =
 abbrev pub answer_write : List Entry → ℕ → RefName → ℕ → List ℕ → Answer
 answer_write h caller name off bytes = answer_write_on (named caller name (live h)) off (length bytes)
 
+-- the bytes of an image from a place on
+abbrev pub bytes_from : (ℕ → ℕ) → ℕ → ℕ → List ℕ
+bytes_from bytes off zero = []
+bytes_from bytes off (suc n) = bytes off ∷ bytes_from bytes (off + 1) n
+
+-- the bytes that these writes left from a place on, as far as a size goes
+abbrev pub bytes_within : ℕ → List Write → ℕ → ℕ → List ℕ
+bytes_within end ws off len = bytes_from (image ws) off (min len (end - off))
+
+-- the set has the right to read
+abbrev pub may_read : Caps → Bool
+may_read bits = covers bits file_read
+
+-- the answer to a read on a reference, if it lives; writes f: the writes to f
+abbrev pub answer_read_on : (ℕ → List Write) → Option Live → ℕ → ℕ → Answer
+answer_read_on writes None off len = answers.Unknown
+answer_read_on writes (Some r) off len =
+    if may_read r.bits then answers.Bytes (bytes_within (size (writes r.file)) (writes r.file) off len) else answers.NoBit
+
+abbrev pub answer_read : List Entry → ℕ → RefName → ℕ → ℕ → Answer
+answer_read h caller name off len = answer_read_on (λ f. writes h f) (named caller name (live h)) off len
+
+-- the set has the right to change the mode
+abbrev pub may_change_mode : Caps → Bool
+may_change_mode bits = covers bits auth_excl
+
+-- the answer to a change of mode on a reference, if it lives; writing f: whether a cap snap of f is writing
+abbrev pub answer_chmod_on : (ℕ → Bool) → Option Live → Answer
+answer_chmod_on writing None = answers.Unknown
+answer_chmod_on writing (Some r) =
+    if may_change_mode r.bits then (if writing r.file then answers.Again why.Snap else answers.Done) else answers.NoBit
+
+abbrev pub answer_chmod : List Entry → ℕ → RefName → Answer
+answer_chmod h caller name = answer_chmod_on (λ f. is_writing (live h) (queued h f)) (named caller name (live h))
+
 -- the answer to a check of a file that the client knows, by what is in use
 abbrev pub answer_check_of : ClientCaps → Caps → Answer
 answer_check_of c in_use =
@@ -81,6 +119,14 @@ answer_check_of c in_use =
 
 abbrev pub answer_check : List Entry → ℕ → Answer
 answer_check h f = if client_knows h f then answer_check_of (client h f) (used h f) else answers.Unknown
+
+abbrev pub answer_flush : List Entry → ℕ → Answer
+answer_flush h f =
+    if client_knows h f then
+    (if is_writing (live h) (queued h f) then answers.Again why.Snap
+    else if is_empty (dirty h f) then answers.Clean
+    else answers.Flush (length (sent h) + 1))
+    else answers.Unknown
 
 -- the first unsent cap snap of a file; count: how many flushes were sent
 abbrev pub answer_flush_snaps_of : List Live → ℕ → List CapSnap → Answer
@@ -117,6 +163,7 @@ held_after s seq bits = if s.seq == seq then bits else s.held
 -- the line of a message that is delivered to the server
 abbrev pub answer_received : List Entry → Message → Answer
 answer_received h (messages.CapAck f seq bits) = answers.CapAck f seq (held_after (server h f) seq bits)
+answer_received h (messages.Flush f tid follows meta) = answers.Flushed f tid
 answer_received h (messages.FlushSnap f tid follows meta) = answers.Flushed f tid
 answer_received h _ = answers.Idle
 
@@ -170,14 +217,9 @@ abbrev pub covers_file : At → Context → Bool
 covers_file at.Head ctx = true
 covers_file (at.Snap s) ctx = list_any (λ t. t == s) ctx.snaps
 
--- the bytes of an image from a place on
-abbrev pub bytes_from : (ℕ → ℕ) → ℕ → ℕ → List ℕ
-bytes_from bytes off zero = []
-bytes_from bytes off (suc n) = bytes off ∷ bytes_from bytes (off + 1) n
-
 -- the metadata, and the bytes that the state's writes left, as far as its size goes
 abbrev pub shown : FileMeta → List Write → ℕ → ℕ → Answer
-shown meta ws off len = answers.Size meta (bytes_from (image ws) off (min len (meta.size - off)))
+shown meta ws off len = answers.Size meta (bytes_within meta.size ws off len)
 
 abbrev pub answer_show : List Entry → ℕ → At → ℕ → ℕ → Answer
 answer_show h f a off len =
@@ -194,10 +236,14 @@ answer_show h f a off len =
 abbrev pub answer : ℕ → List Entry → Event → Answer
 answer pages h (events.Dir d p) = answer_made h d p
 answer pages h (events.File f p) = answer_made h f p
+answer pages h (events.Clock t) = answer_clock h t
 answer pages h (events.Begin caller f bits end) = answer_begin h caller f bits end
 answer pages h (events.End caller name) = answer_end h caller name
 answer pages h (events.Write caller name off bytes) = answer_write h caller name off bytes
+answer pages h (events.Read caller name off len) = answer_read h caller name off len
+answer pages h (events.Chmod caller name mode) = answer_chmod h caller name
 answer pages h (events.Check f) = answer_check h f
+answer pages h (events.Flush f) = answer_flush h f
 answer pages h (events.FlushSnaps f) = answer_flush_snaps h f
 answer pages h events.ToClient = answer_to_client h
 answer pages h events.ToMds = answer_to_mds h

@@ -32,21 +32,14 @@ client_knows h f = setup_file h f
 abbrev pub server_knows : List Entry → ℕ → Bool
 server_knows h f = setup_file h f
 
--- the time that was told last: no event tells one yet
+-- the time that was told last
 abbrev pub clock_then : Event → Answer → ℕ → ℕ
-clock_then _ _ t = t
+clock_then (events.Clock t) (answers.Now u) was = u
+clock_then _ _ was = was
 
 abbrev pub clock : List Entry → ℕ
 clock [] = 0
 clock (x ∷ h) = clock_then x.event x.answer (clock h)
-
--- the mode of every file: no event changes one yet
-abbrev pub mode_then : Event → Answer → ℕ → ℕ
-mode_then _ _ m = m
-
-abbrev pub mode : List Entry → ℕ → ℕ
-mode [] f = 420
-mode (x ∷ h) f = mode_then x.event x.answer (mode h f)
 
 abbrev pub begun_then : Event → Answer → ℕ → ℕ → ℕ
 begun_then (events.Begin caller f bits end) (answers.Ref number) c n = if caller == c then n + 1 else n

@@ -8,9 +8,7 @@ use Rattle.cs_laws.specs.declared.answers.Answer.{Answer}
 use Rattle.cs_laws.specs.declared.answers.Answer.TheVariants as answers
 use Rattle.cs_laws.specs.declared.messages.Message.{Message}
 use Rattle.cs_laws.specs.declared.messages.Message.TheVariants as messages
-use Rattle.cs_laws.specs.CapSnaps.{CapSnap}
-use Rattle.cs_laws.specs.Flushes.{flush_message, flush_snap, first_mode}
-use Rattle.cs_laws.specs.Image.{Write}
+use Rattle.cs_laws.specs.Flushes.{Flush, flush_message}
 
 -- what the client may have from now on
 abbrev pub cap_message : ℕ → ServerCaps → Message
@@ -26,11 +24,11 @@ to_client_then events.ToClient (answers.FlushAck f tid) server news q = drop 1 q
 to_client_then events.ToClient (answers.SnapTold number realm made) server news q = drop 1 q
 to_client_then _ _ server news q = q
 
--- writes f, queued f: the writes and the unsent cap snaps of f before the entry
-abbrev pub to_server_then : Event → Answer → (ℕ → List Write) → (ℕ → List CapSnap) → List Message → List Message
-to_server_then (events.Check f) (answers.Ack seq bits) writes queued q = q ++ messages.CapAck f seq bits ∷ []
-to_server_then (events.FlushSnaps f) (answers.FlushSnap tid follows) writes queued q =
-    q ++ flush_message (flush_snap f tid follows (first_mode (queued f)) (writes f)) ∷ []
-to_server_then events.ToMds (answers.CapAck f seq held) writes queued q = drop 1 q
-to_server_then events.ToMds (answers.Flushed f tid) writes queued q = drop 1 q
-to_server_then _ _ writes queued q = q
+-- present f tid: the flush of f's present metadata under this number; snap f tid follows: that of its first unsent cap snap
+abbrev pub to_server_then : Event → Answer → (ℕ → ℕ → Flush) → (ℕ → ℕ → ℕ → Flush) → List Message → List Message
+to_server_then (events.Check f) (answers.Ack seq bits) present snap q = q ++ messages.CapAck f seq bits ∷ []
+to_server_then (events.Flush f) (answers.Flush tid) present snap q = q ++ flush_message (present f tid) ∷ []
+to_server_then (events.FlushSnaps f) (answers.FlushSnap tid follows) present snap q = q ++ flush_message (snap f tid follows) ∷ []
+to_server_then events.ToMds (answers.CapAck f seq held) present snap q = drop 1 q
+to_server_then events.ToMds (answers.Flushed f tid) present snap q = drop 1 q
+to_server_then _ _ present snap q = q

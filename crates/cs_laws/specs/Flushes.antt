@@ -23,7 +23,7 @@ pub record Flush : Type 0 where
   pub snap : Bool
 
 abbrev pub flush_message : Flush → Message
-flush_message x = messages.FlushSnap x.file x.tid x.follows x.meta
+flush_message x = if x.snap then messages.FlushSnap x.file x.tid x.follows x.meta else messages.Flush x.file x.tid x.follows x.meta
 
 abbrev pub flush_record : Flush → Record
 flush_record x = record { body = bodies.Flush x.snap x.file x.tid x.follows x.meta }
@@ -41,12 +41,22 @@ meta_upto follows mode ws = record { size = size (upto follows ws); mtime = mtim
 abbrev pub flush_snap : ℕ → ℕ → ℕ → ℕ → List Write → Flush
 flush_snap f tid follows mode ws = record { tid = tid; file = f; follows = follows; meta = meta_upto follows mode ws; snap = true }
 
--- what an entry sends; writes f, queued f: the writes and the unsent cap snaps of a file before it
-abbrev pub sent_then : Event → Answer → (ℕ → List Write) → (ℕ → List CapSnap) → List Flush → List Flush
-sent_then (events.FlushSnaps f) (answers.FlushSnap tid follows) writes queued xs = xs ++ flush_snap f tid follows (first_mode (queued f)) (writes f) ∷ []
-sent_then _ _ writes queued xs = xs
+-- the metadata of a file with these writes and this mode
+abbrev pub written_meta : ℕ → List Write → FileMeta
+written_meta mode ws = record { size = size ws; mtime = mtime ws; mode = mode }
 
--- the client was told that the record of a flush is durable
+-- a file's present metadata is sent: seq is that of its present context
+abbrev pub flush_present : ℕ → ℕ → ℕ → ℕ → List Write → Flush
+flush_present f tid seq mode ws = record { tid = tid; file = f; follows = seq; meta = written_meta mode ws; snap = false }
+
+-- What an entry sends. present f tid: the flush of f's present metadata under this number; snap f tid follows: that of its
+-- first unsent cap snap, which follows this number.
+abbrev pub sent_then : Event → Answer → (ℕ → ℕ → Flush) → (ℕ → ℕ → ℕ → Flush) → List Flush → List Flush
+sent_then (events.Flush f) (answers.Flush tid) present snap xs = xs ++ present f tid ∷ []
+sent_then (events.FlushSnaps f) (answers.FlushSnap tid follows) present snap xs = xs ++ snap f tid follows ∷ []
+sent_then _ _ present snap xs = xs
+
+-- the client was told that the record of the flush of this number is durable
 abbrev pub acked_then : Event → Answer → ℕ → ℕ → Bool → Bool
 acked_then events.ToClient (answers.FlushAck g t) f tid was = if (g == f) && (t == tid) then true else was
 acked_then _ _ f tid was = was

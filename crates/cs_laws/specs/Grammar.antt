@@ -1,5 +1,5 @@
 -- The scripts: which bytes are one, its events, and else its first fault.
-use Rattle.std.specs.Prelude.{ℕ, ◌+◌, ◌==◌, ◌&&◌, ◌||◌, Bool, true, false, not, List, [], ◌∷◌, length, Option, Some, None, Result, Ok, Err, codes, if◌then◌else◌, nat_lt, nat_le, slice_get}
+use Rattle.std.specs.Prelude.{ℕ, ◌+◌, ◌-◌, ◌*◌, ◌==◌, ◌&&◌, ◌||◌, Bool, true, false, not, List, [], ◌∷◌, length, Option, Some, None, Result, Ok, Err, codes, if◌then◌else◌, nat_lt, nat_le, slice_get}
 use Rattle.std.specs.Str.{bytes_eq}
 use Rattle.std.specs.List.{slice_split}
 use Rattle.cs_ids.specs.Names.{is_name}
@@ -17,7 +17,7 @@ use Rattle.cs_laws.specs.declared.objects.At.TheVariants as at
 use Rattle.cs_laws.specs.declared.faults.Kind.{Kind}
 use Rattle.cs_laws.specs.declared.faults.Kind.TheVariants as kinds
 use Rattle.cs_laws.specs.declared.faults.ScriptFault.{ScriptFault}
-use Rattle.cs_laws.specs.Fits.{is_built, greatest_end, most_written, most_shown}
+use Rattle.cs_laws.specs.Fits.{is_built, greatest_end, greatest_time, most_written, most_shown}
 
 abbrev pub Words : Type 0
 Words = List (List ℕ)
@@ -85,6 +85,23 @@ at_in w = if bytes_eq w (codes "head") then Ok at.Head else (number_in 1 99999 w
 abbrev pub at_field : ℕ → Words → Result At Kind
 at_field i ws = word_in at_in (slice_get ws i)
 
+abbrev pub is_octal : ℕ → Bool
+is_octal c = nat_le 48 c && nat_le c 55
+
+-- a mode, by its four octal digits
+abbrev pub mode_of_digits : ℕ → ℕ → ℕ → ℕ → Result ℕ Kind
+mode_of_digits a b c d =
+    if is_octal a && (is_octal b && (is_octal c && is_octal d))
+    then Ok ((a - 48) * 512 + (b - 48) * 64 + (c - 48) * 8 + (d - 48))
+    else Err kinds.Word
+
+abbrev pub mode_in : List ℕ → Result ℕ Kind
+mode_in (a ∷ b ∷ c ∷ d ∷ []) = mode_of_digits a b c d
+mode_in _ = Err kinds.Word
+
+abbrev pub mode_field : ℕ → Words → Result ℕ Kind
+mode_field i ws = word_in mode_in (slice_get ws i)
+
 -- these are all the words
 abbrev pub only : ℕ → Event → Words → Result Event Kind
 only n e ws = if nat_le (length ws) n then Ok e else Err kinds.Extra
@@ -102,6 +119,11 @@ file_of ws = do
   f ← number_at 1 2 9999 ws
   p ← number_at 2 1 99999 ws
   only 3 (events.File f p) ws
+
+unfoldable pub clock_of : Words → Result Event Kind
+clock_of ws = do
+  t ← number_at 1 0 greatest_time ws
+  only 2 (events.Clock t) ws
 
 unfoldable pub begin_of : Words → Result Event Kind
 begin_of ws = do
@@ -130,10 +152,30 @@ write_of ws = do
   e ← only 5 (events.Write c r o b) ws
   ends_in_file o (length b) e
 
+unfoldable pub read_of : Words → Result Event Kind
+read_of ws = do
+  c ← number_at 1 0 32 ws
+  r ← name_at 2 ws
+  o ← number_at 3 0 1048575 ws
+  n ← number_at 4 1 most_shown ws
+  only 5 (events.Read c r o n) ws
+
+unfoldable pub chmod_of : Words → Result Event Kind
+chmod_of ws = do
+  c ← number_at 1 0 32 ws
+  r ← name_at 2 ws
+  m ← mode_field 3 ws
+  only 4 (events.Chmod c r m) ws
+
 unfoldable pub check_of : Words → Result Event Kind
 check_of ws = do
   f ← number_at 1 1 99999 ws
   only 2 (events.Check f) ws
+
+unfoldable pub flush_of : Words → Result Event Kind
+flush_of ws = do
+  f ← number_at 1 1 99999 ws
+  only 2 (events.Flush f) ws
 
 unfoldable pub flush_snaps_of : Words → Result Event Kind
 flush_snaps_of ws = do
@@ -176,14 +218,12 @@ show_of ws = do
 
 abbrev pub is_later_caller_word : List ℕ → Bool
 is_later_caller_word w =
-    bytes_eq w (codes "read") || (bytes_eq w (codes "chmod") || (bytes_eq w (codes "lookup")
-    || (bytes_eq w (codes "req") || (bytes_eq w (codes "clock") || bytes_eq w (codes "names")))))
+    bytes_eq w (codes "lookup") || (bytes_eq w (codes "req") || bytes_eq w (codes "names"))
 
 abbrev pub is_later_client_word : List ℕ → Bool
 is_later_client_word w =
-    bytes_eq w (codes "flush") || (bytes_eq w (codes "writeback") || (bytes_eq w (codes "invalidate")
-    || (bytes_eq w (codes "osd") || (bytes_eq w (codes "osdack") || (bytes_eq w (codes "osdlose")
-    || bytes_eq w (codes "osdresend"))))))
+    bytes_eq w (codes "writeback") || (bytes_eq w (codes "invalidate") || (bytes_eq w (codes "osd")
+    || (bytes_eq w (codes "osdack") || (bytes_eq w (codes "osdlose") || bytes_eq w (codes "osdresend")))))
 
 abbrev pub is_later_server_word : List ℕ → Bool
 is_later_server_word w =
@@ -196,10 +236,14 @@ unfoldable pub event_by : List ℕ → Words → Result Event Kind
 event_by w ws =
     if bytes_eq w (codes "dir") then dir_of ws
     else if bytes_eq w (codes "file") then file_of ws
+    else if bytes_eq w (codes "clock") then clock_of ws
     else if bytes_eq w (codes "begin") then begin_of ws
     else if bytes_eq w (codes "end") then end_of ws
     else if bytes_eq w (codes "write") then write_of ws
+    else if bytes_eq w (codes "read") then read_of ws
+    else if bytes_eq w (codes "chmod") then chmod_of ws
     else if bytes_eq w (codes "check") then check_of ws
+    else if bytes_eq w (codes "flush") then flush_of ws
     else if bytes_eq w (codes "flushsnaps") then flush_snaps_of ws
     else if bytes_eq w (codes "toclient") then only 1 events.ToClient ws
     else if bytes_eq w (codes "tomds") then only 1 events.ToMds ws

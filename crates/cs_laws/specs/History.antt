@@ -17,11 +17,11 @@ use Rattle.cs_snapctx.specs.Records.{root_record}
 use Rattle.cs_laws.specs.Capabilities.{client_then, server_then}
 use Rattle.cs_laws.specs.CapSnaps.{CapSnap, queued_then}
 use Rattle.cs_laws.specs.Context.{path_context, realms_then}
-use Rattle.cs_laws.specs.Events.{clock, mode}
+use Rattle.cs_laws.specs.Events.{clock}
 use Rattle.cs_laws.specs.Flight.{to_client_then, to_server_then}
-use Rattle.cs_laws.specs.Flushes.{Flush, sent_then}
+use Rattle.cs_laws.specs.Flushes.{Flush, first_mode, flush_present, flush_snap, sent_then}
 use Rattle.cs_laws.specs.Image.{Write}
-use Rattle.cs_laws.specs.References.{live_then, dirty_then}
+use Rattle.cs_laws.specs.References.{live_then, mode_then, dirty_then}
 use Rattle.cs_laws.specs.Standing.{durable_then, fresh_then, told}
 use Rattle.cs_laws.specs.Tree.{directories, file_path, path}
 use Rattle.cs_laws.specs.Writes.{writes_then}
@@ -45,7 +45,8 @@ abbrev mutual
   -- the messages on their way to the server
   pub to_server : List Entry → List Message
   to_server [] = []
-  to_server (x ∷ h) = to_server_then x.event x.answer (λ f. writes h f) (λ f. queued h f) (to_server h)
+  to_server (x ∷ h) =
+      to_server_then x.event x.answer (λ f tid. flush_present f tid (path_context (file_path h f) (realms h)).seq (mode h f) (writes h f)) (λ f tid follows. flush_snap f tid follows (first_mode (queued h f)) (writes h f)) (to_server h)
 
   -- the realms' last records that were delivered to the client; it has the root's empty one from the start
   pub realms : List Entry → List RealmRecord
@@ -72,6 +73,11 @@ abbrev mutual
   writes [] f = []
   writes (x ∷ h) f = writes_then x.event x.answer (live h) (clock h) f (writes h f)
 
+  -- the mode of a file
+  pub mode : List Entry → ℕ → ℕ
+  mode [] f = 420
+  mode (x ∷ h) f = mode_then x.event x.answer (live h) f (mode h f)
+
   -- the metadata of a file that was changed and not sent in a flush
   pub dirty : List Entry → ℕ → Caps
   dirty [] f = no_caps
@@ -95,7 +101,15 @@ used h f = union (used_in f (live h)) (dirty h f)
 abbrev pub stand : List Entry → List Record
 stand h = durable h ++ fresh h
 
+-- the flush of a file's present metadata, under a number
+abbrev pub present : List Entry → ℕ → ℕ → Flush
+present h f tid = flush_present f tid (context h f).seq (mode h f) (writes h f)
+
+-- that of its first unsent cap snap, which follows this number
+abbrev pub snap : List Entry → ℕ → ℕ → ℕ → Flush
+snap h f tid follows = flush_snap f tid follows (first_mode (queued h f)) (writes h f)
+
 -- the flushes that were sent
 abbrev pub sent : List Entry → List Flush
 sent [] = []
-sent (x ∷ h) = sent_then x.event x.answer (λ f. writes h f) (λ f. queued h f) (sent h)
+sent (x ∷ h) = sent_then x.event x.answer (present h) (snap h) (sent h)

@@ -8,9 +8,9 @@ use Rattle.cs_parts.specs.References.{is_writer_of}
 use Rattle.cs_laws.specs.declared.answers.Entry.{Entry}
 use Rattle.cs_laws.specs.declared.objects.At.{At}
 use Rattle.cs_laws.specs.declared.objects.At.TheVariants as at
-use Rattle.cs_laws.specs.Events.{client_knows, mode}
+use Rattle.cs_laws.specs.Events.{client_knows}
 use Rattle.cs_laws.specs.Flushes.{Flush, acked}
-use Rattle.cs_laws.specs.History.{context, dirty, live, queued, sent}
+use Rattle.cs_laws.specs.History.{context, dirty, live, mode, queued, sent}
 use Rattle.cs_laws.specs.Shown.{is_before}
 
 -- the client wasn't told of the snapshot
@@ -27,9 +27,18 @@ abbrev pub is_changed : At → Caps → Bool
 is_changed at.Head dirty = not (is_empty dirty)
 is_changed (at.Snap s) dirty = false
 
+-- y was sent behind x, and both are of one file's present metadata
+abbrev pub is_later : Flush → Flush → Bool
+is_later x y = (y.file == x.file) && (not y.snap && nat_lt x.tid y.tid)
+
+-- The client was told that the record of a flush is durable, or, where it isn't that of a cap snap, of a later such flush of
+-- its file.
+abbrev pub is_acked : List Entry → Flush → Bool
+is_acked h x = acked h x.file x.tid || (not x.snap && list_any (λ y. is_later x y && acked h y.file y.tid) (sent h))
+
 -- a flush of the file that is of the time before the state isn't acknowledged
 abbrev pub is_unacked : List Entry → At → ℕ → Flush → Bool
-is_unacked h a f x = ((x.file == f) && is_before a x.follows) && not (acked h f x.tid)
+is_unacked h a f x = ((x.file == f) && is_before a x.follows) && not (is_acked h x)
 
 -- what the file is at the state may be on its way, or still with the client
 abbrev pub owed : List Entry → ℕ → At → Bool

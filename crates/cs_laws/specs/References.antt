@@ -1,7 +1,7 @@
--- What an entry does to the live references, and to the metadata that is dirty.
+-- What an entry does to the live references, to the modes of files, and to the metadata that is dirty.
 use Rattle.std.specs.Prelude.{ℕ, ◌==◌, Bool, false, List, [], ◌∷◌, ◌++◌, Option, Some, None, if◌then◌else◌}
 use Rattle.cs_bits.specs.declared.Caps.{Caps}
-use Rattle.cs_bits.specs.Bits.{union, file_write}
+use Rattle.cs_bits.specs.Bits.{no_caps, union, auth_excl, file_write}
 use Rattle.cs_parts.specs.declared.references.Live.{Live}
 use Rattle.cs_parts.specs.References.{has_ref, ref_named, without_ref}
 use Rattle.cs_laws.specs.declared.events.Event.{Event}
@@ -32,12 +32,24 @@ live_then (events.Begin caller file bits end) (answers.Ref number) seq rs =
 live_then (events.End caller name) answers.Ended seq rs = without_named caller name rs
 live_then _ _ seq rs = rs
 
--- a write on a reference makes the size and the times of its file dirty, which Fw stands for
-abbrev pub with_dirty : Option Live → ℕ → Caps → Caps
-with_dirty None f d = d
-with_dirty (Some r) f d = if r.file == f then union d file_write else d
+-- a change of mode on a reference is one of the reference's file
+abbrev pub with_mode : Option Live → ℕ → ℕ → ℕ → ℕ
+with_mode None mode f was = was
+with_mode (Some r) mode f was = if r.file == f then mode else was
 
 -- rs: the live references before the entry
+abbrev pub mode_then : Event → Answer → List Live → ℕ → ℕ → ℕ
+mode_then (events.Chmod caller name mode) answers.Done rs f was = with_mode (named caller name rs) mode f was
+mode_then _ _ rs f was = was
+
+-- what is done on a reference makes metadata of its file dirty
+abbrev pub with_dirty : Option Live → Caps → ℕ → Caps → Caps
+with_dirty None bit f d = d
+with_dirty (Some r) bit f d = if r.file == f then union d bit else d
+
+-- Fw stands for the size and the times, which a write changes, and Ax for the mode. A flush sends them all.
 abbrev pub dirty_then : Event → Answer → List Live → ℕ → Caps → Caps
-dirty_then (events.Write caller name off bytes) answers.Wrote rs f d = with_dirty (named caller name rs) f d
+dirty_then (events.Write caller name off bytes) answers.Wrote rs f d = with_dirty (named caller name rs) file_write f d
+dirty_then (events.Chmod caller name mode) answers.Done rs f d = with_dirty (named caller name rs) auth_excl f d
+dirty_then (events.Flush g) (answers.Flush tid) rs f d = if g == f then no_caps else d
 dirty_then _ _ rs f d = d

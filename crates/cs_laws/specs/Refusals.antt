@@ -18,10 +18,12 @@ abbrev pub is_turned_down : Answer → Bool
 is_turned_down answers.Unknown = true
 is_turned_down answers.Exists = true
 is_turned_down answers.NoDir = true
+is_turned_down answers.Back = true
 is_turned_down answers.Full = true
 is_turned_down answers.NoBit = true
 is_turned_down answers.Past = true
 is_turned_down answers.Nothing = true
+is_turned_down answers.Clean = true
 is_turned_down answers.NoneQueued = true
 is_turned_down answers.NoSnap = true
 is_turned_down answers.Gone = true

@@ -16,6 +16,7 @@ use Rattle.cs_laws.specs.Realms.{changed_records}
 
 -- the record of a delivered flush
 abbrev pub recorded_of : Message → List Record
+recorded_of (messages.Flush f tid follows meta) = record { body = bodies.Flush false f tid follows meta } ∷ []
 recorded_of (messages.FlushSnap f tid follows meta) = record { body = bodies.Flush true f tid follows meta } ∷ []
 recorded_of _ = []
 

@@ -28,13 +28,21 @@ abbrev pub at_text : At → List ℕ
 at_text at.Head = codes "head"
 at_text (at.Snap s) = decimal s
 
+-- four octal digits
+abbrev pub mode_text : ℕ → List ℕ
+mode_text m = decimal (m / 512) ++ decimal (m / 64 % 8) ++ decimal (m / 8 % 8) ++ decimal (m % 8)
+
 abbrev pub event_text : Event → List ℕ
 event_text (events.Dir d p) = codes "dir " ++ decimal d ++ codes " " ++ decimal p
 event_text (events.File f p) = codes "file " ++ decimal f ++ codes " " ++ decimal p
+event_text (events.Clock t) = codes "clock " ++ decimal t
 event_text (events.Begin c f bits end) = codes "begin " ++ decimal c ++ codes " " ++ decimal f ++ codes " " ++ caps_text bits ++ codes " " ++ decimal end
 event_text (events.End c name) = codes "end " ++ decimal c ++ codes " " ++ name_text name
 event_text (events.Write c name off bytes) = codes "write " ++ decimal c ++ codes " " ++ name_text name ++ codes " " ++ decimal off ++ codes " " ++ hex_text bytes
+event_text (events.Read c name off len) = codes "read " ++ decimal c ++ codes " " ++ name_text name ++ codes " " ++ decimal off ++ codes " " ++ decimal len
+event_text (events.Chmod c name mode) = codes "chmod " ++ decimal c ++ codes " " ++ name_text name ++ codes " " ++ mode_text mode
 event_text (events.Check f) = codes "check " ++ decimal f
+event_text (events.Flush f) = codes "flush " ++ decimal f
 event_text (events.FlushSnaps f) = codes "flushsnaps " ++ decimal f
 event_text events.ToClient = codes "toclient"
 event_text events.ToMds = codes "tomds"
@@ -44,10 +52,6 @@ event_text (events.Snap d name) = codes "snap " ++ decimal d ++ codes " " ++ nam
 event_text (events.RemoveSnap s) = codes "rmsnap " ++ decimal s
 event_text events.Commit = codes "commit"
 event_text (events.Show f a off len) = codes "show " ++ decimal f ++ codes " " ++ at_text a ++ codes " " ++ decimal off ++ codes " " ++ decimal len
-
--- four octal digits
-abbrev pub mode_text : ℕ → List ℕ
-mode_text m = decimal (m / 512) ++ decimal (m / 64 % 8) ++ decimal (m / 8 % 8) ++ decimal (m % 8)
 
 -- no bytes are written as a line
 abbrev pub shown_text : List ℕ → List ℕ
@@ -61,15 +65,21 @@ answer_text answers.NoDir = codes "nodir"
 answer_text (answers.Again w) = codes "again " ++ why_text w
 answer_text answers.Idle = codes "idle"
 answer_text answers.Made = codes "made"
+answer_text answers.Back = codes "back"
+answer_text (answers.Now t) = codes "now " ++ decimal t
 answer_text answers.Full = codes "full"
 answer_text (answers.Ref n) = codes "ref " ++ decimal n
 answer_text answers.Ended = codes "ended"
 answer_text answers.NoBit = codes "nobit"
 answer_text answers.Past = codes "past"
 answer_text answers.Wrote = codes "wrote"
+answer_text (answers.Bytes bytes) = codes "bytes " ++ shown_text bytes
+answer_text answers.Done = codes "done"
 answer_text answers.Nothing = codes "nothing"
 answer_text (answers.Hold bits) = codes "hold " ++ caps_text bits
 answer_text (answers.Ack seq bits) = codes "ack " ++ decimal seq ++ codes " " ++ caps_text bits
+answer_text answers.Clean = codes "clean"
+answer_text (answers.Flush tid) = codes "flush " ++ decimal tid
 answer_text answers.NoneQueued = codes "none"
 answer_text answers.Writing = codes "writing"
 answer_text (answers.FlushSnap tid follows) = codes "flushsnap " ++ decimal tid ++ codes " " ++ decimal follows

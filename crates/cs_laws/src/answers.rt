@@ -27,6 +27,12 @@ pub enum Answer {
     Exists,
     /// The parent is no directory.
     NoDir,
+    /// The time is before the present one.
+    Back,
+    /// The time is this one from now on.
+    Now {
+        time: u64,
+    },
     /// The same event may be answered otherwise later.
     Again(Why),
     /// No message is on its way.
@@ -47,6 +53,10 @@ pub enum Answer {
     Past,
     /// The bytes were written.
     Wrote,
+    /// The file's bytes, as far as its size goes.
+    Bytes(Bytes),
+    /// The file has the mode.
+    Done,
     /// Nothing is left to acknowledge.
     Nothing,
     /// These bits were taken back and are still in use.
@@ -57,6 +67,12 @@ pub enum Answer {
     Ack {
         seq: Seq,
         bits: Caps,
+    },
+    /// No metadata of the file is dirty.
+    Clean,
+    /// The file's metadata was sent under this flush number.
+    Flush {
+        tid: Tid,
     },
     /// No cap snap of the file is to be sent.
     NoneQueued,
@@ -140,6 +156,8 @@ impl Answer {
             Answer::Unknown => Answer::Unknown,
             Answer::Exists => Answer::Exists,
             Answer::NoDir => Answer::NoDir,
+            Answer::Back => Answer::Back,
+            Answer::Now { time } => Answer::Now { time: *time },
             Answer::Again(why) => Answer::Again(*why),
             Answer::Idle => Answer::Idle,
             Answer::Made => Answer::Made,
@@ -149,12 +167,16 @@ impl Answer {
             Answer::NoBit => Answer::NoBit,
             Answer::Past => Answer::Past,
             Answer::Wrote => Answer::Wrote,
+            Answer::Bytes(bytes) => Answer::Bytes(Bytes::from_slice(alloc, bytes.as_slice())?),
+            Answer::Done => Answer::Done,
             Answer::Nothing => Answer::Nothing,
             Answer::Hold { bits } => Answer::Hold { bits: *bits },
             Answer::Ack { seq, bits } => Answer::Ack {
                 seq: *seq,
                 bits: *bits,
             },
+            Answer::Clean => Answer::Clean,
+            Answer::Flush { tid } => Answer::Flush { tid: *tid },
             Answer::NoneQueued => Answer::NoneQueued,
             Answer::Writing => Answer::Writing,
             Answer::FlushSnap { tid, follows } => Answer::FlushSnap {

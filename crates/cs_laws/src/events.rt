@@ -1,6 +1,6 @@
 // The events of a script.
 ghost use Rattle.std.specs.Prelude.{◌≡◌, ◌&&◌, nat_le, IfOk};
-ghost use Rattle.cs_laws.specs.Fits.{fits, is_built, is_shown, is_state, is_write};
+ghost use Rattle.cs_laws.specs.Fits.{fits, is_built, is_mode, is_shown, is_state, is_write};
 
 use crate::At;
 use cs_bits::Caps;
@@ -29,6 +29,10 @@ pub enum Event {
         file: Ino,
         parent: Ino,
     },
+    /// The script's time becomes this one, 0 to 4,294,967,295, which isn't before the present one.
+    Clock {
+        time: u64,
+    },
     /// A caller begins a reference with these bits. With the right to write, it may write up to
     /// `end` bytes, 0 to 1,048,576.
     Begin {
@@ -50,8 +54,26 @@ pub enum Event {
         off: u32,
         bytes: Bytes,
     },
+    /// A caller reads up to `len` bytes of the file of a reference, from the offset `off` on. A script
+    /// gives offsets up to 1,048,575 and 1 to 4,096 bytes.
+    Read {
+        caller: Caller,
+        name: RefName,
+        off: u32,
+        len: u32,
+    },
+    /// A caller gives the file of a reference another mode, of twelve bits.
+    Chmod {
+        caller: Caller,
+        name: RefName,
+        mode: u16,
+    },
     /// The client looks whether it can acknowledge the last revocation of a file's bits.
     Check {
+        file: Ino,
+    },
+    /// The client sends a file's present metadata, if it is dirty.
+    Flush {
         file: Ino,
     },
     /// The client sends the oldest cap snap of a file that it hasn't sent.
@@ -112,6 +134,7 @@ impl Event {
                 file: *file,
                 parent: *parent,
             },
+            Event::Clock { time } => Event::Clock { time: *time },
             Event::Begin {
                 caller,
                 file,
@@ -142,7 +165,26 @@ impl Event {
                     bytes: Bytes::from_slice(alloc, bytes.as_slice())?,
                 }
             }
+            Event::Read {
+                caller,
+                name,
+                off,
+                len,
+            } => {
+                Event::Read {
+                    caller: *caller,
+                    name: *name,
+                    off: *off,
+                    len: *len,
+                }
+            }
+            Event::Chmod { caller, name, mode } => Event::Chmod {
+                caller: *caller,
+                name: *name,
+                mode: *mode,
+            },
             Event::Check { file } => Event::Check { file: *file },
+            Event::Flush { file } => Event::Flush { file: *file },
             Event::FlushSnaps { file } => Event::FlushSnaps { file: *file },
             Event::ToClient => Event::ToClient,
             Event::ToMds => Event::ToMds,
@@ -182,14 +224,18 @@ impl Event {
         match self {
             Event::Dir { dir, .. } => is_setup_inode(*dir),
             Event::File { file, .. } => is_setup_inode(*file),
+            Event::Clock { time } => *time <= 4_294_967_295,
             Event::Begin { bits, end, .. } => is_built(*bits) && *end <= 1_048_576,
             Event::Write { off, bytes, .. } => is_write(*off, bytes.as_slice()),
+            Event::Read { off, len, .. } => is_shown(*off, *len),
+            Event::Chmod { mode, .. } => is_mode(*mode),
             Event::Grant { bits, max, .. } => is_built(*bits) && *max <= 1_048_576,
             Event::Revoke { bits, .. } => is_built(*bits),
             Event::RemoveSnap { snap } => 1 <= snap.get(),
             Event::Show { at, off, len, .. } => is_state(*at) && is_shown(*off, *len),
             Event::End { .. }
             | Event::Check { .. }
+            | Event::Flush { .. }
             | Event::FlushSnaps { .. }
             | Event::ToClient
             | Event::ToMds
@@ -216,11 +262,18 @@ fn is_state(at: At) -> bool
     }
 }
 
-// Whether a script may ask for so many bytes from the offset on.
+// Whether a script may ask for so many bytes from the offset on, to read or to show them.
 fn is_shown(off: u32, len: u32) -> bool
     ensures { result ≡ is_shown off len }
 {
     off <= 1_048_575 && 1 <= len && len <= 4096
+}
+
+// Whether four octal digits spell the mode.
+fn is_mode(mode: u16) -> bool
+    ensures { result ≡ is_mode mode }
+{
+    mode <= 0o7777
 }
 
 // Whether a script may write so many bytes at the offset.

@@ -3,7 +3,8 @@ use crate::RealmRecordList;
 use cs_bits::Caps;
 use cs_ids::{FileMeta, Ino, Seq, Snap, Tid};
 
-/// A message. `Cap`, `FlushAck` and `Snap` go to the client, `CapAck` and `FlushSnap` to the server.
+/// A message. `Cap`, `FlushAck` and `Snap` go to the client, `CapAck`, `Flush` and `FlushSnap` to the
+/// server.
 #[derive(Drop)]
 pub enum Message {
     /// The bits that the client may have from now on, and the file's greatest end in bytes.
@@ -30,6 +31,13 @@ pub enum Message {
         file: Ino,
         seq: Seq,
         bits: Caps,
+    },
+    /// A file's present metadata, under the context whose `seq` it follows.
+    Flush {
+        file: Ino,
+        tid: Tid,
+        follows: Seq,
+        meta: FileMeta,
     },
     /// A cap snap: a file's metadata under the context whose `seq` it follows.
     FlushSnap {

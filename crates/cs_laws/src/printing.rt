@@ -102,6 +102,7 @@ impl fmt::Display for Event {
         match self {
             Event::Dir { dir, parent } => write!(f, "dir {} {}", dir.get(), parent.get()),
             Event::File { file, parent } => write!(f, "file {} {}", file.get(), parent.get()),
+            Event::Clock { time } => write!(f, "clock {time}"),
             Event::Begin {
                 caller,
                 file,
@@ -118,7 +119,18 @@ impl fmt::Display for Event {
                 let digits = HexText(bytes.as_slice());
                 write!(f, "write {} {name} {off} {digits}", caller.get())
             }
+            Event::Read {
+                caller,
+                name,
+                off,
+                len,
+            } => { write!(f, "read {} {name} {off} {len}", caller.get()) }
+            Event::Chmod { caller, name, mode } => {
+                write!(f, "chmod {} {name} ", caller.get())?;
+                write_mode(*mode, f)
+            }
             Event::Check { file } => write!(f, "check {}", file.get()),
+            Event::Flush { file } => write!(f, "flush {}", file.get()),
             Event::FlushSnaps { file } => write!(f, "flushsnaps {}", file.get()),
             Event::ToClient => write!(f, "toclient"),
             Event::ToMds => write!(f, "tomds"),
@@ -148,15 +160,24 @@ impl fmt::Display for Answer {
             Answer::Again(why) => write!(f, "again {why}"),
             Answer::Idle => write!(f, "idle"),
             Answer::Made => write!(f, "made"),
+            Answer::Back => write!(f, "back"),
+            Answer::Now { time } => write!(f, "now {time}"),
             Answer::Full => write!(f, "full"),
             Answer::Ref { number } => write!(f, "ref {}", number.get()),
             Answer::Ended => write!(f, "ended"),
             Answer::NoBit => write!(f, "nobit"),
             Answer::Past => write!(f, "past"),
             Answer::Wrote => write!(f, "wrote"),
+            Answer::Bytes(bytes) => {
+                write!(f, "bytes ")?;
+                write_shown(bytes.as_slice(), f)
+            }
+            Answer::Done => write!(f, "done"),
             Answer::Nothing => write!(f, "nothing"),
             Answer::Hold { bits } => write!(f, "hold {bits}"),
             Answer::Ack { seq, bits } => write!(f, "ack {} {bits}", seq.get()),
+            Answer::Clean => write!(f, "clean"),
+            Answer::Flush { tid } => write!(f, "flush {}", tid.get()),
             Answer::NoneQueued => write!(f, "none"),
             Answer::Writing => write!(f, "writing"),
             Answer::FlushSnap { tid, follows } => {

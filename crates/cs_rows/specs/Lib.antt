@@ -1,14 +1,17 @@
 pub mod AfterASnapshot
+pub mod CleanFile
 pub mod Delivered
 pub mod EmptyScript
 pub mod Faults
 pub mod FullTable
+pub mod HeadFlush
 pub mod HoldThenAck
 pub mod LastByte
 pub mod LaterWrites
 pub mod OneCapSnap
 pub mod RealmBetween
 pub mod Realms
+pub mod RefusedEvents
 pub mod TwoObjects
 pub mod UnderAWriter
 pub mod WriteAfterSnapshot

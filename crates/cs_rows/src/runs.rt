@@ -7,15 +7,18 @@ ghost use Rattle.cs_laws.specs.History.{context, sent};
 ghost use Rattle.cs_laws.specs.Journal.{journal, text};
 ghost use Rattle.cs_laws.specs.Operations.{applied};
 ghost use Rattle.cs_rows.specs.AfterASnapshot as after;
+ghost use Rattle.cs_rows.specs.CleanFile as clean;
 ghost use Rattle.cs_rows.specs.Delivered as delivered;
 ghost use Rattle.cs_rows.specs.EmptyScript as empty;
 ghost use Rattle.cs_rows.specs.FullTable as full;
+ghost use Rattle.cs_rows.specs.HeadFlush as head;
 ghost use Rattle.cs_rows.specs.HoldThenAck as held;
 ghost use Rattle.cs_rows.specs.LastByte as last;
 ghost use Rattle.cs_rows.specs.LaterWrites as later;
 ghost use Rattle.cs_rows.specs.OneCapSnap as shared;
 ghost use Rattle.cs_rows.specs.RealmBetween as between;
 ghost use Rattle.cs_rows.specs.Realms as trees;
+ghost use Rattle.cs_rows.specs.RefusedEvents as refused;
 ghost use Rattle.cs_rows.specs.TwoObjects as crossing;
 ghost use Rattle.cs_rows.specs.UnderAWriter as under;
 ghost use Rattle.cs_rows.specs.WriteAfterSnapshot as behind;
@@ -64,10 +67,36 @@ pub fn under_a_writer()
     ensures flushed { sent (journal 256 under.events_read) ≡ under.flushed }
 {}
 
-/// A later writer changes nothing in the snapshot; the head is pending then.
+/// A later writer changes nothing in the snapshot. The head is pending then, until the flush of what that
+/// writer left is known to be durable.
 pub fn later_writes()
     ensures read { script_of later.input ≡ Ok later.events_read }
     ensures written { text (journal 256 later.events_read) ≡ later.written }
+    ensures flushed { sent (journal 256 later.events_read) ≡ later.flushed }
+{}
+
+/// What was written is flushed before the snapshot, which so makes no cap snap, and reads back from that
+/// flush.
+pub fn clean_file_at_snapshot()
+    ensures read { script_of clean.input ≡ Ok clean.events_read }
+    ensures written { text (journal 256 clean.events_read) ≡ clean.written }
+    ensures flushed { sent (journal 256 clean.events_read) ≡ clean.flushed }
+{}
+
+/// The head is flushed before an older cap snap, and each snapshot reads back with its own size. The
+/// flush leaves nothing dirty, so that a later snapshot makes no cap snap.
+pub fn head_flush_before_cap_snap()
+    ensures read { script_of head.input ≡ Ok head.events_read }
+    ensures written { text (journal 256 head.events_read) ≡ head.written }
+    ensures flushed { sent (journal 256 head.events_read) ≡ head.flushed }
+{}
+
+/// Events that find no right, no reference, nothing dirty, nothing to acknowledge or a later time; and a
+/// mode that is changed, and flushed.
+pub fn refused_events()
+    ensures read { script_of refused.input ≡ Ok refused.events_read }
+    ensures written { text (journal 256 refused.events_read) ≡ refused.written }
+    ensures flushed { sent (journal 256 refused.events_read) ≡ refused.flushed }
 {}
 
 /// Two snapshots while a writer lives: the second makes no cap snap, since the first one's is writing.

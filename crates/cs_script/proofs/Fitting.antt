@@ -9,10 +9,11 @@ use Rattle.cs_laws.specs.declared.objects.At.{At}
 use Rattle.cs_laws.specs.declared.objects.At.TheVariants as at
 use Rattle.cs_laws.specs.declared.faults.Kind.{Kind}
 use Rattle.cs_laws.specs.declared.faults.Kind.TheVariants as kinds
-use Rattle.cs_laws.specs.Fits.{fits, is_built, is_shown, is_state, greatest_end, most_written, most_shown}
-use Rattle.cs_laws.specs.Grammar.{Words, ◌>>=◌, number_in, at_in, at_field, dir_of, file_of, begin_of, end_of, write_of, check_of, flush_snaps_of, grant_of, revoke_of, snap_of, remove_of, show_of, is_later_word, event_by, event_of, words_in, in_time, is_setup, line_event}
+use Rattle.cs_laws.specs.Fits.{fits, is_built, is_shown, is_state, greatest_end, greatest_time, most_written, most_shown}
+use Rattle.cs_laws.specs.Grammar.{Words, ◌>>=◌, number_in, number_at, at_in, at_field, mode_in, dir_of, file_of, clock_of, begin_of, end_of, write_of, read_of, chmod_of, check_of, flush_of, flush_snaps_of, grant_of, revoke_of, snap_of, remove_of, show_of, is_later_word, event_by, event_of, words_in, in_time, is_setup, line_event}
 use Rattle.cs_script.proofs.FieldFacts.{number_is, word_is, number_range, number_below, set_built, bytes_count, only_is}
-use Rattle.cs_script.proofs.FormFacts.{binds, dir_is, file_is, begin_is, end_is, write_is, check_is, flush_snaps_is, grant_is, revoke_is, snap_is, remove_is, show_is}
+use Rattle.cs_script.proofs.FormFacts.{binds, dir_is, file_is, clock_is, begin_is, end_is, write_is, read_is, chmod_is, check_is, flush_is, flush_snaps_is, grant_is, revoke_is, snap_is, remove_is, show_is}
+use Rattle.cs_script.proofs.Modes.{mode_told}
 
 both : (a b : Bool) → a ≡ true → b ≡ true → (a && b) ≡ true
 both true true p q = refl
@@ -29,6 +30,11 @@ file_fits ws e h =
     let i = file_is ws e h in
     rw i.is (number_range 1 2 9999 ws i.f i.file)
 
+clock_fits : (ws : Words) (e : Event) → clock_of ws ≡ Ok e → fits e ≡ true
+clock_fits ws e h =
+    let i = clock_is ws e h in
+    rw i.is (number_below 1 0 greatest_time ws i.t i.time)
+
 begin_fits : (ws : Words) (e : Event) → begin_of ws ≡ Ok e → fits e ≡ true
 begin_fits ws e h =
     let i = begin_is ws e h in
@@ -42,8 +48,31 @@ write_fits ws e h =
     let i = write_is ws e h in
     rw i.is (both (nat_le 1 (length i.b) && nat_le (length i.b) most_written) (nat_le (i.o + length i.b) greatest_end) (bytes_count 4 ws i.b i.bytes) i.ends)
 
+-- a place where a file may have a byte
+place_below : (o : ℕ) → nat_le o 1048575 ≡ true → nat_lt o greatest_end ≡ true
+place_below o h = grind (arith, nat_tests)
+
+-- how much is read or shown, and from where
+shown_fits : (off len : ℕ) (ws : Words) → number_at 3 0 1048575 ws ≡ Ok off → number_at 4 1 most_shown ws ≡ Ok len → is_shown off len ≡ true
+shown_fits off len ws o n =
+    both (nat_lt off greatest_end) (nat_le 1 len && nat_le len most_shown) (place_below off (number_below 3 0 1048575 ws off o)) (number_range 4 1 most_shown ws len n)
+
+read_fits : (ws : Words) (e : Event) → read_of ws ≡ Ok e → fits e ≡ true
+read_fits ws e h =
+    let i = read_is ws e h in
+    rw i.is (shown_fits i.o i.n ws i.off i.count)
+
+chmod_fits : (ws : Words) (e : Event) → chmod_of ws ≡ Ok e → fits e ≡ true
+chmod_fits ws e h =
+    let i = chmod_is ws e h in
+    let w = word_is mode_in (slice_get ws 3) i.m i.mode in
+    rw i.is (mode_told w.word i.m w.reads).1
+
 check_fits : (ws : Words) (e : Event) → check_of ws ≡ Ok e → fits e ≡ true
 check_fits ws e h = rw (check_is ws e h).is refl
+
+flush_fits : (ws : Words) (e : Event) → flush_of ws ≡ Ok e → fits e ≡ true
+flush_fits ws e h = rw (flush_is ws e h).is refl
 
 flush_snaps_fits : (ws : Words) (e : Event) → flush_snaps_of ws ≡ Ok e → fits e ≡ true
 flush_snaps_fits ws e h = rw (flush_snaps_is ws e h).is refl
@@ -81,15 +110,10 @@ state_fits i ws a h =
     let w = word_is at_in (slice_get ws i) a h in
     state_by (bytes_eq w.word (codes "head")) w.word a w.reads
 
--- a place where a file may have a byte
-place_below : (o : ℕ) → nat_le o 1048575 ≡ true → nat_lt o greatest_end ≡ true
-place_below o h = grind (arith, nat_tests)
-
 show_fits : (ws : Words) (e : Event) → show_of ws ≡ Ok e → fits e ≡ true
 show_fits ws e h =
     let i = show_is ws e h in
-    let shown = both (nat_lt i.o greatest_end) (nat_le 1 i.n && nat_le i.n most_shown) (place_below i.o (number_below 3 0 1048575 ws i.o i.off)) (number_range 4 1 most_shown ws i.n i.count) in
-    rw i.is (both (is_state i.a) (is_shown i.o i.n) (state_fits 2 ws i.a i.at) shown)
+    rw i.is (both (is_state i.a) (is_shown i.o i.n) (state_fits 2 ws i.a i.at) (shown_fits i.o i.n ws i.off i.count))
 
 -- a reading that gives only what fits
 abbrev Fitting : Result Event Kind → Type 0
@@ -104,10 +128,14 @@ unfolding event_by
 event_by_fits w ws =
     either (bytes_eq w (codes "dir")) _ _ (dir_fits ws)
     (either (bytes_eq w (codes "file")) _ _ (file_fits ws)
+    (either (bytes_eq w (codes "clock")) _ _ (clock_fits ws)
     (either (bytes_eq w (codes "begin")) _ _ (begin_fits ws)
     (either (bytes_eq w (codes "end")) _ _ (end_fits ws)
     (either (bytes_eq w (codes "write")) _ _ (write_fits ws)
+    (either (bytes_eq w (codes "read")) _ _ (read_fits ws)
+    (either (bytes_eq w (codes "chmod")) _ _ (chmod_fits ws)
     (either (bytes_eq w (codes "check")) _ _ (check_fits ws)
+    (either (bytes_eq w (codes "flush")) _ _ (flush_fits ws)
     (either (bytes_eq w (codes "flushsnaps")) _ _ (flush_snaps_fits ws)
     (either (bytes_eq w (codes "toclient")) _ _ (λ e h. rw (only_is 1 events.ToClient e ws h).same refl)
     (either (bytes_eq w (codes "tomds")) _ _ (λ e h. rw (only_is 1 events.ToMds e ws h).same refl)
@@ -117,7 +145,7 @@ event_by_fits w ws =
     (either (bytes_eq w (codes "rmsnap")) _ _ (remove_fits ws)
     (either (bytes_eq w (codes "commit")) _ _ (λ e h. rw (only_is 1 events.Commit e ws h).same refl)
     (either (bytes_eq w (codes "show")) _ _ (show_fits ws)
-    (either (is_later_word w) _ _ (λ e h. cc h) (λ e h. cc h))))))))))))))))
+    (either (is_later_word w) _ _ (λ e h. cc h) (λ e h. cc h))))))))))))))))))))
 
 pub event_fits : (ws : Words) (e : Event) → event_of ws ≡ Ok e → fits e ≡ true
 unfolding event_of

@@ -6,8 +6,8 @@ use Rattle.cs_laws.specs.declared.events.Event.TheVariants as events
 use Rattle.cs_laws.specs.declared.events.RefName.{RefName}
 use Rattle.cs_laws.specs.declared.objects.At.{At}
 use Rattle.cs_laws.specs.declared.faults.Kind.{Kind}
-use Rattle.cs_laws.specs.Fits.{greatest_end, most_shown}
-use Rattle.cs_laws.specs.Grammar.{Words, ◌>>=◌, number_at, set_at, name_at, bytes_at, name_field, at_field, only, ends_in_file, dir_of, file_of, begin_of, end_of, write_of, check_of, flush_snaps_of, grant_of, revoke_of, snap_of, remove_of, show_of}
+use Rattle.cs_laws.specs.Fits.{greatest_end, greatest_time, most_shown}
+use Rattle.cs_laws.specs.Grammar.{Words, ◌>>=◌, number_at, set_at, name_at, bytes_at, name_field, at_field, mode_field, only, ends_in_file, dir_of, file_of, clock_of, begin_of, end_of, write_of, read_of, chmod_of, check_of, flush_of, flush_snaps_of, grant_of, revoke_of, snap_of, remove_of, show_of}
 use Rattle.cs_script.proofs.FieldFacts.{only_is, ends_is}
 
 -- a value that was read, and what follows
@@ -52,6 +52,19 @@ file_is ws e h =
     let o = only_is 3 (events.File f.value p.value) e ws p.rest in
     record { f = f.value; p = p.value; file = f.is; parent = p.is; few = o.test; is = o.same }
 
+pub record IsClock (ws : Words) (e : Event) : Type 0 where
+  pub t : ℕ
+  pub time : number_at 1 0 greatest_time ws ≡ Ok t
+  pub few : nat_le (length ws) 2 ≡ true
+  pub is : e ≡ events.Clock t
+
+pub clock_is : (ws : Words) (e : Event) → clock_of ws ≡ Ok e → IsClock ws e
+unfolding clock_of
+clock_is ws e h =
+    let t = binds (number_at 1 0 greatest_time ws) (λ (t : ℕ). only 2 (events.Clock t) ws) e h in
+    let u = only_is 2 (events.Clock t.value) e ws t.rest in
+    record { t = t.value; time = t.is; few = u.test; is = u.same }
+
 pub record IsBegin (ws : Words) (e : Event) : Type 0 where
   pub c : ℕ
   pub f : ℕ
@@ -90,6 +103,47 @@ end_is ws e h =
     let u = only_is 3 (events.End c.value r.value) e ws r.rest in
     record { c = c.value; r = r.value; caller = c.is; name = r.is; few = u.test; is = u.same }
 
+pub record IsRead (ws : Words) (e : Event) : Type 0 where
+  pub c : ℕ
+  pub r : RefName
+  pub o : ℕ
+  pub n : ℕ
+  pub caller : number_at 1 0 32 ws ≡ Ok c
+  pub name : name_at 2 ws ≡ Ok r
+  pub off : number_at 3 0 1048575 ws ≡ Ok o
+  pub count : number_at 4 1 most_shown ws ≡ Ok n
+  pub few : nat_le (length ws) 5 ≡ true
+  pub is : e ≡ events.Read c r o n
+
+pub read_is : (ws : Words) (e : Event) → read_of ws ≡ Ok e → IsRead ws e
+unfolding read_of
+read_is ws e h =
+    let c = binds (number_at 1 0 32 ws) (λ (c : ℕ). name_at 2 ws >>= λ (r : RefName). number_at 3 0 1048575 ws >>= λ (o : ℕ). number_at 4 1 most_shown ws >>= λ (n : ℕ). only 5 (events.Read c r o n) ws) e h in
+    let r = binds (name_at 2 ws) (λ (r : RefName). number_at 3 0 1048575 ws >>= λ (o : ℕ). number_at 4 1 most_shown ws >>= λ (n : ℕ). only 5 (events.Read c.value r o n) ws) e c.rest in
+    let o = binds (number_at 3 0 1048575 ws) (λ (o : ℕ). number_at 4 1 most_shown ws >>= λ (n : ℕ). only 5 (events.Read c.value r.value o n) ws) e r.rest in
+    let n = binds (number_at 4 1 most_shown ws) (λ (n : ℕ). only 5 (events.Read c.value r.value o.value n) ws) e o.rest in
+    let u = only_is 5 (events.Read c.value r.value o.value n.value) e ws n.rest in
+    record { c = c.value; r = r.value; o = o.value; n = n.value; caller = c.is; name = r.is; off = o.is; count = n.is; few = u.test; is = u.same }
+
+pub record IsChmod (ws : Words) (e : Event) : Type 0 where
+  pub c : ℕ
+  pub r : RefName
+  pub m : ℕ
+  pub caller : number_at 1 0 32 ws ≡ Ok c
+  pub name : name_at 2 ws ≡ Ok r
+  pub mode : mode_field 3 ws ≡ Ok m
+  pub few : nat_le (length ws) 4 ≡ true
+  pub is : e ≡ events.Chmod c r m
+
+pub chmod_is : (ws : Words) (e : Event) → chmod_of ws ≡ Ok e → IsChmod ws e
+unfolding chmod_of
+chmod_is ws e h =
+    let c = binds (number_at 1 0 32 ws) (λ (c : ℕ). name_at 2 ws >>= λ (r : RefName). mode_field 3 ws >>= λ (m : ℕ). only 4 (events.Chmod c r m) ws) e h in
+    let r = binds (name_at 2 ws) (λ (r : RefName). mode_field 3 ws >>= λ (m : ℕ). only 4 (events.Chmod c.value r m) ws) e c.rest in
+    let m = binds (mode_field 3 ws) (λ (m : ℕ). only 4 (events.Chmod c.value r.value m) ws) e r.rest in
+    let u = only_is 4 (events.Chmod c.value r.value m.value) e ws m.rest in
+    record { c = c.value; r = r.value; m = m.value; caller = c.is; name = r.is; mode = m.is; few = u.test; is = u.same }
+
 pub record IsCheck (ws : Words) (e : Event) : Type 0 where
   pub f : ℕ
   pub file : number_at 1 1 99999 ws ≡ Ok f
@@ -101,6 +155,19 @@ unfolding check_of
 check_is ws e h =
     let f = binds (number_at 1 1 99999 ws) (λ (f : ℕ). only 2 (events.Check f) ws) e h in
     let u = only_is 2 (events.Check f.value) e ws f.rest in
+    record { f = f.value; file = f.is; few = u.test; is = u.same }
+
+pub record IsFlush (ws : Words) (e : Event) : Type 0 where
+  pub f : ℕ
+  pub file : number_at 1 1 99999 ws ≡ Ok f
+  pub few : nat_le (length ws) 2 ≡ true
+  pub is : e ≡ events.Flush f
+
+pub flush_is : (ws : Words) (e : Event) → flush_of ws ≡ Ok e → IsFlush ws e
+unfolding flush_of
+flush_is ws e h =
+    let f = binds (number_at 1 1 99999 ws) (λ (f : ℕ). only 2 (events.Flush f) ws) e h in
+    let u = only_is 2 (events.Flush f.value) e ws f.rest in
     record { f = f.value; file = f.is; few = u.test; is = u.same }
 
 pub record IsFlushSnaps (ws : Words) (e : Event) : Type 0 where

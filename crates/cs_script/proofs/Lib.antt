@@ -2,6 +2,7 @@ pub mod FieldFacts
 pub mod Fitting
 pub mod FormFacts
 pub mod Linewise
+pub mod Modes
 pub mod Spelt
 pub mod Scripts
 pub mod Told

@@ -1,5 +1,5 @@
 -- A script with a line for each event is read as these events.
-use Rattle.std.proofs.Common.{◌≡◌, ◌∙◌, ap, refl, ℕ, ◌+◌, ◌^◌, ◌≤◌, ◌<◌, ◌==◌, Bool, true, false, cond, ◌&&◌, nat_le, List, [], ◌∷◌, ◌++◌, length, map, filter, codes, decimal, arith, Ok, length-append}
+use Rattle.std.proofs.Common.{◌≡◌, ◌∙◌, ap, refl, ℕ, ◌+◌, ◌/◌, ◌%◌, ◌^◌, ◌≤◌, ◌<◌, ◌==◌, Bool, true, false, cond, ◌&&◌, nat_le, List, [], ◌∷◌, ◌++◌, length, map, filter, codes, decimal, arith, Ok, length-append}
 use Rattle.std.specs.Prelude.{All}
 use Rattle.std.specs.List.{AllPass, list_all}
 use Rattle.std.proofs.lemmas.Bool.{and_parts, leb-true}
@@ -17,9 +17,9 @@ use Rattle.cs_laws.specs.declared.events.RefName.{RefName}
 use Rattle.cs_laws.specs.declared.events.RefName.TheVariants as names
 use Rattle.cs_laws.specs.declared.objects.At.{At}
 use Rattle.cs_laws.specs.declared.objects.At.TheVariants as at
-use Rattle.cs_laws.specs.Fits.{fits, is_built, is_shown, is_state, greatest_end, most_written}
+use Rattle.cs_laws.specs.Fits.{fits, is_built, is_shown, is_mode, is_state, greatest_end, greatest_time, most_written}
 use Rattle.cs_laws.specs.Grammar.{Words, in_time, is_setup, line_event, is_long, is_skipped, events_from, script_of}
-use Rattle.cs_laws.specs.Texts.{event_text, name_text, at_text}
+use Rattle.cs_laws.specs.Texts.{event_text, name_text, at_text, mode_text}
 use Rattle.cs_script.specs.Spelling.{IsName, IsAt, IsEvent, lines_of, script_text, InTime}
 use Rattle.cs_script.proofs.Spelt.{shown_range, no_newline, text_read}
 
@@ -42,6 +42,17 @@ name_few (names.Kept n) h = omega (arith, decimal_few n (omega arith))
 at_few : (a : At) → IsAt a → length (at_text a) ≤ 20
 at_few at.Head h = omega arith
 at_few (at.Snap s) h = decimal_few s (omega arith)
+
+mode_few : (m : ℕ) → is_mode m ≡ true → length (mode_text m) ≤ 80
+mode_few m fit =
+    let small = leb-true m 4095 fit in
+    simp length-append (omega (
+      arith,
+      decimal_few (m / 512) (omega arith),
+      decimal_few (m / 64 % 8) (omega arith),
+      decimal_few (m / 8 % 8) (omega arith),
+      decimal_few (m % 8) (omega arith),
+    ))
 
 -- a snapshot's name has at most 32 bytes
 snap_name_few : (n : List ℕ) → is_name n ≡ true → length n ≤ 32
@@ -93,9 +104,15 @@ caps_few : (c : Caps) → length (caps_text c) ≤ 20
 unfolding caps_text
 caps_few c = omega (arith, dash_few (spelled c), spelled_few c)
 
+chmod_few : (c r m : List ℕ) → length c ≤ 20 → length r ≤ 21 → length m ≤ 80 → length (codes "chmod " ++ c ++ codes " " ++ r ++ codes " " ++ m) ≤ 4096
+chmod_few c r m few_c few_r few_m = simp length-append (omega arith)
+
 text_few : (e : Event) → IsEvent e → fits e ≡ true → length (event_text e) ≤ 4096
 text_few (events.Dir d p) is fit = simp length-append (omega (arith, decimal_few d (omega arith), decimal_few p (omega arith)))
 text_few (events.File f p) is fit = simp length-append (omega (arith, decimal_few f (omega arith), decimal_few p (omega arith)))
+text_few (events.Clock t) is fit =
+    let small = leb-true t greatest_time fit in
+    omega (arith, decimal_few t (omega arith))
 text_few (events.Begin c f bits end) is fit =
     let small = leb-true end greatest_end (and_parts (is_built bits) (nat_le end greatest_end) fit).1 in
     simp length-append (omega (arith, decimal_few c (omega arith), decimal_few f (omega arith), caps_few bits, decimal_few end (omega arith)))
@@ -105,7 +122,12 @@ text_few (events.Write c name off bytes) is fit =
     let few = leb-true (length bytes) most_written (and_parts (nat_le 1 (length bytes)) (nat_le (length bytes) most_written) parts.0).1 in
     let ends = leb-true (off + length bytes) greatest_end parts.1 in
     simp length-append (omega (arith, decimal_few c (omega arith), name_few name is.1, decimal_few off (omega arith), hex_few bytes))
+text_few (events.Read c name off len) is fit =
+    let range = shown_range off len fit in
+    simp length-append (omega (arith, decimal_few c (omega arith), name_few name is.1, decimal_few off (omega arith), decimal_few len (omega arith)))
+text_few (events.Chmod c name mode) is fit = chmod_few (decimal c) (name_text name) (mode_text mode) (decimal_few c (omega arith)) (name_few name is.1) (mode_few mode fit)
 text_few (events.Check f) is fit = omega (arith, decimal_few f (omega arith))
+text_few (events.Flush f) is fit = omega (arith, decimal_few f (omega arith))
 text_few (events.FlushSnaps f) is fit = omega (arith, decimal_few f (omega arith))
 text_few events.ToClient is fit = omega arith
 text_few events.ToMds is fit = omega arith
@@ -127,10 +149,14 @@ not_long t few = grind (arith, nat_tests)
 not_skipped : (e : Event) → is_skipped (event_text e) ≡ false
 not_skipped (events.Dir d p) = refl
 not_skipped (events.File f p) = refl
+not_skipped (events.Clock t) = refl
 not_skipped (events.Begin c f bits end) = refl
 not_skipped (events.End c name) = refl
 not_skipped (events.Write c name off bytes) = refl
+not_skipped (events.Read c name off len) = refl
+not_skipped (events.Chmod c name mode) = refl
 not_skipped (events.Check f) = refl
+not_skipped (events.Flush f) = refl
 not_skipped (events.FlushSnaps f) = refl
 not_skipped events.ToClient = refl
 not_skipped events.ToMds = refl

@@ -24,13 +24,14 @@ use Rattle.cs_laws.specs.declared.objects.At.{At}
 use Rattle.cs_laws.specs.declared.objects.At.TheVariants as at
 use Rattle.cs_laws.specs.declared.faults.Kind.{Kind}
 use Rattle.cs_laws.specs.declared.faults.Kind.TheVariants as kinds
-use Rattle.cs_laws.specs.Fits.{fits, greatest_end, most_shown}
-use Rattle.cs_laws.specs.Grammar.{Words, ◌>>=◌, words_in, number_in, number_at, set_of, set_at, name_of, name_at, bytes_of, bytes_at, at_in, at_field, only, dir_of, file_of, begin_of, end_of, write_of, check_of, flush_snaps_of, grant_of, revoke_of, snap_of, remove_of, show_of, is_later_word, event_by, event_of}
-use Rattle.cs_laws.specs.Texts.{event_text, name_text, at_text}
+use Rattle.cs_laws.specs.Fits.{fits, greatest_end, greatest_time, most_shown}
+use Rattle.cs_laws.specs.Grammar.{Words, ◌>>=◌, words_in, number_in, number_at, set_of, set_at, name_of, name_at, bytes_of, bytes_at, at_in, at_field, mode_in, mode_field, only, dir_of, file_of, clock_of, begin_of, end_of, write_of, read_of, chmod_of, check_of, flush_of, flush_snaps_of, grant_of, revoke_of, snap_of, remove_of, show_of, is_later_word, event_by, event_of}
+use Rattle.cs_laws.specs.Texts.{event_text, name_text, at_text, mode_text}
 use Rattle.cs_script.specs.Spelling.{IsBytes, IsName, IsAt, IsEvent}
 use Rattle.cs_script.proofs.FieldFacts.{number_is, word_is, set_is, bytes_are, name_field_is, only_is}
 use Rattle.cs_script.proofs.Fitting.{event_fits}
-use Rattle.cs_script.proofs.FormFacts.{binds, dir_is, file_is, begin_is, end_is, write_is, check_is, flush_snaps_is, grant_is, revoke_is, snap_is, remove_is, show_is}
+use Rattle.cs_script.proofs.FormFacts.{binds, dir_is, file_is, clock_is, begin_is, end_is, write_is, read_is, chmod_is, check_is, flush_is, flush_snaps_is, grant_is, revoke_is, snap_is, remove_is, show_is}
+use Rattle.cs_script.proofs.Modes.{mode_told}
 use Rattle.cs_script.proofs.Spelt.{form_of, fields_of, words_are, text_read}
 
 -- ---- each field's word is the field's one text
@@ -98,6 +99,11 @@ at_field_told i ws a h =
     let w = word_is at_in (slice_get ws i) a h in
     let t = at_by (bytes_eq w.word (codes "head")) w.word a (bytes_eq-Decides w.word (codes "head")).0 w.reads in
     (w.is ∙ ap Some (sym t.0), t.1)
+
+pub mode_field_told : (i : ℕ) (ws : Words) (m : ℕ) → mode_field i ws ≡ Ok m → slice_get ws i ≡ Some (mode_text m)
+mode_field_told i ws m h =
+    let w = word_is mode_in (slice_get ws i) m h in
+    w.is ∙ ap Some (sym (mode_told w.word m w.reads).0)
 
 hex_value_small : (c : ℕ) → is_hex_digit c ≡ true → hex_value c < 16
 hex_value_small c h = grind (arith, nat_tests)
@@ -177,6 +183,15 @@ file_tells ws first e h =
       words = words_told (codes "file" ∷ fields_of (events.File i.f i.p)) ws (leb-true (length ws) 3 i.few) (first, (f.0, (p.0, tt)));
     })
 
+clock_tells : (ws : Words) → slice_get ws 0 ≡ Some (codes "clock") → (e : Event) → clock_of ws ≡ Ok e → Tells ws e
+clock_tells ws first e h =
+    let i = clock_is ws e h in
+    let t = number_at_told 1 0 greatest_time ws i.t (omega arith) i.time in
+    rw i.is (record {
+      is = tt;
+      words = words_told (codes "clock" ∷ fields_of (events.Clock i.t)) ws (leb-true (length ws) 2 i.few) (first, (t.0, tt));
+    })
+
 begin_tells : (ws : Words) → slice_get ws 0 ≡ Some (codes "begin") → (e : Event) → begin_of ws ≡ Ok e → Tells ws e
 begin_tells ws first e h =
     let i = begin_is ws e h in
@@ -212,6 +227,30 @@ write_tells ws first e h =
           (first, (c.0, (r.0, (o.0, (b.0, tt)))));
     })
 
+read_tells : (ws : Words) → slice_get ws 0 ≡ Some (codes "read") → (e : Event) → read_of ws ≡ Ok e → Tells ws e
+read_tells ws first e h =
+    let i = read_is ws e h in
+    let c = number_at_told 1 0 32 ws i.c (omega arith) i.caller in
+    let r = name_at_told 2 ws i.r i.name in
+    let o = number_at_told 3 0 1048575 ws i.o (omega arith) i.off in
+    let n = number_at_told 4 1 most_shown ws i.n (omega arith) i.count in
+    rw i.is (record {
+      is = (c.1, r.1);
+      words = words_told (codes "read" ∷ fields_of (events.Read i.c i.r i.o i.n)) ws (leb-true (length ws) 5 i.few)
+          (first, (c.0, (r.0, (o.0, (n.0, tt)))));
+    })
+
+chmod_tells : (ws : Words) → slice_get ws 0 ≡ Some (codes "chmod") → (e : Event) → chmod_of ws ≡ Ok e → Tells ws e
+chmod_tells ws first e h =
+    let i = chmod_is ws e h in
+    let c = number_at_told 1 0 32 ws i.c (omega arith) i.caller in
+    let r = name_at_told 2 ws i.r i.name in
+    rw i.is (record {
+      is = (c.1, r.1);
+      words = words_told (codes "chmod" ∷ fields_of (events.Chmod i.c i.r i.m)) ws (leb-true (length ws) 4 i.few)
+          (first, (c.0, (r.0, (mode_field_told 3 ws i.m i.mode, tt))));
+    })
+
 check_tells : (ws : Words) → slice_get ws 0 ≡ Some (codes "check") → (e : Event) → check_of ws ≡ Ok e → Tells ws e
 check_tells ws first e h =
     let i = check_is ws e h in
@@ -219,6 +258,15 @@ check_tells ws first e h =
     rw i.is (record {
       is = f.1;
       words = words_told (codes "check" ∷ fields_of (events.Check i.f)) ws (leb-true (length ws) 2 i.few) (first, (f.0, tt));
+    })
+
+flush_tells : (ws : Words) → slice_get ws 0 ≡ Some (codes "flush") → (e : Event) → flush_of ws ≡ Ok e → Tells ws e
+flush_tells ws first e h =
+    let i = flush_is ws e h in
+    let f = number_at_told 1 1 99999 ws i.f (omega arith) i.file in
+    rw i.is (record {
+      is = f.1;
+      words = words_told (codes "flush" ∷ fields_of (events.Flush i.f)) ws (leb-true (length ws) 2 i.few) (first, (f.0, tt));
     })
 
 flush_snaps_tells : (ws : Words) → slice_get ws 0 ≡ Some (codes "flushsnaps") → (e : Event) → flush_snaps_of ws ≡ Ok e → Tells ws e
@@ -322,10 +370,14 @@ unfolding event_by
 event_by_tells ws w first =
     named ws w (codes "dir") _ _ first (dir_tells ws)
     (named ws w (codes "file") _ _ first (file_tells ws)
+    (named ws w (codes "clock") _ _ first (clock_tells ws)
     (named ws w (codes "begin") _ _ first (begin_tells ws)
     (named ws w (codes "end") _ _ first (end_tells ws)
     (named ws w (codes "write") _ _ first (write_tells ws)
+    (named ws w (codes "read") _ _ first (read_tells ws)
+    (named ws w (codes "chmod") _ _ first (chmod_tells ws)
     (named ws w (codes "check") _ _ first (check_tells ws)
+    (named ws w (codes "flush") _ _ first (flush_tells ws)
     (named ws w (codes "flushsnaps") _ _ first (flush_snaps_tells ws)
     (named ws w (codes "toclient") _ _ first (client_tells ws)
     (named ws w (codes "tomds") _ _ first (server_tells ws)
@@ -335,7 +387,7 @@ event_by_tells ws w first =
     (named ws w (codes "rmsnap") _ _ first (remove_tells ws)
     (named ws w (codes "commit") _ _ first (commit_tells ws)
     (named ws w (codes "show") _ _ first (show_tells ws)
-    (not_told ws (is_later_word w))))))))))))))))
+    (not_told ws (is_later_word w))))))))))))))))))))
 
 event_tells : (ws : Words) → Telling ws (event_of ws)
 unfolding event_of

@@ -115,7 +115,7 @@ hex_visible (b ∷ bs) =
 
 -- ---- sets
 
-visible-append : (v w : List ℕ) → IsVisible v → IsVisible w → IsVisible (v ++ w)
+pub visible-append : (v w : List ℕ) → IsVisible v → IsVisible w → IsVisible (v ++ w)
 visible-append v w h k = record { at = All-append (λ b. 32 < b) v w h.at k.at }
 
 -- each letter is above the space

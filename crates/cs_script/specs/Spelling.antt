@@ -35,10 +35,14 @@ IsBytes bs = All (λ b. b < 256) bs
 abbrev pub IsEvent : Event → Type 0
 IsEvent (events.Dir d p) = IsIno d × IsIno p
 IsEvent (events.File f p) = IsIno f × IsIno p
+IsEvent (events.Clock t) = Unit {0}
 IsEvent (events.Begin c f bits end) = IsCaller c × IsIno f
 IsEvent (events.End c name) = IsCaller c × IsName name
 IsEvent (events.Write c name off bytes) = IsCaller c × IsName name × IsBytes bytes
+IsEvent (events.Read c name off len) = IsCaller c × IsName name
+IsEvent (events.Chmod c name mode) = IsCaller c × IsName name
 IsEvent (events.Check f) = IsIno f
+IsEvent (events.Flush f) = IsIno f
 IsEvent (events.FlushSnaps f) = IsIno f
 IsEvent events.ToClient = Unit {0}
 IsEvent events.ToMds = Unit {0}

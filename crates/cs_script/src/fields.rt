@@ -1,7 +1,7 @@
 // The fields of a line, each at its place among the words.
 ghost use Rattle.std.specs.Prelude.{◌≡◌, ◌≤◌, Some};
-ghost use Rattle.cs_laws.specs.Fits.{greatest_end, most_shown};
-ghost use Rattle.cs_laws.specs.Grammar.{number_in, number_at, set_at, name_at, name_of, bytes_of, bytes_at, name_field, at_in, at_field, only, ends_in_file};
+ghost use Rattle.cs_laws.specs.Fits.{greatest_end, greatest_time, most_shown};
+ghost use Rattle.cs_laws.specs.Grammar.{number_in, number_at, set_at, name_at, name_of, bytes_of, bytes_at, name_field, at_in, at_field, is_octal, mode_of_digits, mode_in, mode_field, only, ends_in_file};
 ghost use Rattle.cs_script.specs.Reading.{Gives, Spells, texts};
 
 use crate::line_fault::LineFault;
@@ -43,6 +43,13 @@ pub fn caller_at(words: &[&[u8]], i: usize) -> Result<Caller, Kind>
 {
     let value = number_at(words, i, 0, 32)?;
     Caller::new(value).ok_or(Kind::Range)
+}
+
+/// A time, up to the greatest that a script tells.
+pub fn time_at(words: &[&[u8]], i: usize) -> Result<u64, Kind>
+    ensures { Gives (λ x. x) result (number_at i 0 greatest_time (texts words.now)) }
+{
+    number_at(words, i, 0, 4_294_967_295)
 }
 
 pub fn end_at(words: &[&[u8]], i: usize) -> Result<u32, Kind>
@@ -169,6 +176,42 @@ pub fn at_field(words: &[&[u8]], i: usize) -> Result<At, Kind>
 {
     match words.get(i) {
         Some(word) => at_from(word),
+        None => Err(Kind::Word),
+    }
+}
+
+fn is_octal(digit: u8) -> bool
+    ensures { result ≡ is_octal digit }
+{
+    matches!(digit, b'0'..=b'7')
+}
+
+fn mode_of_digits(a: u8, b: u8, c: u8, d: u8) -> Result<u16, Kind>
+    ensures { Gives (λ m. m) result (mode_of_digits a b c d) }
+{
+    if is_octal(a) && is_octal(b) && is_octal(c) && is_octal(d) {
+        let high = (a - b'0') as u16 * 512 + (b - b'0') as u16 * 64;
+        Ok(high + (c - b'0') as u16 * 8 + (d - b'0') as u16)
+    } else {
+        Err(Kind::Word)
+    }
+}
+
+fn mode_from(word: &[u8]) -> Result<u16, Kind>
+    ensures { Gives (λ m. m) result (mode_in word.now) }
+{
+    match word {
+        [a, b, c, d] => mode_of_digits(*a, *b, *c, *d),
+        _ => Err(Kind::Word),
+    }
+}
+
+/// A mode. It is no number field, so that what isn't four octal digits is misspelt.
+pub fn mode_at(words: &[&[u8]], i: usize) -> Result<u16, Kind>
+    ensures { Gives (λ x. x) result (mode_field i (texts words.now)) }
+{
+    match words.get(i) {
+        Some(word) => mode_from(word),
         None => Err(Kind::Word),
     }
 }

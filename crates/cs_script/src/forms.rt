@@ -1,11 +1,11 @@
 // The forms of events, each by the fields behind its first word.
 ghost use Rattle.std.specs.Prelude.{◌≡◌};
-ghost use Rattle.cs_laws.specs.Grammar.{event_by, dir_of, file_of, begin_of, end_of, write_of, check_of, flush_snaps_of, grant_of, revoke_of, snap_of, remove_of, show_of, event_of, is_later_word, is_later_caller_word, is_later_client_word, is_later_server_word};
+ghost use Rattle.cs_laws.specs.Grammar.{event_by, dir_of, file_of, clock_of, begin_of, end_of, write_of, read_of, chmod_of, check_of, flush_of, flush_snaps_of, grant_of, revoke_of, snap_of, remove_of, show_of, event_of, is_later_word, is_later_caller_word, is_later_client_word, is_later_server_word};
 ghost use Rattle.cs_script.specs.Reading.{Spells, texts};
 
 use crate::fields::{
-    at_field, bytes_at, caller_at, end_at, ends_in_file, ino_at, len_at, name_at, name_field,
-    off_at, only, set_at, snap_at,
+    at_field, bytes_at, caller_at, end_at, ends_in_file, ino_at, len_at, mode_at, name_at,
+    name_field, off_at, only, set_at, snap_at, time_at,
 };
 use crate::line_fault::LineFault;
 use cs_laws::{At, Event, Kind, RefName};
@@ -27,6 +27,14 @@ fn file_from(words: &[&[u8]]) -> Result<Event, LineFault>
     let file = ino_at(words, 1, 2, 9_999)?;
     let parent = ino_at(words, 2, 1, 99_999)?;
     only(3, Event::File { file, parent }, words)
+}
+
+#[tactic(auto, unfolding(cs_laws::specs::Grammar::clock_of))]
+fn clock_from(words: &[&[u8]]) -> Result<Event, LineFault>
+    ensures { Spells result (clock_of (texts words.now)) }
+{
+    let time = time_at(words, 1)?;
+    only(2, Event::Clock { time }, words)
 }
 
 #[tactic(auto, unfolding(cs_laws::specs::Grammar::begin_of))]
@@ -82,12 +90,50 @@ fn write_from(alloc: Global, words: &[&[u8]]) -> Result<Event, LineFault>
     ends_in_file(off, count, event)
 }
 
+#[tactic(auto, unfolding(cs_laws::specs::Grammar::read_of))]
+fn read_from(words: &[&[u8]]) -> Result<Event, LineFault>
+    ensures { Spells result (read_of (texts words.now)) }
+{
+    let caller = caller_at(words, 1)?;
+    let name = name_at(words, 2)?;
+    let off = off_at(words, 3)?;
+    let len = len_at(words, 4)?;
+    only(
+        5,
+        Event::Read {
+            caller,
+            name,
+            off,
+            len,
+        },
+        words,
+    )
+}
+
+#[tactic(auto, unfolding(cs_laws::specs::Grammar::chmod_of))]
+fn chmod_from(words: &[&[u8]]) -> Result<Event, LineFault>
+    ensures { Spells result (chmod_of (texts words.now)) }
+{
+    let caller = caller_at(words, 1)?;
+    let name = name_at(words, 2)?;
+    let mode = mode_at(words, 3)?;
+    only(4, Event::Chmod { caller, name, mode }, words)
+}
+
 #[tactic(auto, unfolding(cs_laws::specs::Grammar::check_of))]
 fn check_from(words: &[&[u8]]) -> Result<Event, LineFault>
     ensures { Spells result (check_of (texts words.now)) }
 {
     let file = ino_at(words, 1, 1, 99_999)?;
     only(2, Event::Check { file }, words)
+}
+
+#[tactic(auto, unfolding(cs_laws::specs::Grammar::flush_of))]
+fn flush_from(words: &[&[u8]]) -> Result<Event, LineFault>
+    ensures { Spells result (flush_of (texts words.now)) }
+{
+    let file = ino_at(words, 1, 1, 99_999)?;
+    only(2, Event::Flush { file }, words)
 }
 
 #[tactic(auto, unfolding(cs_laws::specs::Grammar::flush_snaps_of))]
@@ -149,19 +195,13 @@ fn show_from(words: &[&[u8]]) -> Result<Event, LineFault>
 fn is_later_caller_word(word: &[u8]) -> bool
     ensures { result ≡ is_later_caller_word word.now }
 {
-    word == b"read".as_slice()
-        || word == b"chmod".as_slice()
-        || word == b"lookup".as_slice()
-        || word == b"req".as_slice()
-        || word == b"clock".as_slice()
-        || word == b"names".as_slice()
+    word == b"lookup".as_slice() || word == b"req".as_slice() || word == b"names".as_slice()
 }
 
 fn is_later_client_word(word: &[u8]) -> bool
     ensures { result ≡ is_later_client_word word.now }
 {
-    word == b"flush".as_slice()
-        || word == b"writeback".as_slice()
+    word == b"writeback".as_slice()
         || word == b"invalidate".as_slice()
         || word == b"osd".as_slice()
         || word == b"osdack".as_slice()
@@ -192,14 +232,22 @@ fn event_by(alloc: Global, word: &[u8], words: &[&[u8]]) -> Result<Event, LineFa
         dir_from(words)
     } else if word == b"file".as_slice() {
         file_from(words)
+    } else if word == b"clock".as_slice() {
+        clock_from(words)
     } else if word == b"begin".as_slice() {
         begin_from(words)
     } else if word == b"end".as_slice() {
         end_from(words)
     } else if word == b"write".as_slice() {
         write_from(alloc, words)
+    } else if word == b"read".as_slice() {
+        read_from(words)
+    } else if word == b"chmod".as_slice() {
+        chmod_from(words)
     } else if word == b"check".as_slice() {
         check_from(words)
+    } else if word == b"flush".as_slice() {
+        flush_from(words)
     } else if word == b"flushsnaps".as_slice() {
         flush_snaps_from(words)
     } else if word == b"toclient".as_slice() {

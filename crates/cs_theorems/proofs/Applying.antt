@@ -115,6 +115,7 @@ tells_known h i = at (to_client h) refl
     at (messages.Cap f seq bits end ∷ q) is = tt
     at (messages.FlushAck f tid ∷ q) is = tt
     at (messages.CapAck f seq bits ∷ q) is = tt
+    at (messages.Flush f tid follows meta ∷ q) is = tt
     at (messages.FlushSnap f tid follows meta ∷ q) is = tt
 
 pub run_tells_known : (p : ℕ) (h : List Entry) → IsRun p h → NextTellsKnownParents h

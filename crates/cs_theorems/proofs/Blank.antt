@@ -1,4 +1,4 @@
--- Nothing was written to a file that isn't known, no cap snap of it was made and no flush sent.
+-- Nothing was written to a file that isn't known, its mode wasn't changed, no cap snap of it was made and no flush sent.
 use Rattle.std.proofs.Common.{◌≡◌, refl, subst, ℕ, ◌==◌, ◌||◌, not, Bool, true, false, cond, List, [], ◌∷◌, inl}
 use Rattle.std.proofs.lemmas.Bool.{and_left, and_right, both_ways, eqb-true, false_from_ne_true, or_from}
 use Rattle.cs_bits.specs.declared.Caps.{Caps}
@@ -16,18 +16,20 @@ use Rattle.cs_laws.specs.Events.{setup_file, setup_file_then}
 use Rattle.cs_laws.specs.History.{context, dirty, live, queued, sent, writes}
 use Rattle.cs_laws.specs.Image.{Write}
 use Rattle.cs_laws.specs.Journal.{entry}
-use Rattle.cs_theorems.proofs.Inversions.{FirstIs, first_idle, first_cap, first_flush_ack, first_snap, first_is, FlushSnapsIs, flush_unknown, flush_none, flush_writing, flush_sent, flush_snaps_is, WriteIs, write_unknown, write_no_bit, write_past, wrote, write_is}
+use Rattle.cs_theorems.proofs.Inversions.{ChmodIs, chmod_unknown, chmod_no_bit, chmod_snap, chmod_done, chmod_is, FlushIs, head_unknown, head_snap, head_clean, head_sent, flush_is, FirstIs, first_idle, first_cap, first_flush_ack, first_snap, first_is, FlushSnapsIs, flush_unknown, flush_none, flush_writing, flush_sent, flush_snaps_is, WriteIs, write_unknown, write_no_bit, write_past, wrote, write_is}
 use Rattle.cs_theorems.proofs.Known.{LiveAreKnown, known_then}
+use Rattle.cs_theorems.proofs.Modes.{Change, changes}
 use Rattle.cs_theorems.proofs.Listed.{Each, each_end, each_nil, each_tail}
 use Rattle.cs_theorems.proofs.Uses.{named_is}
 
-pub record Blank (ws : List Write) (d : Caps) (xs : List CapSnap) : Type 0 where
+pub record Blank (ws : List Write) (cs : List Change) (d : Caps) (xs : List CapSnap) : Type 0 where
   pub writes : ws ≡ []
+  pub changes : cs ≡ []
   pub dirty : d ≡ no_caps
   pub queued : xs ≡ []
 
 abbrev pub BlankAt : List Entry → ℕ → Type 0
-BlankAt h f = Blank (writes h f) (dirty h f) (queued h f)
+BlankAt h f = Blank (writes h f) (changes h f) (dirty h f) (queued h f)
 
 abbrev pub AllBlank : List Entry → Type 0
 AllBlank h = (f : ℕ) → setup_file h f ≡ false → BlankAt h f
@@ -69,6 +71,21 @@ step_write h c name off bytes x (wrote r is may) known i = λ f unknown.
     let there = (named_is c name r (live h) is).1 in
     rw is (rw (apart h r.file f (known r there) unknown) (i f unknown))
 
+step_chmod : (h : List Entry) (c : ℕ) (name : RefName) (mode : ℕ) (x : Answer) → ChmodIs h c name x → LiveAreKnown h → AllBlank h
+    → AllBlank (record { event = e.Chmod c name mode; answer = x } ∷ h)
+step_chmod h c name mode x chmod_unknown known i = i
+step_chmod h c name mode x chmod_no_bit known i = i
+step_chmod h c name mode x chmod_snap known i = i
+step_chmod h c name mode x (chmod_done r is may free) known i = λ f unknown.
+    let there = (named_is c name r (live h) is).1 in
+    rw is (rw (apart h r.file f (known r there) unknown) (i f unknown))
+
+step_flush : (h : List Entry) (g : ℕ) (x : Answer) → FlushIs h g x → AllBlank h → AllBlank (record { event = e.Flush g; answer = x } ∷ h)
+step_flush h g x head_unknown i = i
+step_flush h g x head_snap i = i
+step_flush h g x head_clean i = i
+step_flush h g x (head_sent known free changed) i = λ f unknown. rw (apart h g f known unknown) (i f unknown)
+
 step_flush_snaps : (h : List Entry) (g : ℕ) (x : Answer) → FlushSnapsIs h g x → AllBlank h → AllBlank (record { event = e.FlushSnaps g; answer = x } ∷ h)
 step_flush_snaps h g x flush_unknown i = i
 step_flush_snaps h g x flush_none i = i
@@ -86,12 +103,14 @@ step_client h x (first_snap number d now q is) known i = λ f unknown.
 pub blank_step : (p : ℕ) (h : List Entry) (x : Event) → LiveAreKnown h → AllBlank h → AllBlank (entry p h x ∷ h)
 blank_step p h (e.File g d) known i = λ f unknown. i f (unknown_before (e.File g d) _ f (setup_file h f) unknown)
 blank_step p h (e.Write c name off bytes) known i = step_write h c name off bytes _ (write_is h c name off bytes) known i
+blank_step p h (e.Chmod c name mode) known i = step_chmod h c name mode _ (chmod_is h c name) known i
+blank_step p h (e.Flush g) known i = step_flush h g _ (flush_is h g) i
 blank_step p h (e.FlushSnaps g) known i = step_flush_snaps h g _ (flush_snaps_is h g) i
 blank_step p h e.ToClient known i = step_client h _ (first_is h) known i
 blank_step p h _ known i = i
 
 pub blank_first : AllBlank []
-blank_first f unknown = record { writes = refl; dirty = refl; queued = refl }
+blank_first f unknown = record { writes = refl; changes = refl; dirty = refl; queued = refl }
 
 -- Each flush that was sent is of a known file.
 abbrev pub SentAreKnown : List Entry → Type 0
@@ -103,8 +122,15 @@ sent_flush_snaps h g x flush_none i = i
 sent_flush_snaps h g x flush_writing i = i
 sent_flush_snaps h g x (flush_sent y ys known is closed) i = each_end (λ z. setup_file h z.file ≡ true) (sent h) _ i known
 
+sent_flush : (h : List Entry) (g : ℕ) (x : Answer) → FlushIs h g x → SentAreKnown h → SentAreKnown (record { event = e.Flush g; answer = x } ∷ h)
+sent_flush h g x head_unknown i = i
+sent_flush h g x head_snap i = i
+sent_flush h g x head_clean i = i
+sent_flush h g x (head_sent known free changed) i = each_end (λ z. setup_file h z.file ≡ true) (sent h) _ i known
+
 pub sent_known_step : (p : ℕ) (h : List Entry) (x : Event) → SentAreKnown h → SentAreKnown (entry p h x ∷ h)
 sent_known_step p h (e.File g d) i = λ x m. known_then (e.File g d) _ x.file (setup_file h x.file) (i x m)
+sent_known_step p h (e.Flush g) i = sent_flush h g _ (flush_is h g) i
 sent_known_step p h (e.FlushSnaps g) i = sent_flush_snaps h g _ (flush_snaps_is h g) i
 sent_known_step p h _ i = i
 

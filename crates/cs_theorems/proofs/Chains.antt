@@ -1,6 +1,7 @@
 -- The numbers of a file's flushes rise: of those that stand, and then of those on their way to the server.
 use Rattle.std.proofs.Common.{◌≡◌, refl, sym, ap, ◌∙◌, ℕ, ◌+◌, ◌<◌, Bool, true, false, cond, ◌==◌, List, [], ◌∷◌, ◌++◌, length, drop, append_assoc, arith, subst}
 use Rattle.std.specs.List.{flat_map}
+use Rattle.std.proofs.lemmas.Bool.{cond_both}
 use Rattle.std.proofs.lemmas.List.{append-nil, length-append}
 use Rattle.std.proofs.lemmas.Grind.{flat_map-append}
 use Rattle.cs_laws.specs.declared.events.Event.{Event}
@@ -10,18 +11,19 @@ use Rattle.cs_laws.specs.declared.answers.Entry.{Entry}
 use Rattle.cs_laws.specs.declared.messages.Message.{Message}
 use Rattle.cs_laws.specs.declared.messages.Message.TheVariants as messages
 use Rattle.cs_laws.specs.declared.records.Record.{Record}
-use Rattle.cs_laws.specs.Flushes.{Flush, flush_message, flush_snap, first_mode}
-use Rattle.cs_laws.specs.History.{to_server, durable, fresh, stand, writes, queued, sent}
+use Rattle.cs_laws.specs.Flushes.{Flush, flush_message}
+use Rattle.cs_laws.specs.History.{to_server, durable, fresh, present, sent, snap, stand}
 use Rattle.cs_laws.specs.Journal.{entry, history, journal}
-use Rattle.cs_laws.specs.Standing.{recorded}
+use Rattle.cs_laws.specs.Standing.{recorded, recorded_of}
 use Rattle.cs_theorems.specs.Flushes.{tid_of, tids}
 use Rattle.cs_theorems.specs.Runs.{IsRun}
 use Rattle.cs_theorems.proofs.Rising.{RisesTo, rises_end, rises_more, at_first}
 use Rattle.cs_theorems.proofs.Runs.{of_run}
-use Rattle.cs_theorems.proofs.Inversions.{CheckIs, check_unknown, check_nothing, check_hold, check_ack, check_is, FlushSnapsIs, flush_unknown, flush_none, flush_writing, flush_sent, flush_snaps_is, ReceivedIs, received_idle, received_ack, received_flush, received_is, SnapIs, snap_unknown, snap_exists, snap_taken, snap_is, RemoveIs, remove_none, remove_gone, removed, remove_is}
+use Rattle.cs_theorems.proofs.Inversions.{FlushIs, head_unknown, head_snap, head_clean, head_sent, flush_is, CheckIs, check_unknown, check_nothing, check_hold, check_ack, check_is, FlushSnapsIs, flush_unknown, flush_none, flush_writing, flush_sent, flush_snaps_is, ReceivedIs, received_idle, received_ack, received_flush, received_is, SnapIs, snap_unknown, snap_exists, snap_taken, snap_is, RemoveIs, remove_none, remove_gone, removed, remove_is}
 
 -- the number of a message that is a flush of the file, alone
 abbrev pub flight_tid : ℕ → Message → List ℕ
+flight_tid f (messages.Flush g tid follows meta) = cond (g == f) (tid ∷ []) []
 flight_tid f (messages.FlushSnap g tid follows meta) = cond (g == f) (tid ∷ []) []
 flight_tid f _ = []
 
@@ -30,6 +32,9 @@ flight f q = flat_map (λ m. flight_tid f m) q
 
 pub tids_append : (f : ℕ) (rs ss : List Record) → tids f (rs ++ ss) ≡ tids f rs ++ tids f ss
 tids_append f rs ss = flat_map-append (λ r. tid_of f r.body) rs ss
+
+pub flight_one : (f : ℕ) (x : Flush) → flight_tid f (flush_message x) ≡ cond (x.file == f) (x.tid ∷ []) []
+flight_one f x = cond_both x.snap _ _ (λ m. flight_tid f m ≡ cond (x.file == f) (x.tid ∷ []) []) (λ _. refl) (λ _. refl)
 
 -- n: the number that was drawn last
 pub record Chain (f : ℕ) (rs : List Record) (q : List Message) (n : ℕ) : Type 0 where
@@ -52,7 +57,7 @@ sent_if false n t xs ys more up = subst (λ zs. RisesTo 0 (xs ++ zs) t) (sym (ap
 chain_sent : (f : ℕ) (rs : List Record) (q : List Message) (n m : ℕ) (x : Flush) → n < x.tid → x.tid ≡ m → Chain f rs q n
     → Chain f rs (q ++ flush_message x ∷ []) m
 chain_sent f rs q n m x more is up = record {
-  rises = subst (λ xs. RisesTo 0 (tids f rs ++ xs) m) (sym (flight_end f q (flush_message x)))
+  rises = subst (λ xs. RisesTo 0 (tids f rs ++ xs) m) (sym (flight_end f q (flush_message x) ∙ ap (λ xs. flight f q ++ xs) (flight_one f x)))
       (subst (λ k. RisesTo 0 (tids f rs ++ (flight f q ++ cond (x.file == f) (x.tid ∷ []) [])) k) is
       (sent_if (x.file == f) n x.tid (tids f rs) (flight f q) more up.rises));
 }
@@ -85,11 +90,25 @@ step_flush_snaps h g x flush_unknown i = i
 step_flush_snaps h g x flush_none i = i
 step_flush_snaps h g x flush_writing i = i
 step_flush_snaps h g x (flush_sent y ys known is closed) i = λ f.
-    let now : Flush = flush_snap g (length (sent h) + 1) y.follows (first_mode (queued h g)) (writes h g) in
+    let now : Flush = snap h g (length (sent h) + 1) y.follows in
     chain_sent f (stand h) (to_server h) (length (sent h)) (length (sent h ++ now ∷ [])) now (omega arith) (one_longer (sent h) now) (i f)
 
-flush_recorded : (b : Bool) (tid : ℕ) (xs : List ℕ) → cond b (tid ∷ []) [] ++ xs ≡ (cond b (tid ∷ []) [] ++ []) ++ xs
-flush_recorded b tid xs = ap (λ ys. ys ++ xs) (sym (append-nil (cond b (tid ∷ []) [])))
+step_flush : (h : List Entry) (g : ℕ) (x : Answer) → FlushIs h g x → AllRise h → AllRise (record { event = e.Flush g; answer = x } ∷ h)
+step_flush h g x head_unknown i = i
+step_flush h g x head_snap i = i
+step_flush h g x head_clean i = i
+step_flush h g x (head_sent known free changed) i = λ f.
+    let now : Flush = present h g (length (sent h) + 1) in
+    chain_sent f (stand h) (to_server h) (length (sent h)) (length (sent h ++ now ∷ [])) now (omega arith) (one_longer (sent h) now) (i f)
+
+once_more : (b : Bool) (tid : ℕ) (xs : List ℕ) → cond b (tid ∷ []) [] ++ xs ≡ (cond b (tid ∷ []) [] ++ []) ++ xs
+once_more b tid xs = ap (λ ys. ys ++ xs) (sym (append-nil (cond b (tid ∷ []) [])))
+
+-- the number of a flush on its way is that of its record
+flush_recorded : (f : ℕ) (y : Flush) (xs : List ℕ) → flight_tid f (flush_message y) ++ xs ≡ tids f (recorded_of (flush_message y)) ++ xs
+flush_recorded f y xs =
+    cond_both y.snap _ _ (λ m. flight_tid f m ++ xs ≡ tids f (recorded_of m) ++ xs)
+    (λ _. once_more (y.file == f) y.tid xs) (λ _. once_more (y.file == f) y.tid xs)
 
 -- a message is taken, where it leaves these records
 abbrev Taken : List Entry → ℕ → List Message → List Record → Type 0
@@ -100,11 +119,10 @@ step_to_server h x received_idle i = i
 step_to_server h x (received_ack g seq bits q is) i = λ f.
     at_first (λ p. Taken h f p (fresh h)) (λ p. Taken h f p (fresh h)) (messages.CapAck g seq bits) q (to_server h) is
     (λ j. record { rises = j.rises }) (i f)
-step_to_server h x (received_flush g tid follows meta q is) i = λ f.
-    let m : Message = messages.FlushSnap g tid follows meta in
+step_to_server h x (received_flush y q is) i = λ f.
     subst (λ p. Taken h f q (fresh h ++ recorded p) → Taken h f (drop 1 p) (fresh h ++ recorded p)) (sym is) (λ j. j)
     (chain_moved f (durable h) (fresh h) (recorded (to_server h)) (to_server h) q (length (sent h))
-    (subst (λ p. flight f p ≡ tids f (recorded p) ++ flight f q) (sym is) (flush_recorded (g == f) tid (flight f q))) (i f))
+    (subst (λ p. flight f p ≡ tids f (recorded p) ++ flight f q) (sym is) (flush_recorded f y (flight f q))) (i f))
 
 step_snap : (h : List Entry) (d : ℕ) (name : List ℕ) (x : Answer) → SnapIs h d name x → AllRise h
     → AllRise (record { event = e.Snap d name; answer = x } ∷ h)
@@ -119,6 +137,7 @@ step_remove h t x (removed there stays) i = λ f. chain_moved f (durable h) (fre
 
 pub rise_step : (p : ℕ) (h : List Entry) (x : Event) → AllRise h → AllRise (entry p h x ∷ h)
 rise_step p h (e.Check g) i = step_check h g _ (check_is h g) i
+rise_step p h (e.Flush g) i = step_flush h g _ (flush_is h g) i
 rise_step p h (e.FlushSnaps g) i = step_flush_snaps h g _ (flush_snaps_is h g) i
 rise_step p h e.ToMds i = step_to_server h _ (received_is h) i
 rise_step p h (e.Snap d name) i = step_snap h d name _ (snap_is h d name) i

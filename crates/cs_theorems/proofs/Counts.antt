@@ -10,11 +10,9 @@ use Rattle.cs_laws.specs.declared.messages.Message.{Message}
 use Rattle.cs_laws.specs.declared.messages.Message.TheVariants as messages
 use Rattle.cs_laws.specs.declared.records.Record.{Record}
 use Rattle.cs_laws.specs.declared.records.RecordBody.TheVariants as bodies
-use Rattle.cs_laws.specs.CapSnaps.{CapSnap}
 use Rattle.cs_laws.specs.Events.{files, files_then}
 use Rattle.cs_laws.specs.Flushes.{Flush, sent_then}
-use Rattle.cs_laws.specs.History.{writes, queued, sent, stand, durable, fresh, to_server}
-use Rattle.cs_laws.specs.Image.{Write}
+use Rattle.cs_laws.specs.History.{present, sent, snap, stand, durable, fresh, to_server}
 use Rattle.cs_laws.specs.Journal.{entry}
 use Rattle.cs_laws.specs.Standing.{recorded, greatest_number, fresh_then}
 use Rattle.cs_theorems.specs.Runs.{IsRun}
@@ -24,14 +22,15 @@ use Rattle.cs_theorems.proofs.Runs.{of_run}
 one_more : {A : Type 0} (xs : List A) (x : A) (n : ℕ) → length xs ≤ n → length (xs ++ x ∷ []) ≤ n + 1
 one_more xs x n few = omega (arith, few, length-append xs (x ∷ []))
 
-sent_then_few : (x : Event) (y : Answer) (ws : ℕ → List Write) (qs : ℕ → List CapSnap) (xs : List Flush) (n : ℕ) → length xs ≤ n
-    → length (sent_then x y ws qs xs) ≤ n + 1
-sent_then_few (e.FlushSnaps f) (a.FlushSnap tid follows) ws qs xs n few = one_more xs _ n few
-sent_then_few _ _ ws qs xs n few = omega (arith, few)
+sent_then_few : (x : Event) (y : Answer) (now : ℕ → ℕ → Flush) (old : ℕ → ℕ → ℕ → Flush) (xs : List Flush) (n : ℕ) → length xs ≤ n
+    → length (sent_then x y now old xs) ≤ n + 1
+sent_then_few (e.Flush f) (a.Flush tid) now old xs n few = one_more xs _ n few
+sent_then_few (e.FlushSnaps f) (a.FlushSnap tid follows) now old xs n few = one_more xs _ n few
+sent_then_few _ _ now old xs n few = omega (arith, few)
 
 pub sent_few : (h : List Entry) → length (sent h) ≤ length h
 sent_few [] = omega arith
-sent_few (x ∷ h) = omega (arith, sent_then_few x.event x.answer (λ f. writes h f) (λ f. queued h f) (sent h) (length h) (sent_few h))
+sent_few (x ∷ h) = omega (arith, sent_then_few x.event x.answer (present h) (snap h) (sent h) (length h) (sent_few h))
 
 files_then_few : (x : Event) (y : Answer) (fs : List ℕ) (n : ℕ) → length fs ≤ n → length (files_then x y fs) ≤ n + 1
 files_then_few (e.File f p) a.Made fs n few = omega (arith, few)
@@ -50,6 +49,7 @@ greatest_append (r ∷ rs) more = omega (arith, greatest_append rs more)
 -- a flush is none
 pub recorded_none : (q : List Message) → greatest_number (recorded q) ≡ 0
 recorded_none [] = refl
+recorded_none (messages.Flush f tid follows meta ∷ q) = refl
 recorded_none (messages.FlushSnap f tid follows meta ∷ q) = refl
 recorded_none (messages.Cap f seq bits end ∷ q) = refl
 recorded_none (messages.FlushAck f tid ∷ q) = refl
@@ -80,7 +80,7 @@ step_remove h t x (removed there stays) i =
 step_to_mds : (h : List Entry) (x : Answer) → ReceivedIs h x → SnapsAreFew h → SnapsAreFew (record { event = e.ToMds; answer = x } ∷ h)
 step_to_mds h x received_idle i = omega (arith, i)
 step_to_mds h x (received_ack g seq bits q is) i = omega (arith, i)
-step_to_mds h x (received_flush g tid follows meta q is) i =
+step_to_mds h x (received_flush y q is) i =
     omega (arith, i, greatest_behind (durable h) (fresh h) (recorded (to_server h)), recorded_none (to_server h))
 
 step_commit : (h : List Entry) (x : Answer) → SnapsAreFew h → greatest_number ((durable h ++ fresh h) ++ []) ≤ length h + 1
@@ -100,6 +100,7 @@ snaps_few p h run = of_run p SnapsAreFew (omega arith) (λ g x fit before i. few
 
 recorded_few : (q : List Message) → length (recorded q) ≤ 1
 recorded_few [] = omega arith
+recorded_few (messages.Flush f tid follows meta ∷ q) = omega arith
 recorded_few (messages.FlushSnap f tid follows meta ∷ q) = omega arith
 recorded_few (messages.Cap f seq bits end ∷ q) = omega arith
 recorded_few (messages.FlushAck f tid ∷ q) = omega arith

@@ -13,6 +13,8 @@ use Rattle.cs_laws.specs.History.{durable, fresh, stand}
 use Rattle.cs_laws.specs.Journal.{entry}
 use Rattle.cs_laws.specs.Standing.{greatest_number, has_snap, is_snap, number_of, recorded}
 use Rattle.cs_theorems.proofs.Inversions.{ReceivedIs, received_idle, received_ack, received_flush, received_is, SnapIs, snap_unknown, snap_exists, snap_taken, snap_is, RemoveIs, remove_none, remove_gone, removed, remove_is}
+use Rattle.cs_laws.specs.Flushes.{flush_record}
+use Rattle.cs_theorems.proofs.Places.{recorded_one}
 
 -- a snapshot or a removal draws a number above g, and a removal is of a snapshot up to that
 abbrev pub Draws : ℕ → RecordBody → Type 0
@@ -67,8 +69,9 @@ more h r d i =
 step_server : (h : List Entry) (x : Answer) → ReceivedIs h x → DrawnAt h → DrawnAt (record { event = e.ToMds; answer = x } ∷ h)
 step_server h x received_idle i = i
 step_server h x (received_ack f seq bits q there) i = i
-step_server h x (received_flush f tid follows meta q there) i =
-    subst (λ p. AllDraw 0 (durable h ++ (fresh h ++ recorded p))) (sym there) (more h (record { body = bodies.Flush true f tid follows meta }) tt i)
+step_server h x (received_flush y q there) i =
+    subst (λ p. AllDraw 0 (durable h ++ (fresh h ++ recorded p))) (sym there)
+    (subst (λ rs. AllDraw 0 (durable h ++ (fresh h ++ rs))) (sym (recorded_one y)) (more h (flush_record y) tt i))
 
 step_snap : (h : List Entry) (d : ℕ) (name : List ℕ) (x : Answer) → SnapIs h d name x → DrawnAt h → DrawnAt (record { event = e.Snap d name; answer = x } ∷ h)
 step_snap h d name x snap_unknown i = i

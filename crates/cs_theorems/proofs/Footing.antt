@@ -9,6 +9,7 @@ use Rattle.cs_theorems.proofs.Chains.{AllRise, rise_first, rise_step}
 use Rattle.cs_theorems.proofs.Course.{Course, course_first, course_step}
 use Rattle.cs_theorems.proofs.Covered.{AllCovered, covered_first, covered_step}
 use Rattle.cs_theorems.proofs.Images.{HoldsAt, holds_first, holds_step}
+use Rattle.cs_theorems.proofs.Modes.{ModesAt, modes_first, modes_step}
 use Rattle.cs_theorems.proofs.Places.{AllPlaced, places_start, place_step}
 use Rattle.cs_theorems.proofs.Runs.{of_run}
 
@@ -18,6 +19,7 @@ pub record Footing (h : List Entry) : Type 0 where
   pub rise : AllRise h
   pub acked : AllAcked h
   pub placed : AllPlaced h
+  pub modes : ModesAt h
   pub holds : HoldsAt h
 
 footing_first : Footing []
@@ -27,16 +29,18 @@ footing_first = record {
   rise = rise_first;
   acked = acked_first;
   placed = places_start;
+  modes = modes_first;
   holds = holds_first;
 }
 
 footing_step : (p : ℕ) (h : List Entry) (x : Event) → Footing h → Footing (entry p h x ∷ h)
 footing_step p h x i = record {
   course = course_step p h x i.course;
-  covered = covered_step p h x i.course i.covered;
+  covered = covered_step p h x i.course i.placed i.covered;
   rise = rise_step p h x i.rise;
   acked = acked_step p h x i.acked;
   placed = place_step p h x i.placed;
+  modes = modes_step h x _ (λ f. (i.covered f).changes_low) i.modes;
   holds = holds_step p h x i.course.shares i.holds;
 }
 

@@ -33,6 +33,8 @@ use Rattle.cs_theorems.proofs.Lookups.{changed_at, has_changed}
 use Rattle.cs_theorems.proofs.Paths.{still_dir, with_path}
 use Rattle.cs_theorems.proofs.RealmPaths.{HasRealms, realm_of}
 use Rattle.cs_theorems.proofs.WayContexts.{Stays, flush_stays, realm_more}
+use Rattle.cs_laws.specs.Flushes.{flush_record}
+use Rattle.cs_theorems.proofs.Places.{recorded_one}
 
 -- the messages that tell of snapshots and removals
 abbrev pub snap_in : Message → List Message
@@ -383,9 +385,10 @@ step_client h x (first_snap n d now q there) listed i =
 step_server : (h : List Entry) (x : Answer) → ReceivedIs h x → FrontAt h → FrontAt (record { event = e.ToMds; answer = x } ∷ h)
 step_server h x received_idle i = i
 step_server h x (received_ack f seq bits q there) i = i
-step_server h x (received_flush f tid follows meta q there) i =
+step_server h x (received_flush y q there) i =
     subst (λ p. Front (λ k. is_directory h k) (λ k. path h k) (directories h) (realms h) (to_client h) (durable h) (fresh h ++ recorded p)) (sym there)
-    (front_record _ _ _ _ _ _ _ (record { body = bodies.Flush true f tid follows meta }) tt i)
+    (subst (λ rs. Front (λ k. is_directory h k) (λ k. path h k) (directories h) (realms h) (to_client h) (durable h) (fresh h ++ rs)) (sym (recorded_one y))
+    (front_record _ _ _ _ _ _ _ (flush_record y) tt i))
 
 step_snap : (h : List Entry) (d : ℕ) (name : List ℕ) (x : Answer) → SnapIs h d name x → FrontAt h → FrontAt (record { event = e.Snap d name; answer = x } ∷ h)
 step_snap h d name x snap_unknown i = i

@@ -21,6 +21,7 @@ use Rattle.cs_laws.specs.declared.records.RecordBody.{RecordBody}
 use Rattle.cs_laws.specs.declared.records.RecordBody.TheVariants as bodies
 use Rattle.cs_laws.specs.Answers.{held_after}
 use Rattle.cs_laws.specs.Flight.{cap_message}
+use Rattle.cs_laws.specs.Flushes.{flush_message}
 use Rattle.cs_laws.specs.History.{client, server, to_client, to_server, durable, fresh}
 use Rattle.cs_laws.specs.Journal.{history, journal, entry}
 use Rattle.cs_laws.specs.Realms.{changed_records}
@@ -30,7 +31,7 @@ use Rattle.cs_theorems.specs.Held.{HeldCoversImplemented}
 use Rattle.cs_theorems.proofs.Listed.{Each, each_nil, each_cons}
 use Rattle.cs_theorems.proofs.Rising.{at_first}
 use Rattle.cs_theorems.proofs.Held.{Within, Holds, Moves, Flying, Acked, cap_seq, cap_seqs, moves_granted, moves_revoked, holds_told, holds_beside, holds_delivered, holds_passed, holds_ack, holds_sent, holds_taken, holds_received}
-use Rattle.cs_theorems.proofs.Inversions.{CheckIs, check_unknown, check_nothing, check_hold, check_ack, check_is, FlushSnapsIs, flush_unknown, flush_none, flush_writing, flush_sent, flush_snaps_is, FirstIs, first_idle, first_cap, first_flush_ack, first_snap, first_is, ReceivedIs, received_idle, received_ack, received_flush, received_is, GrantIs, grant_unknown, grant_sent, grant_is, revoke_is}
+use Rattle.cs_theorems.proofs.Inversions.{FlushIs, head_unknown, head_snap, head_clean, head_sent, flush_is, CheckIs, check_unknown, check_nothing, check_hold, check_ack, check_is, FlushSnapsIs, flush_unknown, flush_none, flush_writing, flush_sent, flush_snaps_is, FirstIs, first_idle, first_cap, first_flush_ack, first_snap, first_is, ReceivedIs, received_idle, received_ack, received_flush, received_is, GrantIs, grant_unknown, grant_sent, grant_is, revoke_is}
 
 differs : (g f : ℕ) → (g == f) ≡ false → g ≡ f → ⊥
 differs g f t same = grind (arith, nat_tests)
@@ -140,6 +141,12 @@ step_flush_snaps h g x flush_none i = i
 step_flush_snaps h g x flush_writing i = i
 step_flush_snaps h g x (flush_sent y ys known is closed) i = λ f. holds_sent f (server h f) (client h f) (to_client h) (to_server h) _ tt (i f)
 
+step_flush : (h : List Entry) (g : ℕ) (x : Answer) → FlushIs h g x → AllHold h → AllHold (record { event = e.Flush g; answer = x } ∷ h)
+step_flush h g x head_unknown i = i
+step_flush h g x head_snap i = i
+step_flush h g x head_clean i = i
+step_flush h g x (head_sent known free changed) i = λ f. holds_sent f (server h f) (client h f) (to_client h) (to_server h) _ tt (i f)
+
 -- the first message to the server is taken
 abbrev Server : List Entry → ℕ → List Message → Type 0
 Server h f p = Holds f (server h f) (client h f) (to_client h) p
@@ -150,9 +157,9 @@ step_to_server h x (received_ack g seq bits p is) i = λ f.
     let now : ServerCaps = cond (g == f) (record (server h f) { held = held_after (server h g) seq bits }) (server h f) in
     at_first (λ y. Server h f y) (λ y. Holds f now (client h f) (to_client h) y) (messages.CapAck g seq bits) p (to_server h) is
     (λ j. received_if (g == f) f g seq bits (server h f) (server h g) (client h f) (to_client h) p refl (λ same. ap (λ k. server h k) same) j) (i f)
-step_to_server h x (received_flush g tid follows meta p is) i = λ f.
-    at_first (λ y. Server h f y) (λ y. Server h f y) (messages.FlushSnap g tid follows meta) p (to_server h) is
-    (λ j. holds_taken f (server h f) (client h f) (to_client h) p (messages.FlushSnap g tid follows meta) j) (i f)
+step_to_server h x (received_flush y p is) i = λ f.
+    at_first (λ q. Server h f q) (λ q. Server h f q) (flush_message y) p (to_server h) is
+    (λ j. holds_taken f (server h f) (client h f) (to_client h) p (flush_message y) j) (i f)
 
 step_commit : (h : List Entry) (x : ℕ) → AllHold h → AllHold (record { event = e.Commit; answer = a.Commit x } ∷ h)
 step_commit h x i = λ f.
@@ -165,6 +172,7 @@ hold_step p h (e.Revoke g bits) i = step_revoke h g bits _ (revoke_is h g bits) 
 hold_step p h e.ToClient i = step_to_client h _ (first_is h) i
 hold_step p h e.ToMds i = step_to_server h _ (received_is h) i
 hold_step p h (e.Check g) i = step_check h g _ (check_is h g) i
+hold_step p h (e.Flush g) i = step_flush h g _ (flush_is h g) i
 hold_step p h (e.FlushSnaps g) i = step_flush_snaps h g _ (flush_snaps_is h g) i
 hold_step p h e.Commit i = step_commit h (length (fresh h)) i
 hold_step p h _ i = i

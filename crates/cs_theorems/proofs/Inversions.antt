@@ -6,7 +6,6 @@ use Rattle.cs_bits.specs.Bits.{covers, is_empty}
 use Rattle.cs_parts.specs.declared.capabilities.ServerCaps.{ServerCaps}
 use Rattle.cs_parts.specs.declared.references.Live.{Live}
 use Rattle.cs_snapctx.specs.declared.realm.RealmRecord.{RealmRecord}
-use Rattle.cs_ids.specs.declared.objects.FileMeta.{FileMeta}
 use Rattle.cs_parts.specs.Capabilities.{granted, revoked, held_back, is_complete}
 use Rattle.cs_laws.specs.declared.events.RefName.{RefName}
 use Rattle.cs_laws.specs.declared.answers.Answer.{Answer}
@@ -19,11 +18,13 @@ use Rattle.cs_laws.specs.CapSnaps.{CapSnap, is_open, is_writing}
 use Rattle.cs_snapctx.specs.Records.{with_records}
 use Rattle.cs_laws.specs.Context.{path_context}
 use Rattle.cs_laws.specs.Events.{client_knows, server_knows, files, begun}
+use Rattle.cs_laws.specs.Flushes.{Flush, flush_message}
 use Rattle.cs_laws.specs.Tree.{file_path, is_directory}
-use Rattle.cs_laws.specs.History.{client, server, realms, to_client, to_server, live, queued, sent, stand, used}
+use Rattle.cs_laws.specs.History.{client, server, realms, to_client, to_server, dirty, live, queued, sent, stand, used, writes}
+use Rattle.cs_laws.specs.Image.{size}
 use Rattle.cs_laws.specs.References.{can_end, named}
 use Rattle.cs_laws.specs.Standing.{greatest_number, has_snap, has_snap_named, is_removed}
-use Rattle.cs_laws.specs.Answers.{answer_begin, answer_end, answer_check, answer_flush_snaps, answer_flush_snaps_of, answer_to_client, answer_to_client_of, answer_to_mds, answer_to_mds_of, answer_grant, answer_revoke, answer_remove, answer_snap, answer_write, answer_write_on, count_made, held_after, may_write}
+use Rattle.cs_laws.specs.Answers.{answer_begin, answer_chmod, answer_chmod_on, answer_end, answer_check, answer_flush, answer_flush_snaps, answer_flush_snaps_of, answer_read, answer_read_on, answer_to_client, answer_to_client_of, answer_to_mds, answer_to_mds_of, answer_grant, answer_revoke, answer_remove, answer_snap, answer_write, answer_write_on, bytes_within, count_made, held_after, may_change_mode, may_read, may_write}
 
 pub data BeginIs (h : List Entry) (c f : ℕ) (b : Caps) : Answer → Type 0 where
   begin_unknown : BeginIs h c f b a.Unknown
@@ -70,6 +71,54 @@ write_is_of h c name off count (Some r) is =
 pub write_is : (h : List Entry) (c : ℕ) (name : RefName) (off : ℕ) (bytes : List ℕ) → WriteIs h c name (answer_write h c name off bytes)
 write_is h c name off bytes = write_is_of h c name off (length bytes) (named c name (live h)) refl
 
+pub data ReadIs (h : List Entry) (c : ℕ) (name : RefName) (off len : ℕ) : Answer → Type 0 where
+  read_unknown : ReadIs h c name off len a.Unknown
+  read_no_bit : ReadIs h c name off len a.NoBit
+  was_read : (r : Live) → named c name (live h) ≡ Some r → may_read r.bits ≡ true
+      → ReadIs h c name off len (a.Bytes (bytes_within (size (writes h r.file)) (writes h r.file) off len))
+
+read_is_of : (h : List Entry) (c : ℕ) (name : RefName) (off len : ℕ) (found : Option Live) → named c name (live h) ≡ found
+    → ReadIs h c name off len (answer_read_on (λ f. writes h f) found off len)
+read_is_of h c name off len None is = read_unknown
+read_is_of h c name off len (Some r) is =
+    cond_both (may_read r.bits) _ _ (ReadIs h c name off len) (λ may. was_read r is may) (λ _. read_no_bit)
+
+pub read_is : (h : List Entry) (c : ℕ) (name : RefName) (off len : ℕ) → ReadIs h c name off len (answer_read h c name off len)
+read_is h c name off len = read_is_of h c name off len (named c name (live h)) refl
+
+pub data ChmodIs (h : List Entry) (c : ℕ) (name : RefName) : Answer → Type 0 where
+  chmod_unknown : ChmodIs h c name a.Unknown
+  chmod_no_bit : ChmodIs h c name a.NoBit
+  chmod_snap : ChmodIs h c name (a.Again why.Snap)
+  chmod_done : (r : Live) → named c name (live h) ≡ Some r → may_change_mode r.bits ≡ true → is_writing (live h) (queued h r.file) ≡ false
+      → ChmodIs h c name a.Done
+
+chmod_is_of : (h : List Entry) (c : ℕ) (name : RefName) (found : Option Live) → named c name (live h) ≡ found
+    → ChmodIs h c name (answer_chmod_on (λ f. is_writing (live h) (queued h f)) found)
+chmod_is_of h c name None is = chmod_unknown
+chmod_is_of h c name (Some r) is =
+    cond_both (may_change_mode r.bits) _ _ (ChmodIs h c name)
+    (λ may. cond_both (is_writing (live h) (queued h r.file)) _ _ (ChmodIs h c name) (λ _. chmod_snap) (λ free. chmod_done r is may free))
+    (λ _. chmod_no_bit)
+
+pub chmod_is : (h : List Entry) (c : ℕ) (name : RefName) → ChmodIs h c name (answer_chmod h c name)
+chmod_is h c name = chmod_is_of h c name (named c name (live h)) refl
+
+pub data FlushIs (h : List Entry) (f : ℕ) : Answer → Type 0 where
+  head_unknown : FlushIs h f a.Unknown
+  head_snap : FlushIs h f (a.Again why.Snap)
+  head_clean : FlushIs h f a.Clean
+  head_sent : client_knows h f ≡ true → is_writing (live h) (queued h f) ≡ false → is_empty (dirty h f) ≡ false
+      → FlushIs h f (a.Flush (length (sent h) + 1))
+
+pub flush_is : (h : List Entry) (f : ℕ) → FlushIs h f (answer_flush h f)
+flush_is h f =
+    cond_both (client_knows h f) _ _ (FlushIs h f)
+    (λ known. cond_both (is_writing (live h) (queued h f)) _ _ (FlushIs h f)
+    (λ _. head_snap)
+    (λ free. cond_both (is_empty (dirty h f)) _ _ (FlushIs h f) (λ _. head_clean) (λ changed. head_sent known free changed)))
+    (λ _. head_unknown)
+
 pub data CheckIs (h : List Entry) (f : ℕ) : Answer → Type 0 where
   check_unknown : CheckIs h f a.Unknown
   check_nothing : CheckIs h f a.Nothing
@@ -114,6 +163,7 @@ first_is_of h (messages.Cap f seq bits end ∷ q) is = first_cap f seq bits end 
 first_is_of h (messages.FlushAck f tid ∷ q) is = first_flush_ack f tid q is
 first_is_of h (messages.Snap number realm told ∷ q) is = first_snap number realm told q is
 first_is_of h (messages.CapAck f seq bits ∷ q) is = first_idle
+first_is_of h (messages.Flush f tid follows meta ∷ q) is = first_idle
 first_is_of h (messages.FlushSnap f tid follows meta ∷ q) is = first_idle
 
 pub first_is : (h : List Entry) → FirstIs h (answer_to_client h)
@@ -123,13 +173,15 @@ pub data ReceivedIs (h : List Entry) : Answer → Type 0 where
   received_idle : ReceivedIs h a.Idle
   received_ack : (f seq : ℕ) (bits : Caps) (q : List Message) → to_server h ≡ messages.CapAck f seq bits ∷ q
       → ReceivedIs h (a.CapAck f seq (held_after (server h f) seq bits))
-  received_flush : (f tid follows : ℕ) (meta : FileMeta) (q : List Message) → to_server h ≡ messages.FlushSnap f tid follows meta ∷ q
-      → ReceivedIs h (a.Flushed f tid)
+  received_flush : (x : Flush) (q : List Message) → to_server h ≡ flush_message x ∷ q → ReceivedIs h (a.Flushed x.file x.tid)
 
 received_is_of : (h : List Entry) (q : List Message) → to_server h ≡ q → ReceivedIs h (answer_to_mds_of h q)
 received_is_of h [] is = received_idle
 received_is_of h (messages.CapAck f seq bits ∷ q) is = received_ack f seq bits q is
-received_is_of h (messages.FlushSnap f tid follows meta ∷ q) is = received_flush f tid follows meta q is
+received_is_of h (messages.Flush f tid follows meta ∷ q) is =
+    received_flush (record { tid = tid; file = f; follows = follows; meta = meta; snap = false }) q is
+received_is_of h (messages.FlushSnap f tid follows meta ∷ q) is =
+    received_flush (record { tid = tid; file = f; follows = follows; meta = meta; snap = true }) q is
 received_is_of h (messages.Cap f seq bits end ∷ q) is = received_idle
 received_is_of h (messages.FlushAck f tid ∷ q) is = received_idle
 received_is_of h (messages.Snap number realm realms ∷ q) is = received_idle

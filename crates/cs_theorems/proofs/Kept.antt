@@ -17,13 +17,13 @@ use Rattle.cs_laws.specs.declared.records.Record.{Record}
 use Rattle.cs_laws.specs.CapSnaps.{CapSnap, queued_then}
 use Rattle.cs_laws.specs.Context.{path_context, realms_then}
 use Rattle.cs_laws.specs.Tree.{directories, directories_then, file_path, home, home_then, path, path_then, setup_dir, setup_dir_then}
-use Rattle.cs_laws.specs.Events.{setup_file, setup_file_then, files, files_then, begun, begun_then, clock, mode}
+use Rattle.cs_laws.specs.Events.{setup_file, setup_file_then, files, files_then, begun, begun_then, clock, clock_then}
 use Rattle.cs_laws.specs.Flight.{to_client_then, to_server_then}
 use Rattle.cs_laws.specs.Flushes.{Flush, sent_then}
-use Rattle.cs_laws.specs.History.{client, server, to_client, to_server, durable, fresh, realms, context, live, writes, dirty, queued, sent}
+use Rattle.cs_laws.specs.History.{client, server, to_client, to_server, durable, fresh, realms, context, live, writes, mode, dirty, present, queued, sent, snap}
 use Rattle.cs_laws.specs.Image.{Write}
 use Rattle.cs_laws.specs.Operations.{begun_under, begun_under_then, brought, drawn_then, operations_drawn, applied}
-use Rattle.cs_laws.specs.References.{live_then, dirty_then}
+use Rattle.cs_laws.specs.References.{live_then, mode_then, dirty_then}
 use Rattle.cs_laws.specs.Standing.{durable_then, fresh_then}
 use Rattle.cs_laws.specs.Standing.{told as tell}
 use Rattle.cs_laws.specs.Writes.{writes_then}
@@ -58,13 +58,14 @@ clients_way e.ToClient (a.FlushAck g tid) s news q r = cc
 clients_way e.ToClient (a.SnapTold number realm count) s news q r = cc
 clients_way _ _ s news q r = refl
 
-servers_way : (x : Event) (y : Answer) (ws : ℕ → List Write) (qs : ℕ → List CapSnap) (q : List Message) → is_refusal x y ≡ true
-    → to_server_then x y ws qs q ≡ q
-servers_way (e.Check g) (a.Ack seq bits) ws qs q r = cc
-servers_way (e.FlushSnaps g) (a.FlushSnap tid follows) ws qs q r = cc
-servers_way e.ToMds (a.CapAck g seq held) ws qs q r = cc
-servers_way e.ToMds (a.Flushed g tid) ws qs q r = cc
-servers_way _ _ ws qs q r = refl
+servers_way : (x : Event) (y : Answer) (now : ℕ → ℕ → Flush) (old : ℕ → ℕ → ℕ → Flush) (q : List Message) → is_refusal x y ≡ true
+    → to_server_then x y now old q ≡ q
+servers_way (e.Check g) (a.Ack seq bits) now old q r = cc
+servers_way (e.Flush g) (a.Flush tid) now old q r = cc
+servers_way (e.FlushSnaps g) (a.FlushSnap tid follows) now old q r = cc
+servers_way e.ToMds (a.CapAck g seq held) now old q r = cc
+servers_way e.ToMds (a.Flushed g tid) now old q r = cc
+servers_way _ _ now old q r = refl
 
 durables : (x : Event) (y : Answer) (fs ds : List Record) → is_refusal x y ≡ true → durable_then x y fs ds ≡ ds
 durables e.Commit (a.Commit count) fs ds r = cc
@@ -114,8 +115,18 @@ written : (x : Event) (y : Answer) (rs : List Live) (time f : ℕ) (ws : List Wr
 written (e.Write c name off bytes) a.Wrote rs time f ws r = cc
 written _ _ rs time f ws r = refl
 
+modes : (x : Event) (y : Answer) (rs : List Live) (f m : ℕ) → is_refusal x y ≡ true → mode_then x y rs f m ≡ m
+modes (e.Chmod c name mode) a.Done rs f m r = cc
+modes _ _ rs f m r = refl
+
+clocks : (x : Event) (y : Answer) (t : ℕ) → is_refusal x y ≡ true → clock_then x y t ≡ t
+clocks (e.Clock t) (a.Now u) was r = cc
+clocks _ _ was r = refl
+
 dirtied : (x : Event) (y : Answer) (rs : List Live) (f : ℕ) (d : Caps) → is_refusal x y ≡ true → dirty_then x y rs f d ≡ d
 dirtied (e.Write c name off bytes) a.Wrote rs f d r = cc
+dirtied (e.Chmod c name mode) a.Done rs f d r = cc
+dirtied (e.Flush g) (a.Flush tid) rs f d r = cc
 dirtied _ _ rs f d r = refl
 
 queues : (x : Event) (y : Answer) (f : ℕ) (old new : Context) (rs : List Live) (d : Caps) (m : ℕ) (xs : List CapSnap) → is_refusal x y ≡ true
@@ -124,10 +135,11 @@ queues e.ToClient (a.SnapTold number realm count) f old new rs d m xs r = cc
 queues (e.FlushSnaps g) (a.FlushSnap tid follows) f old new rs d m xs r = cc
 queues _ _ f old new rs d m xs r = refl
 
-flushed : (x : Event) (y : Answer) (ws : ℕ → List Write) (qs : ℕ → List CapSnap) (xs : List Flush) → is_refusal x y ≡ true
-    → sent_then x y ws qs xs ≡ xs
-flushed (e.FlushSnaps g) (a.FlushSnap tid follows) ws qs xs r = cc
-flushed _ _ ws qs xs r = refl
+flushed : (x : Event) (y : Answer) (now : ℕ → ℕ → Flush) (old : ℕ → ℕ → ℕ → Flush) (xs : List Flush) → is_refusal x y ≡ true
+    → sent_then x y now old xs ≡ xs
+flushed (e.Flush g) (a.Flush tid) now old xs r = cc
+flushed (e.FlushSnaps g) (a.FlushSnap tid follows) now old xs r = cc
+flushed _ _ now old xs r = refl
 
 none_brought : (x : Event) (y : Answer) (h : List Entry) (n : ℕ) → is_refusal x y ≡ true → brought x y h n ≡ []
 none_brought (e.Write c name off bytes) a.Wrote h n r = cc
@@ -152,12 +164,12 @@ as_before h x r =
       client = λ f. clients x.event x.answer f (client h f) r;
       server = λ f. servers x.event x.answer f (server h f) r;
       to_client = clients_way x.event x.answer (λ f. server h f) (tell (λ d. path h d) (directories h) (durable h) (fresh h)) (to_client h) r;
-      to_server = servers_way x.event x.answer (λ f. writes h f) (λ f. queued h f) (to_server h) r;
+      to_server = servers_way x.event x.answer (present h) (snap h) (to_server h) r;
       durable = durables x.event x.answer (fresh h) (durable h) r;
       fresh = added x.event x.answer (to_server h) (fresh h) r;
       realms = same_realms;
-      clock = refl;
-      mode = λ f. refl;
+      clock = clocks x.event x.answer (clock h) r;
+      mode = λ f. modes x.event x.answer (live h) f (mode h f) r;
       contexts = λ f. ap (λ ps. path_context ps (realms (x ∷ h))) (same_way f) ∙ ap (λ ts. path_context (file_path h f) ts) same_realms;
       references = references x.event x.answer (λ f. (context h f).seq) (live h) r;
       begun = λ c. counts x.event x.answer c (begun h c) r;
@@ -165,7 +177,7 @@ as_before h x r =
       writes = λ f. written x.event x.answer (live h) (clock h) f (writes h f) r;
       dirty = λ f. dirtied x.event x.answer (live h) f (dirty h f) r;
       queued = λ f. queues x.event x.answer f (context h f) (context (x ∷ h) f) (live h) (dirty h f) (mode h f) (queued h f) r;
-      sent = flushed x.event x.answer (λ f. writes h f) (λ f. queued h f) (sent h) r;
+      sent = flushed x.event x.answer (present h) (snap h) (sent h) r;
       operations = ap (λ os. reverse os ++ applied h) (none_brought x.event x.answer h (operations_drawn h) r);
       drawn = none_drawn x.event x.answer h (operations_drawn h) r;
     }

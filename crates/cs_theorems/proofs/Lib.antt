@@ -14,7 +14,6 @@ pub mod Covers
 pub mod Drawn
 pub mod Ends
 pub mod Files
-pub mod Follows
 pub mod Footing
 pub mod Fronts
 pub mod Growth
@@ -28,6 +27,7 @@ pub mod LastFlush
 pub mod Listed
 pub mod Listing
 pub mod Lookups
+pub mod Modes
 pub mod Numbered
 pub mod Numbers
 pub mod OnceStanding
@@ -46,6 +46,7 @@ pub mod QueueSteps
 pub mod Queues
 pub mod RealmPaths
 pub mod Recorded
+pub mod Retired
 pub mod Rising
 pub mod Runs
 pub mod Settings
@@ -57,6 +58,8 @@ pub mod Tests
 pub mod Together
 pub mod Told
 pub mod ToldPlaces
+pub mod Unacked
+pub mod UnackedSteps
 pub mod Underway
 pub mod Unsent
 pub mod Untouched

@@ -1,20 +1,26 @@
 -- The first law of flushes: those of a file stand in the order of their numbers, and each that was acked once.
-use Rattle.std.proofs.Common.{◌≡◌, refl, sym, ℕ, Bool, true, false, cond, ◌==◌, ◌&&◌, List, [], ◌∷◌, ◌++◌, subst}
+use Rattle.std.proofs.Common.{◌≡◌, refl, sym, ℕ, Bool, true, false, cond, not, ◌==◌, ◌&&◌, List, [], ◌∷◌, ◌++◌, subst, ⊎_elim}
+use Rattle.std.specs.List.{list_any}
+use Rattle.std.proofs.lemmas.Bool.{and_from, and_parts, or_cases, or_left, or_right}
 use Rattle.cs_laws.specs.declared.events.Event.{Event}
 use Rattle.cs_laws.specs.declared.events.Event.TheVariants as e
 use Rattle.cs_laws.specs.declared.answers.Answer.{Answer}
 use Rattle.cs_laws.specs.declared.answers.Answer.TheVariants as a
 use Rattle.cs_laws.specs.declared.answers.Entry.{Entry}
-use Rattle.cs_laws.specs.Flushes.{acked, acked_then}
-use Rattle.cs_laws.specs.History.{to_server, durable, fresh, stand}
+use Rattle.cs_laws.specs.Flushes.{Flush, acked, acked_then, sent_then}
+use Rattle.cs_laws.specs.History.{present, sent, snap, stand, to_server}
 use Rattle.cs_laws.specs.Journal.{entry, history, journal}
-use Rattle.cs_theorems.specs.Flushes.{tids, AckedStandOnce, FlushesStandOnce}
+use Rattle.cs_laws.specs.Owed.{is_acked, is_later}
+use Rattle.cs_theorems.specs.Flushes.{tids, AckedStandOnce, FlushesStandOnce, RetiredStandOnce}
 use Rattle.cs_theorems.specs.Lists.{RisesFrom}
 use Rattle.cs_theorems.proofs.Listed.{Member, member_left}
 use Rattle.cs_theorems.proofs.Numbers.{times_once}
 use Rattle.cs_theorems.proofs.Rising.{rises_front}
-use Rattle.cs_theorems.proofs.Chains.{AllRise, all_rise, flight, tids_append}
+use Rattle.cs_theorems.proofs.Chains.{AllRise, all_rise, flight}
 use Rattle.cs_theorems.proofs.Acks.{AllAcked, all_acked}
+use Rattle.cs_theorems.proofs.Places.{AllPlaced, all_placed}
+use Rattle.cs_theorems.proofs.Retired.{record_member, retired_stands, told_stands}
+use Rattle.cs_theorems.proofs.Tests.{any_some, any_true}
 
 still : (b was : Bool) → was ≡ true → cond b true was ≡ true
 still true was is = refl
@@ -29,24 +35,62 @@ acked_since : (new before : List Entry) (f tid : ℕ) → acked before f tid ≡
 acked_since [] before f tid is = is
 acked_since (x ∷ new) before f tid is = kept x.event x.answer f tid (acked (new ++ before) f tid) (acked_since new before f tid is)
 
+-- so does what was sent
+sent_on : (x : Event) (y : Answer) (now : ℕ → ℕ → Flush) (old : ℕ → ℕ → ℕ → Flush) (xs : List Flush) (z : Flush) → Member z xs
+    → Member z (sent_then x y now old xs)
+sent_on (e.Flush f) (a.Flush tid) now old xs z there = member_left z xs _ there
+sent_on (e.FlushSnaps f) (a.FlushSnap tid follows) now old xs z there = member_left z xs _ there
+sent_on _ _ now old xs z there = there
+
+sent_since : (new before : List Entry) (z : Flush) → Member z (sent before) → Member z (sent (new ++ before))
+sent_since [] before z there = there
+sent_since (x ∷ new) before z there =
+    sent_on x.event x.answer (present (new ++ before)) (snap (new ++ before)) (sent (new ++ before)) z (sent_since new before z there)
+
+-- and what is acknowledged by a later one
+retired_on : (x : Entry) (h : List Entry) (z : Flush) → is_acked h z ≡ true → is_acked (x ∷ h) z ≡ true
+retired_on x h z was =
+    ⊎_elim
+    (λ own. or_left (acked (x ∷ h) z.file z.tid) _ (kept x.event x.answer z.file z.tid (acked h z.file z.tid) own))
+    (λ later.
+    let parts = and_parts (not z.snap) (list_any (λ y. is_later z y && acked h y.file y.tid) (sent h)) later in
+    let y = any_some (λ y. is_later z y && acked h y.file y.tid) (sent h) parts.1 in
+    let both = and_parts (is_later z y.0) (acked h y.0.file y.0.tid) y.2 in
+    or_right (acked (x ∷ h) z.file z.tid) _
+    (and_from (not z.snap) (list_any (λ y. is_later z y && acked (x ∷ h) y.file y.tid) (sent (x ∷ h))) parts.0
+    (any_true (λ y. is_later z y && acked (x ∷ h) y.file y.tid) (sent (x ∷ h)) y.0
+    (sent_on x.event x.answer (present h) (snap h) (sent h) y.0 y.1)
+    (and_from (is_later z y.0) (acked (x ∷ h) y.0.file y.0.tid) both.0
+    (kept x.event x.answer y.0.file y.0.tid (acked h y.0.file y.0.tid) both.1)))))
+    (or_cases (acked h z.file z.tid) (not z.snap && list_any (λ y. is_later z y && acked h y.file y.tid) (sent h)) was)
+
+retired_since : (new before : List Entry) (z : Flush) → is_acked before z ≡ true → is_acked (new ++ before) z ≡ true
+retired_since [] before z was = was
+retired_since (x ∷ new) before z was = retired_on x (new ++ before) z (retired_since new before z was)
+
 rise : (h : List Entry) → AllRise h → (f : ℕ) → RisesFrom 0 (tids f (stand h))
 rise h i f = rises_front 0 _ (tids f (stand h)) (flight f (to_server h)) (i f).rises
 
 once : (h : List Entry) → AllRise h → AllAcked h → AckedStandOnce h h
-once h i j f tid is =
-    let there : Member tid (tids f (stand h))
-    = subst (λ xs. Member tid xs) (sym (tids_append f (durable h) (fresh h))) (member_left tid (tids f (durable h)) (tids f (fresh h)) ((j f).told tid is)) in
-    times_once 0 tid (tids f (stand h)) (rise h i f) there
+once h i j f tid is = times_once 0 tid (tids f (stand h)) (rise h i f) (told_stands h j f tid is)
 
-stand_once : (h : List Entry) → AllRise h → AllAcked h → FlushesStandOnce h
-stand_once h i j = record {
+retired_once : (h : List Entry) → AllRise h → AllAcked h → AllPlaced h → RetiredStandOnce h h
+retired_once h i j k x there is =
+    times_once 0 x.tid (tids x.file (stand h)) (rise h i x.file) (record_member x.file x (stand h) refl (retired_stands h i j k x there is))
+
+stand_once : (h : List Entry) → AllRise h → AllAcked h → AllPlaced h → FlushesStandOnce h
+stand_once h i j k = record {
   rise = rise h i;
-  once = λ before new is f tid was.
-      once h i j f tid (subst (λ k. acked k f tid ≡ true) (sym is) (acked_since new before f tid was));
+  once = λ before new is. (
+    λ f tid was. once h i j f tid (subst (λ g. acked g f tid ≡ true) (sym is) (acked_since new before f tid was)),
+    λ x there was.
+        retired_once h i j k x (subst (λ g. Member x (sent g)) (sym is) (sent_since new before x there))
+        (subst (λ g. is_acked g x ≡ true) (sym is) (retired_since new before x was)),
+  );
 }
 
 pub flushes_once : (p : ℕ) (es : List Event) → FlushesStandOnce (journal p es)
-flushes_once p es = stand_once (journal p es) (all_rise p es) (all_acked p es)
+flushes_once p es = stand_once (journal p es) (all_rise p es) (all_acked p es) (all_placed p es)
 
 -- over journals
 

@@ -16,8 +16,8 @@ use Rattle.cs_laws.specs.declared.answers.Entry.{Entry}
 use Rattle.cs_laws.specs.Answers.{may_write}
 use Rattle.cs_laws.specs.CapSnaps.{CapSnap, has_writer, is_open, is_writing, makes, writers}
 use Rattle.cs_laws.specs.Context.{differs, first_told, path_context}
-use Rattle.cs_laws.specs.Events.{begun, clock, mode, setup_file}
-use Rattle.cs_laws.specs.History.{context, dirty, live, queued, realms, to_client, writes}
+use Rattle.cs_laws.specs.Events.{begun, clock, setup_file}
+use Rattle.cs_laws.specs.History.{context, dirty, live, mode, queued, realms, to_client, writes}
 use Rattle.cs_laws.specs.Tree.{file_path}
 use Rattle.cs_laws.specs.Image.{Write}
 use Rattle.cs_laws.specs.Journal.{entry}

@@ -1,8 +1,8 @@
 -- Where the flushes are that were sent: on their way to the server, or among the standing records.
-use Rattle.std.proofs.Common.{◌≡◌, refl, sym, subst, ℕ, ◌+◌, true, List, [], ◌∷◌, ◌++◌, length, drop, append_assoc, inl, inr, ◌⊎◌, ⊎_elim}
-use Rattle.std.proofs.lemmas.List.{append-nil}
+use Rattle.std.proofs.Common.{◌≡◌, ◌∙◌, refl, sym, ap, subst, ℕ, ◌+◌, ◌≤◌, Bool, true, false, cond, List, [], ◌∷◌, ◌++◌, length, drop, arith, append_assoc, inl, inr, ◌⊎◌, ⊎_elim}
+use Rattle.std.proofs.lemmas.Bool.{cond_both}
+use Rattle.std.proofs.lemmas.List.{append-nil, length-append}
 use Rattle.cs_bits.specs.declared.Caps.{Caps}
-use Rattle.cs_ids.specs.declared.objects.FileMeta.{FileMeta}
 use Rattle.cs_laws.specs.declared.events.Event.{Event}
 use Rattle.cs_laws.specs.declared.events.Event.TheVariants as e
 use Rattle.cs_laws.specs.declared.answers.Answer.{Answer}
@@ -12,9 +12,8 @@ use Rattle.cs_laws.specs.declared.messages.Message.TheVariants as messages
 use Rattle.cs_laws.specs.declared.records.Record.{Record}
 use Rattle.cs_laws.specs.declared.records.RecordBody.{RecordBody}
 use Rattle.cs_laws.specs.declared.records.RecordBody.TheVariants as bodies
-use Rattle.cs_laws.specs.Image.{Write}
-use Rattle.cs_laws.specs.Flushes.{Flush, flush_message, flush_record, flush_snap, first_mode}
-use Rattle.cs_laws.specs.History.{client, to_server, durable, fresh, stand, writes, queued, sent}
+use Rattle.cs_laws.specs.Flushes.{Flush, flush_message, flush_record}
+use Rattle.cs_laws.specs.History.{client, to_server, durable, fresh, present, sent, snap, stand}
 use Rattle.cs_laws.specs.Journal.{entry, history, journal}
 use Rattle.cs_laws.specs.Standing.{recorded, recorded_of, greatest_number}
 use Rattle.cs_theorems.specs.Flushes.{IsMessageSent, IsRecordSent}
@@ -22,14 +21,14 @@ use Rattle.cs_theorems.specs.Runs.{IsRun}
 use Rattle.cs_theorems.proofs.Listed.{Member, Each, each_nil, each_end, each_tail, member_left, member_right}
 use Rattle.cs_theorems.proofs.Rising.{at_first}
 use Rattle.cs_theorems.proofs.Runs.{of_run}
-use Rattle.cs_theorems.proofs.Inversions.{CheckIs, check_unknown, check_nothing, check_hold, check_ack, check_is, FlushSnapsIs, flush_unknown, flush_none, flush_writing, flush_sent, flush_snaps_is, ReceivedIs, received_idle, received_ack, received_flush, received_is, SnapIs, snap_unknown, snap_exists, snap_taken, snap_is, RemoveIs, remove_none, remove_gone, removed, remove_is}
+use Rattle.cs_theorems.proofs.Inversions.{FlushIs, head_unknown, head_snap, head_clean, head_sent, flush_is, CheckIs, check_unknown, check_nothing, check_hold, check_ack, check_is, FlushSnapsIs, flush_unknown, flush_none, flush_writing, flush_sent, flush_snaps_is, ReceivedIs, received_idle, received_ack, received_flush, received_is, SnapIs, snap_unknown, snap_exists, snap_taken, snap_is, RemoveIs, remove_none, remove_gone, removed, remove_is}
 
 -- the flush is on its way to the server, or its record stands
 abbrev pub Place : Flush → List Message → List Record → Type 0
 Place x q rs = Member (flush_message x) q ⊎ Member (flush_record x) rs
 
 pub record Places (xs : List Flush) (q : List Message) (rs : List Record) : Type 0 where
-  pub snap : Each (λ x. x.snap ≡ true) xs
+  pub drawn : Each (λ x. x.tid ≤ length xs) xs
   pub sent : Each (λ x. Place x q rs) xs
   pub standing : Each (λ r. IsRecordSent xs r.body) rs
   pub flying : Each (λ m. IsMessageSent xs m) q
@@ -43,8 +42,24 @@ record_stays xs x (bodies.Snap number d name) there = tt
 record_stays xs x (bodies.Removal t number) there = tt
 
 message_stays : (xs : List Flush) (x : Flush) (m : Message) → IsMessageSent xs m → IsMessageSent (xs ++ x ∷ []) m
+message_stays xs x (messages.Flush f tid follows meta) there = member_left _ xs (x ∷ []) there
 message_stays xs x (messages.FlushSnap f tid follows meta) there = member_left _ xs (x ∷ []) there
 message_stays xs x _ there = tt
+
+-- the message of a flush that was sent is one
+message_sent : (xs : List Flush) (x : Flush) → Member x xs → IsMessageSent xs (flush_message x)
+message_sent xs x there =
+    cond_both x.snap _ _ (IsMessageSent xs)
+    (λ is. subst (λ b. Member (record x { snap = b }) xs) is there) (λ is. subst (λ b. Member (record x { snap = b }) xs) is there)
+
+-- one that is on its way was sent
+sent_message : (xs : List Flush) (x : Flush) → IsMessageSent xs (flush_message x) → Member x xs
+sent_message xs x there = at x.snap refl there
+  where
+    at : (b : Bool) → x.snap ≡ b → IsMessageSent xs (cond b (messages.FlushSnap x.file x.tid x.follows x.meta) (messages.Flush x.file x.tid x.follows x.meta))
+        → Member x xs
+    at true is was = subst (λ b. Member (record x { snap = b }) xs) (sym is) was
+    at false is was = subst (λ b. Member (record x { snap = b }) xs) (sym is) was
 
 later_place : (x : Flush) (q p : List Message) (rs : List Record) → Place x q rs → Place x (q ++ p) rs
 later_place x q p rs place = ⊎_elim (λ flies. inl (member_left (flush_message x) q p flies)) (λ stands. inr stands) place
@@ -52,60 +67,70 @@ later_place x q p rs place = ⊎_elim (λ flies. inl (member_left (flush_message
 -- a message that is no flush is sent
 places_message : (xs : List Flush) (q : List Message) (rs : List Record) (m : Message) → IsMessageSent xs m → Places xs q rs → Places xs (q ++ m ∷ []) rs
 places_message xs q rs m new i = record {
-  snap = i.snap;
+  drawn = i.drawn;
   sent = λ x there. later_place x q (m ∷ []) rs (i.sent x there);
   standing = i.standing;
   flying = each_end (λ k. IsMessageSent xs k) q m i.flying new;
 }
 
--- a flush of a cap snap is sent
-places_sent : (xs : List Flush) (q : List Message) (rs : List Record) (f tid follows mode : ℕ) (ws : List Write) → Places xs q rs
-    → Places (xs ++ flush_snap f tid follows mode ws ∷ []) (q ++ flush_message (flush_snap f tid follows mode ws) ∷ []) rs
-places_sent xs q rs f tid follows mode ws i =
-    let x : Flush = flush_snap f tid follows mode ws in
-    record {
-      snap = each_end (λ y. y.snap ≡ true) xs x i.snap refl;
-      sent = each_end (λ y. Place y (q ++ flush_message x ∷ []) rs) xs x (λ y there. later_place y q (flush_message x ∷ []) rs (i.sent y there))
-          (inl (member_end q (flush_message x)));
-      standing = λ r there. record_stays xs x r.body (i.standing r there);
-      flying = each_end (λ m. IsMessageSent (xs ++ x ∷ []) m) q (flush_message x) (λ m there. message_stays xs x m (i.flying m there)) (member_end xs x);
-    }
+-- a flush is sent, under the next number
+places_sent : (xs : List Flush) (q : List Message) (rs : List Record) (x : Flush) → x.tid ≡ length xs + 1 → Places xs q rs
+    → Places (xs ++ x ∷ []) (q ++ flush_message x ∷ []) rs
+places_sent xs q rs x next i = record {
+  drawn = each_end (λ y. y.tid ≤ length (xs ++ x ∷ [])) xs x (λ y there. omega (arith, i.drawn y there, length-append xs (x ∷ [])))
+      (omega (arith, next, length-append xs (x ∷ [])));
+  sent = each_end (λ y. Place y (q ++ flush_message x ∷ []) rs) xs x (λ y there. later_place y q (flush_message x ∷ []) rs (i.sent y there))
+      (inl (member_end q (flush_message x)));
+  standing = λ r there. record_stays xs x r.body (i.standing r there);
+  flying = each_end (λ m. IsMessageSent (xs ++ x ∷ []) m) q (flush_message x) (λ m there. message_stays xs x m (i.flying m there))
+      (message_sent (xs ++ x ∷ []) x (member_end xs x));
+}
 
--- an acknowledgement of capabilities is taken
+-- an acknowledgement of capabilities is no flush
+no_ack : (x : Flush) (f seq : ℕ) (bits : Caps) → messages.CapAck f seq bits ≡ flush_message x → ⊥
+no_ack x f seq bits = cond_both x.snap _ _ (λ m. messages.CapAck f seq bits ≡ m → ⊥) (λ _ is. cc) (λ _ is. cc)
+
+-- it is taken
 place_passed : (x : Flush) (f seq : ℕ) (bits : Caps) (q : List Message) (rs : List Record) → Place x (messages.CapAck f seq bits ∷ q) rs → Place x q rs
-place_passed x f seq bits q rs (inl (inl is)) = cc
+place_passed x f seq bits q rs (inl (inl is)) = absurd (no_ack x f seq bits is)
 place_passed x f seq bits q rs (inl (inr flies)) = inl flies
 place_passed x f seq bits q rs (inr stands) = inr stands
 
 places_passed : (xs : List Flush) (f seq : ℕ) (bits : Caps) (q : List Message) (rs : List Record) → Places xs (messages.CapAck f seq bits ∷ q) rs
     → Places xs q rs
 places_passed xs f seq bits q rs i = record {
-  snap = i.snap;
+  drawn = i.drawn;
   sent = λ x there. place_passed x f seq bits q rs (i.sent x there);
   standing = i.standing;
   flying = each_tail (λ m. IsMessageSent xs m) (messages.CapAck f seq bits) q i.flying;
 }
 
 -- a flush is taken, and its record stands
-place_own : (x : Flush) (m : Message) (rs : List Record) → x.snap ≡ true → m ≡ flush_message x → Member (flush_record x) (rs ++ recorded_of m)
-place_own x m rs snap is =
-    let here : Record = record { body = bodies.Flush true x.file x.tid x.follows x.meta } in
-    subst (λ k. Member (flush_record x) (rs ++ recorded_of k)) (sym is)
-    (subst (λ b. Member (record { body = bodies.Flush b x.file x.tid x.follows x.meta }) (rs ++ here ∷ [])) (sym snap) (member_end rs here))
+-- its record is the flush's
+pub recorded_one : (x : Flush) → recorded_of (flush_message x) ≡ flush_record x ∷ []
+recorded_one x =
+    cond_both x.snap _ _ (λ m. recorded_of m ≡ flush_record x ∷ [])
+    (λ is. ap (λ b. record { body = bodies.Flush b x.file x.tid x.follows x.meta } ∷ []) (sym is))
+    (λ is. ap (λ b. record { body = bodies.Flush b x.file x.tid x.follows x.meta } ∷ []) (sym is))
 
-place_recorded : (x : Flush) (m : Message) (q : List Message) (rs : List Record) → x.snap ≡ true → Place x (m ∷ q) rs → Place x q (rs ++ recorded_of m)
-place_recorded x m q rs snap (inl (inl is)) = inr (place_own x m rs snap is)
-place_recorded x m q rs snap (inl (inr flies)) = inl flies
-place_recorded x m q rs snap (inr stands) = inr (member_left (flush_record x) rs (recorded_of m) stands)
+place_own : (x : Flush) (m : Message) (rs : List Record) → m ≡ flush_message x → Member (flush_record x) (rs ++ recorded_of m)
+place_own x m rs is =
+    subst (λ ss. Member (flush_record x) (rs ++ ss)) (sym (ap recorded_of is ∙ recorded_one x)) (member_end rs (flush_record x))
 
-places_recorded : (xs : List Flush) (f tid follows : ℕ) (meta : FileMeta) (q : List Message) (rs : List Record)
-    → Places xs (messages.FlushSnap f tid follows meta ∷ q) rs → Places xs q (rs ++ recorded_of (messages.FlushSnap f tid follows meta))
-places_recorded xs f tid follows meta q rs i =
-    let m : Message = messages.FlushSnap f tid follows meta in
+place_recorded : (x : Flush) (m : Message) (q : List Message) (rs : List Record) → Place x (m ∷ q) rs → Place x q (rs ++ recorded_of m)
+place_recorded x m q rs (inl (inl is)) = inr (place_own x m rs is)
+place_recorded x m q rs (inl (inr flies)) = inl flies
+place_recorded x m q rs (inr stands) = inr (member_left (flush_record x) rs (recorded_of m) stands)
+
+places_recorded : (xs : List Flush) (x : Flush) (q : List Message) (rs : List Record) → Places xs (flush_message x ∷ q) rs
+    → Places xs q (rs ++ recorded_of (flush_message x))
+places_recorded xs x q rs i =
+    let m : Message = flush_message x in
     record {
-      snap = i.snap;
-      sent = λ x there. place_recorded x m q rs (i.snap x there) (i.sent x there);
-      standing = each_end (λ r. IsRecordSent xs r.body) rs (record { body = bodies.Flush true f tid follows meta }) i.standing (i.flying m (inl refl));
+      drawn = i.drawn;
+      sent = λ y there. place_recorded y m q rs (i.sent y there);
+      standing = subst (λ ss. Each (λ r. IsRecordSent xs r.body) (rs ++ ss)) (sym (recorded_one x))
+          (each_end (λ r. IsRecordSent xs r.body) rs (flush_record x) i.standing (sent_message xs x (i.flying m (inl refl))));
       flying = each_tail (λ k. IsMessageSent xs k) m q i.flying;
     }
 
@@ -115,7 +140,7 @@ places_snap : (xs : List Flush) (q : List Message) (rs : List Record) (number d 
 places_snap xs q rs number d name i =
     let r : Record = record { body = bodies.Snap number d name } in
     record {
-      snap = i.snap;
+      drawn = i.drawn;
       sent = λ x there. ⊎_elim (λ flies. inl flies) (λ stands. inr (member_left (flush_record x) rs (r ∷ []) stands)) (i.sent x there);
       standing = each_end (λ k. IsRecordSent xs k.body) rs r i.standing tt;
       flying = i.flying;
@@ -127,7 +152,7 @@ places_removal : (xs : List Flush) (q : List Message) (rs : List Record) (t numb
 places_removal xs q rs t number i =
     let r : Record = record { body = bodies.Removal t number } in
     record {
-      snap = i.snap;
+      drawn = i.drawn;
       sent = λ x there. ⊎_elim (λ flies. inl flies) (λ stands. inr (member_left (flush_record x) rs (r ∷ []) stands)) (i.sent x there);
       standing = each_end (λ k. IsRecordSent xs k.body) rs r i.standing tt;
       flying = i.flying;
@@ -151,7 +176,14 @@ step_flush_snaps h g x flush_unknown i = i
 step_flush_snaps h g x flush_none i = i
 step_flush_snaps h g x flush_writing i = i
 step_flush_snaps h g x (flush_sent y ys known is closed) i =
-    places_sent (sent h) (to_server h) (stand h) g (length (sent h) + 1) y.follows (first_mode (queued h g)) (writes h g) i
+    places_sent (sent h) (to_server h) (stand h) (snap h g (length (sent h) + 1) y.follows) refl i
+
+step_flush : (h : List Entry) (g : ℕ) (x : Answer) → FlushIs h g x → AllPlaced h → AllPlaced (record { event = e.Flush g; answer = x } ∷ h)
+step_flush h g x head_unknown i = i
+step_flush h g x head_snap i = i
+step_flush h g x head_clean i = i
+step_flush h g x (head_sent known free changed) i =
+    places_sent (sent h) (to_server h) (stand h) (present h g (length (sent h) + 1)) refl i
 
 -- a message is taken, where these records aren't durable then
 abbrev Taken : List Entry → List Message → List Record → Type 0
@@ -162,12 +194,12 @@ step_to_server h x received_idle i = i
 step_to_server h x (received_ack g seq bits q is) i =
     at_first (λ p. Taken h p (fresh h)) (λ p. Taken h p (fresh h)) (messages.CapAck g seq bits) q (to_server h) is
     (λ j. places_passed (sent h) g seq bits q (stand h) j) i
-step_to_server h x (received_flush g tid follows meta q is) i =
-    let m : Message = messages.FlushSnap g tid follows meta in
+step_to_server h x (received_flush y q is) i =
+    let m : Message = flush_message y in
     let there : Taken h (m ∷ q) (fresh h) = subst (λ p. Taken h p (fresh h)) is i in
     subst (λ p. Taken h (drop 1 p) (fresh h ++ recorded p)) (sym is)
     (subst (λ rs. Places (sent h) q rs) (append_assoc (durable h) (fresh h) (recorded_of m))
-    (places_recorded (sent h) g tid follows meta q (stand h) there))
+    (places_recorded (sent h) y q (stand h) there))
 
 step_snap : (h : List Entry) (d : ℕ) (name : List ℕ) (x : Answer) → SnapIs h d name x → AllPlaced h
     → AllPlaced (record { event = e.Snap d name; answer = x } ∷ h)
@@ -186,6 +218,7 @@ step_remove h t x (removed there stays) i =
 
 pub place_step : (p : ℕ) (h : List Entry) (x : Event) → AllPlaced h → AllPlaced (entry p h x ∷ h)
 place_step p h (e.Check g) i = step_check h g _ (check_is h g) i
+place_step p h (e.Flush g) i = step_flush h g _ (flush_is h g) i
 place_step p h (e.FlushSnaps g) i = step_flush_snaps h g _ (flush_snaps_is h g) i
 place_step p h e.ToMds i = step_to_server h _ (received_is h) i
 place_step p h (e.Snap d name) i = step_snap h d name _ (snap_is h d name) i
@@ -195,7 +228,7 @@ place_step p h _ i = i
 
 pub places_start : AllPlaced []
 places_start = record {
-  snap = each_nil (λ x. x.snap ≡ true);
+  drawn = each_nil (λ x. x.tid ≤ 0);
   sent = each_nil (λ x. Place x [] []);
   standing = each_nil (λ r. IsRecordSent [] r.body);
   flying = each_nil (λ m. IsMessageSent [] m);

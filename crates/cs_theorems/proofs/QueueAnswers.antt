@@ -17,7 +17,6 @@ use Rattle.cs_laws.specs.declared.messages.Message.TheVariants as messages
 use Rattle.cs_laws.specs.Answers.{answer_flush_snaps_of}
 use Rattle.cs_laws.specs.CapSnaps.{CapSnap, has_writer, is_open, is_writing, makes, writers}
 use Rattle.cs_laws.specs.Context.{differs}
-use Rattle.cs_laws.specs.Events.{mode}
 use Rattle.cs_laws.specs.Flushes.{first_mode, flush_message, flush_snap, meta_upto}
 use Rattle.cs_laws.specs.History.{context, dirty, live, queued, sent, writes}
 use Rattle.cs_laws.specs.Image.{Write}
@@ -55,11 +54,6 @@ pub writing_has_writer : (p : ℕ) (h : List Entry) → IsRun p h → (f : ℕ) 
 writing_has_writer p h run f writing =
     let some = any_some (is_open (live h)) (queued h f) (sym (queue_writing p h run f) ∙ writing) in
     open_has_writer p h run f some.0 some.1 some.2
-
--- a cap snap is queued with the mode of every file
-pub mode_is : (h : List Entry) (f : ℕ) → mode h f ≡ 420
-mode_is [] f = refl
-mode_is (x ∷ h) f = mode_is h f
 
 -- Writers are told by their count
 

@@ -19,18 +19,19 @@ use Rattle.cs_laws.specs.Answers.{may_write}
 use Rattle.cs_laws.specs.CapSnaps.{CapSnap, has_writer, is_open, makes, writers}
 use Rattle.cs_laws.specs.Context.{first_told, path_context}
 use Rattle.cs_laws.specs.Tree.{file_path}
-use Rattle.cs_laws.specs.Events.{clock, mode}
-use Rattle.cs_laws.specs.History.{context, dirty, live, queued, realms, sent, to_client, writes}
+use Rattle.cs_laws.specs.Events.{clock}
+use Rattle.cs_laws.specs.Flushes.{Flush, written_meta}
+use Rattle.cs_laws.specs.History.{context, dirty, live, mode, present, queued, realms, sent, to_client, writes}
 use Rattle.cs_laws.specs.Image.{Write, size, mtime}
 use Rattle.cs_laws.specs.Journal.{entry}
 use Rattle.cs_laws.specs.References.{can_end, named, without_named}
 use Rattle.cs_laws.specs.Writes.{with_write}
 use Rattle.cs_theorems.specs.Order.{HasOlder}
-use Rattle.cs_theorems.specs.Queues.{snaps, with_ended, written_meta}
+use Rattle.cs_theorems.specs.Queues.{snaps, with_ended}
 use Rattle.cs_theorems.specs.Runs.{IsRun}
 use Rattle.cs_theorems.proofs.Begun.{member_without_named}
 use Rattle.cs_theorems.proofs.Course.{Course, course_run, course_step}
-use Rattle.cs_theorems.proofs.Inversions.{BeginIs, begin_unknown, begin_caps, begin_snap, begin_max, begin_full, begun_ref, begin_is, EndIs, end_unknown, ended, end_is, WriteIs, write_unknown, write_no_bit, write_past, wrote, write_is, FlushSnapsIs, flush_unknown, flush_none, flush_writing, flush_sent, flush_snaps_is, FirstIs, first_idle, first_cap, first_flush_ack, first_snap, first_is}
+use Rattle.cs_theorems.proofs.Inversions.{BeginIs, begin_unknown, begin_caps, begin_snap, begin_max, begin_full, begun_ref, begin_is, EndIs, end_unknown, ended, end_is, WriteIs, write_unknown, write_no_bit, write_past, wrote, write_is, FlushIs, head_unknown, head_snap, head_clean, head_sent, flush_is, FlushSnapsIs, flush_unknown, flush_none, flush_writing, flush_sent, flush_snaps_is, FirstIs, first_idle, first_cap, first_flush_ack, first_snap, first_is}
 use Rattle.cs_theorems.proofs.Listed.{Member, Each, each_end, member_left}
 use Rattle.cs_theorems.proofs.Opens.{Names, Opens, older_opens, open_has, opens_made}
 use Rattle.cs_theorems.proofs.Order.{InOrder, Ordered, made_free}
@@ -273,11 +274,20 @@ step_flush_snaps h g x (flush_sent q qs known there closed) i = λ f.
     (length-append (sent h) (_ ∷ []))
     (λ same. subst (λ k. queued h k ≡ q ∷ qs) (eqb-true g f same) there) closed (i f)
 
+step_flush : (h : List Entry) (g : ℕ) (x : Answer) → FlushIs h g x → AllQueue h → AllQueue (record { event = e.Flush g; answer = x } ∷ h)
+step_flush h g x head_unknown i = i
+step_flush h g x head_snap i = i
+step_flush h g x head_clean i = i
+step_flush h g x (head_sent known free changed) i = λ f.
+    let y : Flush = present h g (length (sent h) + 1) in
+    queue_more (length (sent h)) (length (sent h ++ y ∷ [])) (live h) (writes h f) (queued h f) (snaps h f) (omega (arith, length-append (sent h) (y ∷ []))) (i f)
+
 queue_step : (p : ℕ) (h : List Entry) (x : Event) → Ordered h → Ordered (entry p h x ∷ h) → AllQueue h → AllQueue (entry p h x ∷ h)
 queue_step p h (e.Begin c f bits end) before now i = step_begin h c f bits end _ (begin_is h c f bits end) before now i
 queue_step p h (e.End c name) before now i = step_end h c name _ (end_is h c name) before now i
 queue_step p h (e.Write c name off bytes) before now i = step_write h c name off bytes _ (write_is h c name off bytes) before i
 queue_step p h e.ToClient before now i = step_client h _ (first_is h) before i
+queue_step p h (e.Flush f) before now i = step_flush h f _ (flush_is h f) i
 queue_step p h (e.FlushSnaps f) before now i = step_flush_snaps h f _ (flush_snaps_is h f) i
 queue_step p h _ before now i = i
 

@@ -11,9 +11,8 @@ use Rattle.cs_capsnap.specs.Order.{IsInOrder}
 use Rattle.cs_capsnap.proofs.Kept.{order_push, order_finished, order_sent, order_left}
 use Rattle.cs_capsnap.proofs.Changes.{greatest_push, greatest_finished, greatest_sent, greatest_left}
 use Rattle.cs_laws.specs.CapSnaps.{CapSnap, is_open, is_writing}
-use Rattle.cs_laws.specs.Flushes.{meta_upto}
+use Rattle.cs_laws.specs.Flushes.{meta_upto, written_meta}
 use Rattle.cs_laws.specs.Image.{Write, size, mtime, upto}
-use Rattle.cs_theorems.specs.Queues.{written_meta}
 use Rattle.cs_theorems.proofs.Listed.{Each, each_tail}
 use Rattle.cs_theorems.proofs.Unsent.{unsent, unsent_push, unsent_finished, unsent_sent, unsent_left, unsent_writing, unsent_first}
 
@@ -195,7 +194,7 @@ queue_sent n rs ws q qs now xs there closed i = record {
   tids = omega (arith, greatest_sent xs (n + 1), i.tids);
 }
 
--- another file's is sent
+-- another flush is sent
 pub queue_more : (n k : ℕ) (rs : List Live) (ws : List Write) (qs : List CapSnap) (xs : List Snap) → n ≤ k → Queue n rs ws qs xs → Queue k rs ws qs xs
 queue_more n k rs ws qs xs up i = record { seen = i.seen; order = i.order; tids = omega (arith, up, i.tids) }
 

@@ -1,5 +1,7 @@
--- The flushes that the server recorded are those that stand.
-use Rattle.std.proofs.Common.{◌≡◌, ◌∙◌, refl, sym, ap, ℕ, true, false, List, [], ◌∷◌, ◌++◌, append_assoc}
+-- The server's table of a file's flushes has what the standing records tell of them.
+use Rattle.std.proofs.Common.{◌≡◌, refl, sym, ap, ◌∙◌, subst, ℕ, ◌<◌, Bool, true, false, cond, ◌==◌, List, [], ◌∷◌, ◌++◌, Option, Some, None, append_assoc, unwrap_or, ◌&&◌, inl, inr, length, arith}
+use Rattle.std.specs.Option.{option_map}
+use Rattle.std.proofs.lemmas.Bool.{cond_both, eq-eqb, eqb-true}
 use Rattle.std.proofs.lemmas.List.{append-nil}
 use Rattle.cs_ids.specs.declared.objects.FileMeta.{FileMeta}
 use Rattle.cs_laws.specs.declared.events.Event.{Event}
@@ -9,48 +11,162 @@ use Rattle.cs_laws.specs.declared.answers.Answer.TheVariants as a
 use Rattle.cs_laws.specs.declared.answers.Entry.{Entry}
 use Rattle.cs_laws.specs.declared.messages.Message.{Message}
 use Rattle.cs_laws.specs.declared.messages.Message.TheVariants as messages
+use Rattle.cs_laws.specs.declared.objects.At.{At}
 use Rattle.cs_laws.specs.declared.records.Record.{Record}
 use Rattle.cs_laws.specs.declared.records.RecordBody.TheVariants as bodies
 use Rattle.cs_laws.specs.Events.{setup_file}
-use Rattle.cs_laws.specs.History.{to_server, durable, fresh, stand}
-use Rattle.cs_laws.specs.Standing.{durable_then, fresh_then, recorded}
-use Rattle.cs_theorems.specs.Recorded.{first_flush, told, told_then}
-use Rattle.cs_theorems.specs.Told.{told_in}
+use Rattle.cs_laws.specs.Flushes.{Flush, flush_message, flush_record}
+use Rattle.cs_laws.specs.History.{durable, fresh, sent, stand, to_server}
+use Rattle.cs_laws.specs.Journal.{entry}
+use Rattle.cs_laws.specs.Metadata.{last_flush, later_of, meta_at, meta_of, no_meta}
+use Rattle.cs_laws.specs.Shown.{is_before}
+use Rattle.cs_laws.specs.Standing.{recorded, recorded_of}
+use Rattle.cs_theorems.specs.Flushes.{tids}
+use Rattle.cs_theorems.specs.Recorded.{AreRising, told, told_then, with_first, with_message, with_told}
 use Rattle.cs_theorems.specs.Runs.{IsRun}
-use Rattle.cs_theorems.specs.Underway.{IsKnown}
-use Rattle.cs_theorems.proofs.Follows.{no_records}
-use Rattle.cs_theorems.proofs.Listed.{each_append}
-use Rattle.cs_theorems.proofs.Told.{told_end}
-use Rattle.cs_theorems.proofs.Underway.{ForLog, all_fly}
+use Rattle.cs_theorems.specs.Told.{last_told}
+use Rattle.cs_theorems.proofs.Chains.{flight, flight_tid, run_rise}
+use Rattle.cs_theorems.proofs.Inversions.{ReceivedIs, received_idle, received_ack, received_flush, received_is, RemoveIs, remove_none, remove_gone, removed, remove_is, SnapIs, snap_unknown, snap_exists, snap_taken, snap_is}
+use Rattle.cs_theorems.proofs.Listed.{Each, member_right}
+use Rattle.cs_theorems.proofs.Rising.{RisesTo, rises_member}
+use Rattle.cs_theorems.proofs.Runs.{of_run}
+use Rattle.cs_theorems.proofs.Told.{IsBeside, Rises, are_rising, last_before_is, last_beside, last_end, last_pair, last_with, newer, pair_newer, pair_of, rises_with}
+use Rattle.cs_theorems.proofs.Untouched.{untouched}
 
-told_recorded : (f : ℕ) (q : List Message) (rs : List Record) → told_in f rs ++ first_flush f q ≡ told_in f (rs ++ recorded q)
-told_recorded f [] rs = append-nil (told_in f rs) ∙ ap (λ xs. told_in f xs) (sym (append-nil rs))
-told_recorded f (messages.FlushSnap g tid follows meta ∷ q) rs = sym (told_end f rs (record { body = bodies.Flush true g tid follows meta }))
-told_recorded f (messages.Cap g seq bits end ∷ q) rs = append-nil (told_in f rs) ∙ ap (λ xs. told_in f xs) (sym (append-nil rs))
-told_recorded f (messages.FlushAck g tid ∷ q) rs = append-nil (told_in f rs) ∙ ap (λ xs. told_in f xs) (sym (append-nil rs))
-told_recorded f (messages.Snap number d realms ∷ q) rs = append-nil (told_in f rs) ∙ ap (λ xs. told_in f xs) (sym (append-nil rs))
-told_recorded f (messages.CapAck g seq bits ∷ q) rs = append-nil (told_in f rs) ∙ ap (λ xs. told_in f xs) (sym (append-nil rs))
+-- The numbers rise
 
-step : (x : Event) (y : Answer) (f : ℕ) (q : List Message) (ds fs : List Record) (xs : List (ℕ × FileMeta)) → xs ≡ told_in f (ds ++ fs)
-    → told_then x y f q xs ≡ told_in f (durable_then x y fs ds ++ fresh_then x y q fs)
-step e.ToMds (a.Flushed g tid) f q ds fs xs is =
-    ap (λ ys. ys ++ first_flush f q) is ∙ (told_recorded f q (ds ++ fs) ∙ ap (λ rs. told_in f rs) (append_assoc ds fs (recorded q)))
-step (e.Snap d name) (a.Snap number) f q ds fs xs is =
-    let r : Record = record { body = bodies.Snap number d name } in
-    is ∙ (sym (append-nil (told_in f (ds ++ fs))) ∙ (sym (told_end f (ds ++ fs) r) ∙ ap (λ rs. told_in f rs) (append_assoc ds fs (r ∷ []))))
-step (e.RemoveSnap t) (a.Removed u number) f q ds fs xs is =
-    let r : Record = record { body = bodies.Removal t number } in
-    is ∙ (sym (append-nil (told_in f (ds ++ fs))) ∙ (sym (told_end f (ds ++ fs) r) ∙ ap (λ rs. told_in f rs) (append_assoc ds fs (r ∷ []))))
-step e.Commit (a.Commit count) f q ds fs xs is = is ∙ ap (λ rs. told_in f rs) (sym (append-nil (ds ++ fs)))
-step _ _ f q ds fs xs is = is
+rises_message : (f : ℕ) (m : Message) (xs : List (ℕ × FileMeta)) → Rises 0 xs → Rises 0 (with_message f m xs)
+rises_message f (messages.Flush g tid follows meta) xs up =
+    cond_both (g == f) (with_told (follows, meta) xs) xs (Rises 0) (λ _. rises_with 0 (follows, meta) xs (omega arith) up) (λ _. up)
+rises_message f (messages.FlushSnap g tid follows meta) xs up =
+    cond_both (g == f) (with_told (follows, meta) xs) xs (Rises 0) (λ _. rises_with 0 (follows, meta) xs (omega arith) up) (λ _. up)
+rises_message f (messages.Cap g seq bits end) xs up = up
+rises_message f (messages.CapAck g seq bits) xs up = up
+rises_message f (messages.FlushAck g tid) xs up = up
+rises_message f (messages.Snap number d realms) xs up = up
 
-pub told_stands : (h : List Entry) (f : ℕ) → told h f ≡ told_in f (stand h)
-told_stands [] f = refl
-told_stands (x ∷ h) f = step x.event x.answer f (to_server h) (durable h) (fresh h) (told h f) (told_stands h f)
+rises_first : (f : ℕ) (q : List Message) (xs : List (ℕ × FileMeta)) → Rises 0 xs → Rises 0 (with_first f q xs)
+rises_first f [] xs up = up
+rises_first f (m ∷ q) xs up = rises_message f m xs up
 
--- A file that isn't known has none
+rises_then : (x : Event) (y : Answer) (f : ℕ) (q : List Message) (xs : List (ℕ × FileMeta)) → Rises 0 xs → Rises 0 (told_then x y f q xs)
+rises_then e.ToMds (a.Flushed g tid) f q xs up = rises_first f q xs up
+rises_then _ _ f q xs up = up
 
+rises : (h : List Entry) (f : ℕ) → Rises 0 (told h f)
+rises [] f = tt
+rises (x ∷ h) f = rises_then x.event x.answer f (to_server h) (told h f) (rises h f)
+
+pub told_rises : (h : List Entry) (f : ℕ) → AreRising (told h f)
+told_rises h f = are_rising 0 (told h f) (rises h f)
+
+-- A flush that is delivered
+
+pub recorded_own : (x : Flush) → recorded_of (flush_message x) ≡ flush_record x ∷ []
+recorded_own x = at x.snap
+  where
+    at : (b : Bool) → recorded_of (cond b (messages.FlushSnap x.file x.tid x.follows x.meta) (messages.Flush x.file x.tid x.follows x.meta))
+        ≡ record { body = bodies.Flush b x.file x.tid x.follows x.meta } ∷ []
+    at true = refl
+    at false = refl
+
+pub told_own : (f : ℕ) (x : Flush) (xs : List (ℕ × FileMeta)) → with_message f (flush_message x) xs ≡ cond (x.file == f) (with_told (x.follows, x.meta) xs) xs
+told_own f x xs = at x.snap
+  where
+    at : (b : Bool) → with_message f (cond b (messages.FlushSnap x.file x.tid x.follows x.meta) (messages.Flush x.file x.tid x.follows x.meta)) xs
+        ≡ cond (x.file == f) (with_told (x.follows, x.meta) xs) xs
+    at true = refl
+    at false = refl
+
+flies : (f : ℕ) (x : Flush) → flight_tid f (flush_message x) ≡ cond (x.file == f) (x.tid ∷ []) []
+flies f x = at x.snap
+  where
+    at : (b : Bool) → flight_tid f (cond b (messages.FlushSnap x.file x.tid x.follows x.meta) (messages.Flush x.file x.tid x.follows x.meta))
+        ≡ cond (x.file == f) (x.tid ∷ []) []
+    at true = refl
+    at false = refl
+
+rises_before : (s t n : ℕ) (xs ys : List ℕ) → RisesTo s (xs ++ n ∷ ys) t → Each (λ m. m < n) xs
+rises_before s t n [] ys up m there = absurd there
+rises_before s t n (x ∷ xs) ys up m (inl is) =
+    omega (arith, is, (rises_member x t n (xs ++ n ∷ ys) up.1 (member_right n xs (n ∷ ys) (inl refl))).0)
+rises_before s t n (x ∷ xs) ys up m (inr there) = rises_before x t n xs ys up.1 m there
+
+-- it was sent behind all that stand of its file
+sent_behind : (h : List Entry) (f : ℕ) (x : Flush) (q : List Message) → to_server h ≡ flush_message x ∷ q → x.file ≡ f
+    → RisesTo 0 (tids f (stand h) ++ flight f (to_server h)) (length (sent h)) → Each (λ t. t < x.tid) (tids f (stand h))
+sent_behind h f x q there own up =
+    rises_before 0 (length (sent h)) x.tid (tids f (stand h)) (flight f q)
+    (subst (λ ns. RisesTo 0 (tids f (stand h) ++ ns) (length (sent h))) now up)
+  where
+    now : flight f (to_server h) ≡ x.tid ∷ flight f q
+    now = ap (flight f) there ∙ (ap (λ ns. ns ++ flight f q) (flies f x) ∙ ap (λ b. cond b (x.tid ∷ []) [] ++ flight f q) (eq-eqb x.file f own))
+
+-- The table beside the records
+
+abbrev pub Agrees : ℕ → List (ℕ × FileMeta) → List Record → Type 0
+Agrees f xs rs = (at : At) → last_pair at xs ≡ pair_of (last_flush f at rs)
+
+abbrev AllAgree : List Entry → Type 0
+AllAgree h = (f : ℕ) → Agrees f (told h f) (stand h)
+
+agrees_end : (f : ℕ) (xs : List (ℕ × FileMeta)) (rs : List Record) (x : Flush) → (b : Bool) → (x.file == f) ≡ b → Rises 0 xs
+    → (b ≡ true → Each (λ t. t < x.tid) (tids f rs)) → Agrees f xs rs
+    → Agrees f (cond b (with_told (x.follows, x.meta) xs) xs) (rs ++ flush_record x ∷ [])
+agrees_end f xs rs x true own up low i at =
+    last_with at 0 (x.follows, x.meta) xs up
+    ∙ (ap (λ o. cond (is_before at x.follows) (newer (x.follows, x.meta) o) o) (i at)
+    ∙ (sym (pair_newer (is_before at x.follows) x (last_flush f at rs)) ∙ ap pair_of (sym (last_end f at rs x (eqb-true x.file f own) (low refl)))))
+agrees_end f xs rs x false other up low i at =
+    i at ∙ ap pair_of (sym (last_beside f at rs (flush_record x) (λ o. ap (λ b. cond (b && is_before at x.follows) (later_of x o) o) other)))
+
+-- a record of no flush
+agrees_beside : (f : ℕ) (xs : List (ℕ × FileMeta)) (ds fs : List Record) (r : Record) → ((at : At) → IsBeside f at r) → Agrees f xs (ds ++ fs)
+    → Agrees f xs (ds ++ (fs ++ r ∷ []))
+agrees_beside f xs ds fs r other i at =
+    i at ∙ ap pair_of (sym (ap (last_flush f at) (sym (append_assoc ds fs (r ∷ []))) ∙ last_beside f at (ds ++ fs) r (other at)))
+
+step_server : (p : ℕ) (h : List Entry) (x : Answer) → IsRun p h → ReceivedIs h x → AllAgree h → AllAgree (record { event = e.ToMds; answer = x } ∷ h)
+step_server p h x run received_idle i = i
+step_server p h x run (received_ack g seq bits q there) i = i
+step_server p h x run (received_flush y q there) i = λ f.
+    subst (λ ms. Agrees f (with_first f ms (told h f)) (durable h ++ (fresh h ++ recorded ms))) (sym there)
+    (subst (λ rs. Agrees f (with_message f (flush_message y) (told h f)) (durable h ++ (fresh h ++ rs))) (sym (recorded_own y))
+    (subst (λ xs. Agrees f xs (durable h ++ (fresh h ++ flush_record y ∷ []))) (sym (told_own f y (told h f)))
+    (subst (λ rs. Agrees f (cond (y.file == f) (with_told (y.follows, y.meta) (told h f)) (told h f)) rs) (append_assoc (durable h) (fresh h) (flush_record y ∷ []))
+    (agrees_end f (told h f) (stand h) y (y.file == f) refl (rises h f)
+    (λ own. sent_behind h f y q there (eqb-true y.file f own) (run_rise p h run f).rises) (i f)))))
+
+step_snap : (h : List Entry) (d : ℕ) (name : List ℕ) (x : Answer) → SnapIs h d name x → AllAgree h → AllAgree (record { event = e.Snap d name; answer = x } ∷ h)
+step_snap h d name x snap_unknown i = i
+step_snap h d name x snap_exists i = i
+step_snap h d name x (snap_taken directory free) i = λ f. agrees_beside f (told h f) (durable h) (fresh h) _ (λ at o. refl) (i f)
+
+step_remove : (h : List Entry) (t : ℕ) (x : Answer) → RemoveIs h t x → AllAgree h → AllAgree (record { event = e.RemoveSnap t; answer = x } ∷ h)
+step_remove h t x remove_none i = i
+step_remove h t x remove_gone i = i
+step_remove h t x (removed there stays) i = λ f. agrees_beside f (told h f) (durable h) (fresh h) _ (λ at o. refl) (i f)
+
+agree_step : (p : ℕ) (h : List Entry) (x : Event) → IsRun p h → AllAgree h → AllAgree (entry p h x ∷ h)
+agree_step p h e.ToMds run i = step_server p h _ run (received_is h) i
+agree_step p h (e.Snap d name) run i = step_snap h d name _ (snap_is h d name) i
+agree_step p h (e.RemoveSnap t) run i = step_remove h t _ (remove_is h t) i
+agree_step p h e.Commit run i = λ f. subst (λ rs. Agrees f (told h f) rs) (sym (append-nil (stand h))) (i f)
+agree_step p h _ run i = i
+
+all_agree : (p : ℕ) (h : List Entry) → IsRun p h → AllAgree h
+all_agree p h run = of_run p AllAgree (λ f at. refl) (λ g x fit before i. agree_step p g x before i) h run
+
+found_meta : (o : Option Flush) → meta_of o ≡ unwrap_or (option_map (λ x. x.1) (pair_of o)) no_meta
+found_meta None = refl
+found_meta (Some x) = refl
+
+-- a file's metadata at a state is what the table tells of it
+pub last_told_is : (p : ℕ) (h : List Entry) → IsRun p h → (f : ℕ) (at : At) → last_told at (told h f) ≡ meta_at f at (stand h)
+last_told_is p h run f at =
+    ap (λ o. unwrap_or o no_meta) (last_before_is at (told h f) ∙ ap (λ o. option_map (λ x. x.1) o) (all_agree p h run f at))
+    ∙ sym (found_meta (last_flush f at (stand h)))
+
+-- a file that isn't known has none
 pub told_none : (p : ℕ) (h : List Entry) → IsRun p h → (f : ℕ) → setup_file h f ≡ false → told h f ≡ []
-told_none p h run f unknown =
-    let flies = all_fly p h run in
-    told_stands h f ∙ no_records h f (stand h) unknown (each_append (λ x. ForLog (IsKnown h) x.body) (durable h) (fresh h) flies.durable flies.fresh)
+told_none p h run f unknown = (untouched p h run f unknown).told

@@ -33,6 +33,12 @@ rises_apart s t n [] ys up here there = here
 rises_apart s t n (x ∷ xs) ys up (inl is) there = omega (arith, is, (rises_member x t n (xs ++ ys) up.1 (member_right n xs ys there)).0)
 rises_apart s t n (x ∷ xs) ys up (inr here) there = rises_apart x t n xs ys up.1 here there
 
+-- each number of a front is smaller than each of what is behind it
+pub rises_before : (s t m n : ℕ) (xs ys : List ℕ) → RisesTo s (xs ++ ys) t → Member m xs → Member n ys → m < n
+rises_before s t m n [] ys up here there = absurd here
+rises_before s t m n (x ∷ xs) ys up (inl is) there = omega (arith, is, (rises_member x t n (xs ++ ys) up.1 (member_right n xs ys there)).0)
+rises_before s t m n (x ∷ xs) ys up (inr here) there = rises_before x t m n xs ys up.1 here there
+
 pub rises_front : (s t : ℕ) (xs ys : List ℕ) → RisesTo s (xs ++ ys) t → RisesFrom s xs
 rises_front s t [] ys up = tt
 rises_front s t (x ∷ xs) ys up = (up.0, rises_front x t xs ys up.1)

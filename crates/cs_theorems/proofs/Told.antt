@@ -1,127 +1,249 @@
--- The server's table of a file's standing flushes: in the order of the numbers that they follow, so that the last one of the
--- time before a state has the file's metadata then.
-use Rattle.std.proofs.Common.{◌≡◌, refl, sym, ap, ◌∙◌, subst, ℕ, ◌+◌, ◌<◌, ◌≤◌, Bool, true, false, cond, ◌&&◌, ◌==◌, List, [], ◌∷◌, ◌++◌, Option, Some, None, AllPairs, unwrap_or, append_assoc, inl, arith}
-use Rattle.std.specs.List.{All}
+-- The last flush of a file before a state, and the last entry of the server's table before it, where one flush more is recorded:
+-- what both then are is said in the same way.
+use Rattle.std.proofs.Common.{◌≡◌, refl, sym, ap, ◌∙◌, subst, ℕ, ◌+◌, ◌<◌, ◌≤◌, Bool, true, false, cond, ◌&&◌, ◌==◌, nat_lt, nat_le, List, [], ◌∷◌, ◌++◌, Option, Some, None, inl, ⊎_elim, arith}
 use Rattle.std.specs.Option.{option_map}
-use Rattle.std.proofs.lemmas.Bool.{cond-true, eq-eqb, lt-ltb, or_left}
-use Rattle.std.proofs.lemmas.List.{append-nil, map-append}
+use Rattle.std.specs.List.{All}
+use Rattle.std.specs.Cmp.{both_ways as same_test}
+use Rattle.std.proofs.lemmas.Bool.{and_from, and_parts, both_ways, cond-false, cond-true, eq-eqb, eqb-true, false_from_ne_true, leb-false, leb-true, le-leb, lt-ltb, ltb-false, ltb-true, or_cases, or_left, or_parts, or_right}
 use Rattle.std.proofs.lemmas.List.Elements.{All-cons, All-nil}
 use Rattle.std.proofs.lemmas.List.Kept.{AllPairs-cons}
+use Rattle.std.proofs.Math.Nat.{eq-or-lt_of_le}
 use Rattle.cs_ids.specs.declared.objects.FileMeta.{FileMeta}
-use Rattle.cs_laws.specs.declared.answers.Entry.{Entry}
-use Rattle.cs_laws.specs.declared.messages.Message.{Message}
-use Rattle.cs_laws.specs.declared.messages.Message.TheVariants as messages
 use Rattle.cs_laws.specs.declared.objects.At.{At}
 use Rattle.cs_laws.specs.declared.records.Record.{Record}
 use Rattle.cs_laws.specs.declared.records.RecordBody.{RecordBody}
 use Rattle.cs_laws.specs.declared.records.RecordBody.TheVariants as bodies
-use Rattle.cs_laws.specs.Flushes.{Flush}
-use Rattle.cs_laws.specs.History.{context, queued, stand, to_server}
-use Rattle.cs_laws.specs.Metadata.{flush_in, is_behind, last_flush, later_of, meta_at, meta_of, no_meta, with_flush}
+use Rattle.cs_laws.specs.Flushes.{Flush, flush_record}
+use Rattle.cs_laws.specs.Metadata.{flush_in, is_behind, last_flush, later_of, with_flush}
 use Rattle.cs_laws.specs.Shown.{is_before}
-use Rattle.cs_theorems.specs.Lists.{RisesFrom}
-use Rattle.cs_theorems.specs.Runs.{IsRun}
-use Rattle.cs_theorems.specs.Told.{told_of, told_in, last_of, last_before, last_told}
-use Rattle.cs_theorems.proofs.Follows.{all_follow, flying, next, nexts, waits, told_append}
-use Rattle.cs_theorems.proofs.Listed.{member_right}
-use Rattle.cs_theorems.proofs.Rising.{RisesTo, rises_front, rises_member}
+use Rattle.cs_theorems.specs.Flushes.{tid_of, tids}
+use Rattle.cs_theorems.specs.Recorded.{AreRising, with_told}
+use Rattle.cs_theorems.specs.Told.{last_before, last_of}
+use Rattle.cs_theorems.proofs.Listed.{Each, Member, member_right}
 
--- one record more
-pub told_end : (f : ℕ) (rs : List Record) (r : Record) → told_in f (rs ++ r ∷ []) ≡ told_in f rs ++ told_of f r.body
-told_end f rs r = told_append f rs (r ∷ []) ∙ ap (λ ts. told_in f rs ++ ts) (append-nil (told_of f r.body))
+-- The table's numbers rise
 
--- The numbers rise
+abbrev pub Rises : ℕ → List (ℕ × FileMeta) → Type 0
+Rises n [] = Unit {0}
+Rises n (x ∷ xs) = (n ≤ x.0) × Rises (x.0 + 1) xs
 
-split : (ts us : List (ℕ × FileMeta)) (ns : List ℕ) → nexts (ts ++ us) ++ ns ≡ nexts ts ++ (nexts us ++ ns)
-split ts us ns = ap (λ ms. ms ++ ns) (map-append next ts us) ∙ append_assoc (nexts ts) (nexts us) ns
+pub rises_with : (n : ℕ) (x : ℕ × FileMeta) (xs : List (ℕ × FileMeta)) → n ≤ x.0 → Rises n xs → Rises n (with_told x xs)
+rises_with n x [] low up = (low, tt)
+rises_with n x (y ∷ ys) low up = at (nat_lt y.0 x.0) refl (λ less. rises_with (y.0 + 1) x ys less up.1)
+  where
+    same_or_less : (c : Bool) → (y.0 == x.0) ≡ c → x.0 ≤ y.0 → Rises n (cond c (x ∷ ys) (x ∷ y ∷ ys))
+    same_or_less true is high = let same : y.0 ≡ x.0 = eqb-true y.0 x.0 is in (low, subst (λ k. Rises (k + 1) ys) same up.1)
+    same_or_less false isnt high =
+        (low, (⊎_elim (λ same. absurd (both_ways (y.0 == x.0) isnt (eq-eqb y.0 x.0 (sym same)))) (λ less. omega arith) (eq-or-lt_of_le high), up.1))
 
-stand_rise : (p : ℕ) (h : List Entry) → IsRun p h → (f : ℕ) → RisesFrom 0 (nexts (told_in f (stand h)))
-stand_rise p h run f =
-    let ts : List (ℕ × FileMeta) = told_in f (stand h) in
-    let us : List (ℕ × FileMeta) = flying f (to_server h) in
-    rises_front 0 (context h f).seq (nexts ts) (nexts us ++ waits (queued h f))
-    (subst (λ ns. RisesTo 0 ns (context h f).seq) (split ts us (waits (queued h f))) (all_follow p h run f).rises)
+    at : (b : Bool) → nat_lt y.0 x.0 ≡ b → (y.0 + 1 ≤ x.0 → Rises (y.0 + 1) (with_told x ys))
+        → Rises n (cond b (y ∷ with_told x ys) (cond (y.0 == x.0) (x ∷ ys) (x ∷ y ∷ ys)))
+    at true less rest = (up.0, rest (let more : y.0 < x.0 = ltb-true y.0 x.0 less in omega arith))
+    at false isnt rest = same_or_less (y.0 == x.0) refl (ltb-false y.0 x.0 isnt)
 
-all_above : (x : ℕ × FileMeta) (n : ℕ) (ts : List (ℕ × FileMeta)) → x.0 + 1 ≤ n → RisesFrom n (nexts ts) → All (λ y. x.0 < y.0) ts
-all_above x n [] low up = All-nil (λ y. x.0 < y.0)
-all_above x n (y ∷ ts) low up = All-cons (λ z. x.0 < z.0) y ts (omega (arith, low, up.0)) (all_above x (y.0 + 1) ts (omega (arith, low, up.0)) up.1)
+all_above : (n m : ℕ) (ts : List (ℕ × FileMeta)) → m + 1 ≤ n → Rises n ts → All (λ y. m < y.0) ts
+all_above n m [] low up = All-nil (λ y. m < y.0)
+all_above n m (y ∷ ts) low up = All-cons (λ z. m < z.0) y ts (omega (arith, low, up.0)) (all_above (y.0 + 1) m ts (omega (arith, low, up.0)) up.1)
 
-pairs : (n : ℕ) (ts : List (ℕ × FileMeta)) → RisesFrom n (nexts ts) → AllPairs (λ x y. x.0 < y.0) ts
-pairs n [] up = λ i j d l m. absurd (omega arith)
-pairs n (x ∷ ts) up = AllPairs-cons (λ y z. y.0 < z.0) x ts (all_above x (x.0 + 1) ts (omega arith) up.1) (pairs (x.0 + 1) ts up.1)
+pub are_rising : (n : ℕ) (ts : List (ℕ × FileMeta)) → Rises n ts → AreRising ts
+are_rising n [] up = λ i j d l m. absurd (omega arith)
+are_rising n (x ∷ ts) up = AllPairs-cons (λ x y. x.0 < y.0) x ts (all_above (x.0 + 1) x.0 ts (omega arith) up.1) (are_rising (x.0 + 1) ts up.1)
 
--- each standing flush follows a smaller number than those behind it
-pub told_rise : (p : ℕ) (h : List Entry) → IsRun p h → (f : ℕ) → AllPairs (λ x y. x.0 < y.0) (told_in f (stand h))
-told_rise p h run f = pairs 0 (told_in f (stand h)) (stand_rise p h run f)
+-- The last entry before a state
 
-all_below : (n t follows : ℕ) (ts : List (ℕ × FileMeta)) (ns : List ℕ) → RisesTo n (nexts ts ++ (follows + 1) ∷ ns) t → All (λ x. x.0 < follows) ts
-all_below n t follows [] ns up = All-nil (λ x. x.0 < follows)
-all_below n t follows (x ∷ ts) ns up =
-    let within = rises_member (x.0 + 1) t (follows + 1) (nexts ts ++ (follows + 1) ∷ ns) up.1 (member_right (follows + 1) (nexts ts) ((follows + 1) ∷ ns) (inl refl)) in
-    All-cons (λ y. y.0 < follows) x ts (omega (arith, within.0)) (all_below (x.0 + 1) t follows ts ns up.1)
+-- what stands later, or, where there is nothing, this one, if it is before the state
+abbrev pick : Option (ℕ × FileMeta) → Bool → ℕ × FileMeta → Option (ℕ × FileMeta)
+pick (Some later) before x = Some later
+pick None before x = cond before (Some x) None
 
-own_told : (b : Bool) (f s : ℕ) (x : ℕ × FileMeta) (ts us : List (ℕ × FileMeta)) (ns : List ℕ) → b ≡ true
-    → RisesTo 0 (nexts (ts ++ (cond b (x ∷ []) [] ++ us)) ++ ns) s → All (λ y. y.0 < x.0) ts
-own_told true f s x ts us ns own up = all_below 0 s x.0 ts (nexts us ++ ns) (subst (λ ms. RisesTo 0 ms s) (split ts (x ∷ us) ns) up)
-own_told false f s x ts us ns own up = absurd cc
+abbrev pub last_pair : At → List (ℕ × FileMeta) → Option (ℕ × FileMeta)
+last_pair a [] = None
+last_pair a (x ∷ xs) = pick (last_pair a xs) (is_before a x.0) x
 
--- the next flush that is delivered to the server follows a greater number than those of its file that stand
-pub told_next : (p : ℕ) (h : List Entry) → IsRun p h → (f tid follows : ℕ) (meta : FileMeta) (q : List Message)
-    → to_server h ≡ messages.FlushSnap f tid follows meta ∷ q → All (λ x. x.0 < follows) (told_in f (stand h))
-told_next p h run f tid follows meta q is =
-    own_told (f == f) f (context h f).seq (follows, meta) (told_in f (stand h)) (flying f q) (waits (queued h f)) (eq-eqb f f refl)
-    (subst (λ m. RisesTo 0 (nexts (told_in f (stand h) ++ flying f m) ++ waits (queued h f)) (context h f).seq) is (all_follow p h run f).rises)
+pub last_before_is : (a : At) (xs : List (ℕ × FileMeta)) → last_before a xs ≡ option_map (λ x. x.1) (last_pair a xs)
+last_before_is a [] = refl
+last_before_is a (x ∷ xs) = ap (λ o. last_of o (is_before a x.0) x.1) (last_before_is a xs) ∙ at (last_pair a xs) (is_before a x.0)
+  where
+    at : (o : Option (ℕ × FileMeta)) (b : Bool) → last_of (option_map (λ y. y.1) o) b x.1 ≡ option_map (λ y. y.1) (pick o b x)
+    at None true = refl
+    at None false = refl
+    at (Some y) b = refl
 
--- The last one that is of the time before a state
-
-abbrev IsAbove : ℕ → Option Flush → Type 0
+abbrev IsAbove : ℕ → Option (ℕ × FileMeta) → Type 0
 IsAbove n None = Unit {0}
-IsAbove n (Some y) = n ≤ y.follows
+IsAbove n (Some y) = n ≤ y.0
 
--- the flush found follows a number of at least n, and has this metadata
-record Last (n : ℕ) (best : Option Flush) (found : Option FileMeta) : Type 0 where
-  same : option_map (λ x. x.meta) best ≡ found
-  above : IsAbove n best
+above_low : (n m : ℕ) (o : Option (ℕ × FileMeta)) → n ≤ m → IsAbove m o → IsAbove n o
+above_low n m None low above = tt
+above_low n m (Some y) low above = omega arith
 
-last_none : (c : Bool) (n : ℕ) (x : Flush) → n < x.follows + 1 → Last n (cond c (Some x) None) (last_of None c x.meta)
-last_none true n x low = record { same = refl; above = omega arith }
-last_none false n x low = record { same = refl; above = tt }
+last_above : (a : At) (n : ℕ) (xs : List (ℕ × FileMeta)) → Rises n xs → IsAbove n (last_pair a xs)
+last_above a n [] up = tt
+last_above a n (x ∷ xs) up = at (last_pair a xs) (is_before a x.0) (above_low n (x.0 + 1) _ (omega (arith, up.0)) (last_above a (x.0 + 1) xs up.1))
+  where
+    at : (o : Option (ℕ × FileMeta)) (b : Bool) → IsAbove n o → IsAbove n (pick o b x)
+    at None true above = up.0
+    at None false above = tt
+    at (Some y) b above = above
 
-last_some : (c : Bool) (n : ℕ) (x y : Flush) → n < x.follows + 1 → x.follows + 1 ≤ y.follows
-    → Last n (cond c (later_of x (Some y)) (Some y)) (last_of (Some y.meta) c x.meta)
-last_some true n x y low above =
-    let behind : is_behind x y ≡ true = or_left _ _ (lt-ltb x.follows y.follows (omega arith)) in
-    subst (λ o. Last n o (Some y.meta)) (sym (cond-true (is_behind x y) (Some y) (Some x) behind)) (record { same = refl; above = omega arith })
-last_some false n x y low above = record { same = refl; above = omega arith }
+-- One more
 
-last_more : (c : Bool) (n : ℕ) (x : Flush) (best : Option Flush) (found : Option FileMeta) → n < x.follows + 1 → Last (x.follows + 1) best found
-    → Last n (cond c (later_of x best) best) (last_of found c x.meta)
-last_more c n x None found low i = subst (λ o. Last n (cond c (Some x) None) (last_of o c x.meta)) i.same (last_none c n x low)
-last_more c n x (Some y) found low i = subst (λ o. Last n (cond c (later_of x (Some y)) (Some y)) (last_of o c x.meta)) i.same (last_some c n x y low i.above)
+-- x, or what stands under a greater number
+abbrev pub newer : ℕ × FileMeta → Option (ℕ × FileMeta) → Option (ℕ × FileMeta)
+newer x None = Some x
+newer x (Some y) = cond (nat_le y.0 x.0) (Some x) (Some y)
 
-last_if : (b : Bool) (a : At) (n : ℕ) (x : Flush) (best : Option Flush) (ts : List (ℕ × FileMeta))
-    → RisesFrom n (nexts (cond b ((x.follows, x.meta) ∷ []) [] ++ ts)) → ((m : ℕ) → RisesFrom m (nexts ts) → Last m best (last_before a ts))
-    → Last n (cond (b && is_before a x.follows) (later_of x best) best) (last_before a (cond b ((x.follows, x.meta) ∷ []) [] ++ ts))
-last_if true a n x best ts up rest = last_more (is_before a x.follows) n x best (last_before a ts) up.0 (rest (x.follows + 1) up.1)
-last_if false a n x best ts up rest = rest n up
+newer_above : (x : ℕ × FileMeta) (o : Option (ℕ × FileMeta)) → IsAbove (x.0 + 1) o → pick o true x ≡ newer x o
+newer_above x None above = refl
+newer_above x (Some y) above =
+    sym (cond-false (nat_le y.0 x.0) (Some x) (Some y) (false_from_ne_true (nat_le y.0 x.0) (λ low. let most : y.0 ≤ x.0 = leb-true y.0 x.0 low in omega arith)))
 
-last_with : (f : ℕ) (a : At) (n : ℕ) (body : RecordBody) (best : Option Flush) (ts : List (ℕ × FileMeta)) → RisesFrom n (nexts (told_of f body ++ ts))
-    → ((m : ℕ) → RisesFrom m (nexts ts) → Last m best (last_before a ts))
-    → Last n (with_flush f a (flush_in body) best) (last_before a (told_of f body ++ ts))
-last_with f a n (bodies.Flush snap g tid follows meta) best ts up rest =
-    last_if (g == f) a n (record { tid = tid; file = g; follows = follows; meta = meta; snap = snap }) best ts up rest
-last_with f a n (bodies.Snap number d name) best ts up rest = rest n up
-last_with f a n (bodies.Removal t number) best ts up rest = rest n up
+-- all that stands is above x
+picked : (b : Bool) (x : ℕ × FileMeta) (o : Option (ℕ × FileMeta)) → IsAbove (x.0 + 1) o → pick o b x ≡ cond b (newer x o) o
+picked true x o above = newer_above x o above
+picked false x None above = refl
+picked false x (Some y) above = refl
 
-lasts : (f : ℕ) (a : At) (n : ℕ) (rs : List Record) → RisesFrom n (nexts (told_in f rs)) → Last n (last_flush f a rs) (last_before a (told_in f rs))
-lasts f a n [] up = record { same = refl; above = tt }
-lasts f a n (r ∷ rs) up = last_with f a n r.body (last_flush f a rs) (told_in f rs) up (λ m later. lasts f a m rs later)
+-- y stands under the same number
+picked_same : (b c : Bool) (x y : ℕ × FileMeta) (o : Option (ℕ × FileMeta)) → b ≡ c → y.0 ≡ x.0 → IsAbove (x.0 + 1) o
+    → pick o b x ≡ cond b (newer x (pick o c y)) (pick o c y)
+picked_same true true x y None e same above = sym (cond-true (nat_le y.0 x.0) (Some x) (Some y) (le-leb y.0 x.0 (omega arith)))
+picked_same true true x y (Some z) e same above = newer_above x (Some z) above
+picked_same true false x y o e same above = absurd cc
+picked_same false true x y o e same above = absurd cc
+picked_same false false x y None e same above = refl
+picked_same false false x y (Some z) e same above = refl
 
-found_meta : (best : Option Flush) → meta_of best ≡ unwrap_or (option_map (λ x. x.meta) best) no_meta
-found_meta None = refl
-found_meta (Some x) = refl
+-- y stands under a smaller one
+picked_behind : (b c : Bool) (x y : ℕ × FileMeta) (o : Option (ℕ × FileMeta)) → y.0 < x.0
+    → pick (cond b (newer x o) o) c y ≡ cond b (newer x (pick o c y)) (pick o c y)
+picked_behind true true x y None less = sym (cond-true (nat_le y.0 x.0) (Some x) (Some y) (le-leb y.0 x.0 (omega arith)))
+picked_behind true false x y None less = refl
+picked_behind true c x y (Some z) less = at (nat_le z.0 x.0)
+  where
+    at : (b : Bool) → pick (cond b (Some x) (Some z)) c y ≡ cond b (Some x) (Some z)
+    at true = refl
+    at false = refl
+picked_behind false c x y o less = refl
 
--- the file's metadata at a state is that of the last one in the table that is of the time before it
-pub last_told_is : (p : ℕ) (h : List Entry) → IsRun p h → (f : ℕ) (a : At) → meta_at f a (stand h) ≡ last_told a (told_in f (stand h))
-last_told_is p h run f a =
-    found_meta (last_flush f a (stand h)) ∙ ap (λ o. unwrap_or o no_meta) (lasts f a 0 (stand h) (stand_rise p h run f)).same
+pub last_with : (a : At) (n : ℕ) (x : ℕ × FileMeta) (xs : List (ℕ × FileMeta)) → Rises n xs
+    → last_pair a (with_told x xs) ≡ cond (is_before a x.0) (newer x (last_pair a xs)) (last_pair a xs)
+last_with a n x [] up = refl
+last_with a n x (y ∷ ys) up = at (nat_lt y.0 x.0) refl (last_with a (y.0 + 1) x ys up.1)
+  where
+    same_or_less : (c : Bool) → (y.0 == x.0) ≡ c → x.0 ≤ y.0
+        → last_pair a (cond c (x ∷ ys) (x ∷ y ∷ ys)) ≡ cond (is_before a x.0) (newer x (last_pair a (y ∷ ys))) (last_pair a (y ∷ ys))
+    same_or_less true is high =
+        let same : y.0 ≡ x.0 = eqb-true y.0 x.0 is in
+        picked_same (is_before a x.0) (is_before a y.0) x y (last_pair a ys) (ap (is_before a) (sym same)) same
+        (subst (λ k. IsAbove (k + 1) (last_pair a ys)) same (last_above a (y.0 + 1) ys up.1))
+    same_or_less false isnt high =
+        picked (is_before a x.0) x (last_pair a (y ∷ ys))
+        (last_above a (x.0 + 1) (y ∷ ys) (⊎_elim (λ same. absurd (both_ways (y.0 == x.0) isnt (eq-eqb y.0 x.0 (sym same)))) (λ less. omega arith) (eq-or-lt_of_le high), up.1))
+
+    at : (b : Bool) → nat_lt y.0 x.0 ≡ b → last_pair a (with_told x ys) ≡ cond (is_before a x.0) (newer x (last_pair a ys)) (last_pair a ys)
+        → last_pair a (cond b (y ∷ with_told x ys) (cond (y.0 == x.0) (x ∷ ys) (x ∷ y ∷ ys)))
+        ≡ cond (is_before a x.0) (newer x (last_pair a (y ∷ ys))) (last_pair a (y ∷ ys))
+    at true less rest =
+        ap (λ o. pick o (is_before a y.0) y) rest
+        ∙ picked_behind (is_before a x.0) (is_before a y.0) x y (last_pair a ys) (ltb-true y.0 x.0 less)
+    at false isnt rest = same_or_less (y.0 == x.0) refl (ltb-false y.0 x.0 isnt)
+
+-- The last flush before a state, where one more is recorded
+
+abbrev pub newer_flush : Flush → Option Flush → Option Flush
+newer_flush x None = Some x
+newer_flush x (Some y) = cond (nat_le y.follows x.follows) (Some x) (Some y)
+
+behind : (x y : Flush) → is_behind x y ≡ true → x.follows ≤ y.follows
+behind x y is =
+    ⊎_elim
+    (λ more. let less : x.follows < y.follows = ltb-true x.follows y.follows more in omega arith)
+    (λ both. let same : x.follows ≡ y.follows = eqb-true x.follows y.follows (and_parts (x.follows == y.follows) (nat_lt x.tid y.tid) both).0 in omega arith)
+    (or_cases (nat_lt x.follows y.follows) ((x.follows == y.follows) && nat_lt x.tid y.tid) is)
+
+not_behind : (x y : Flush) → is_behind x y ≡ false → y.follows ≤ x.follows
+not_behind x y isnt =
+    ltb-false x.follows y.follows (or_parts (nat_lt x.follows y.follows) ((x.follows == y.follows) && nat_lt x.tid y.tid) isnt).0
+
+-- where y was sent behind x
+behind_is : (x y : Flush) → x.tid < y.tid → is_behind x y ≡ nat_le x.follows y.follows
+behind_is x y sent =
+    same_test (is_behind x y) (nat_le x.follows y.follows)
+    (λ is. le-leb x.follows y.follows (behind x y is))
+    (λ is. ⊎_elim
+    (λ same. or_right (nat_lt x.follows y.follows) ((x.follows == y.follows) && nat_lt x.tid y.tid)
+    (and_from (x.follows == y.follows) (nat_lt x.tid y.tid) (eq-eqb x.follows y.follows same) (lt-ltb x.tid y.tid sent)))
+    (λ less. or_left (nat_lt x.follows y.follows) ((x.follows == y.follows) && nat_lt x.tid y.tid) (lt-ltb x.follows y.follows less))
+    (eq-or-lt_of_le (leb-true x.follows y.follows is)))
+
+not_upto : (n m : ℕ) → m < n → nat_le n m ≡ false
+not_upto n m less = false_from_ne_true (nat_le n m) (λ low. let most : n ≤ m = leb-true n m low in omega arith)
+
+-- x is the newest
+later_newer : (y x : Flush) (o : Option Flush) → y.tid < x.tid → later_of y (newer_flush x o) ≡ newer_flush x (later_of y o)
+later_newer y x None sent = ap (λ b. cond b (Some x) (Some y)) (behind_is y x sent)
+later_newer y x (Some z) sent = at (nat_le z.follows x.follows) refl (is_behind y z) refl
+  where
+    at : (b : Bool) → nat_le z.follows x.follows ≡ b → (c : Bool) → is_behind y z ≡ c
+        → later_of y (cond b (Some x) (Some z)) ≡ newer_flush x (cond c (Some z) (Some y))
+    at true low true is =
+        let most : z.follows ≤ x.follows = leb-true z.follows x.follows low in
+        let first : y.follows ≤ z.follows = behind y z is in
+        ap (λ b. cond b (Some x) (Some y)) (behind_is y x sent)
+        ∙ (cond-true (nat_le y.follows x.follows) (Some x) (Some y) (le-leb y.follows x.follows (omega arith))
+        ∙ sym (cond-true (nat_le z.follows x.follows) (Some x) (Some z) low))
+    at true low false isnt = ap (λ b. cond b (Some x) (Some y)) (behind_is y x sent)
+    at false high true is = cond-true (is_behind y z) (Some z) (Some y) is ∙ sym (cond-false (nat_le z.follows x.follows) (Some x) (Some z) high)
+    at false high false isnt =
+        let more : x.follows < z.follows = leb-false z.follows x.follows high in
+        let least : z.follows ≤ y.follows = not_behind y z isnt in
+        cond-false (is_behind y z) (Some z) (Some y) isnt
+        ∙ sym (cond-false (nat_le y.follows x.follows) (Some x) (Some y) (not_upto y.follows x.follows (omega arith)))
+
+exchanged : (b c : Bool) (y x : Flush) (o : Option Flush) → (c ≡ true → y.tid < x.tid)
+    → cond c (later_of y (cond b (newer_flush x o) o)) (cond b (newer_flush x o) o) ≡ cond b (newer_flush x (cond c (later_of y o) o)) (cond c (later_of y o) o)
+exchanged true true y x o sent = later_newer y x o (sent refl)
+exchanged true false y x o sent = refl
+exchanged false true y x o sent = refl
+exchanged false false y x o sent = refl
+
+-- by the body of the first record
+last_body : (f : ℕ) (a : At) (b : Bool) (body : RecordBody) (x : Flush) (rs : List Record) (o : Option Flush)
+    → Each (λ t. t < x.tid) (tids f (record { body = body } ∷ rs))
+    → with_flush f a (flush_in body) (cond b (newer_flush x o) o) ≡ cond b (newer_flush x (with_flush f a (flush_in body) o)) (with_flush f a (flush_in body) o)
+last_body f a b (bodies.Flush snap g tid follows meta) x rs o low =
+    exchanged b ((g == f) && is_before a follows) (record { tid = tid; file = g; follows = follows; meta = meta; snap = snap }) x o
+    (λ is. low tid (subst (λ c. Member tid (cond c (tid ∷ []) [] ++ tids f rs)) (sym (and_parts (g == f) (is_before a follows) is).0) (inl refl)))
+last_body f a b (bodies.Snap number d name) x rs o low = refl
+last_body f a b (bodies.Removal t number) x rs o low = refl
+
+-- it was sent behind all flushes of the file that are recorded
+pub last_end : (f : ℕ) (a : At) (rs : List Record) (x : Flush) → x.file ≡ f → Each (λ t. t < x.tid) (tids f rs)
+    → last_flush f a (rs ++ flush_record x ∷ []) ≡ cond (is_before a x.follows) (newer_flush x (last_flush f a rs)) (last_flush f a rs)
+last_end f a [] x own low = ap (λ b. cond (b && is_before a x.follows) (Some x) None) (eq-eqb x.file f own)
+last_end f a (r ∷ rs) x own low =
+    ap (λ o. with_flush f a (flush_in r.body) o)
+    (last_end f a rs x own (λ t m. low t (member_right t (tid_of f r.body) (tids f rs) m)))
+    ∙ last_body f a (is_before a x.follows) r.body x rs (last_flush f a rs) low
+
+-- a record that is no such flush
+abbrev pub IsBeside : ℕ → At → Record → Type 0
+IsBeside f a r = (o : Option Flush) → with_flush f a (flush_in r.body) o ≡ o
+
+pub last_beside : (f : ℕ) (a : At) (rs : List Record) (r : Record) → IsBeside f a r → last_flush f a (rs ++ r ∷ []) ≡ last_flush f a rs
+last_beside f a [] r other = other None
+last_beside f a (k ∷ rs) r other = ap (λ o. with_flush f a (flush_in k.body) o) (last_beside f a rs r other)
+
+-- what the table has of a flush
+abbrev pub pair_of : Option Flush → Option (ℕ × FileMeta)
+pair_of o = option_map (λ x. (x.follows, x.meta)) o
+
+pub pair_newer : (b : Bool) (x : Flush) (o : Option Flush) → pair_of (cond b (newer_flush x o) o) ≡ cond b (newer (x.follows, x.meta) (pair_of o)) (pair_of o)
+pair_newer true x None = refl
+pair_newer true x (Some y) = at (nat_le y.follows x.follows)
+  where
+    at : (b : Bool) → pair_of (cond b (Some x) (Some y)) ≡ cond b (Some (x.follows, x.meta)) (Some (y.follows, y.meta))
+    at true = refl
+    at false = refl
+pair_newer false x o = refl

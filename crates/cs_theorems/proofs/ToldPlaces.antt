@@ -1,50 +1,63 @@
--- Where the last of a table's flushes that is of the time before a state stands: just before the place at which a search splits
--- the table.
-use Rattle.std.proofs.Common.{◌≡◌, refl, ap, ◌∙◌, ℕ, zero, suc, ◌<◌, ◌≤◌, true, false, List, [], ◌∷◌, Option, Some, None, AllPairs, length, slice_get, get_or, sym, ⊎_elim, arith}
-use Rattle.std.specs.List.Sorted.{IsNonDecreasingBy, IsPartitionPoint}
-use Rattle.std.specs.Option.{option_map}
-use Rattle.std.proofs.lemmas.Bool.{cases_lt}
+-- What is recorded goes to the place of its number in a file's table, which is where a search ends.
+use Rattle.std.proofs.Common.{◌≡◌, refl, sym, ap, ◌∙◌, ℕ, zero, suc, ◌+◌, ◌<◌, ◌≤◌, nat_lt, List, [], ◌∷◌, length, get_or, ◌==◌, cond, arith}
+use Rattle.std.specs.List.{insert}
+use Rattle.std.proofs.lemmas.Bool.{cond-false, cond-true, eq-eqb, le-ltb, lt-ltb, ne_eqb}
+use Rattle.std.proofs.Math.ListN.{set}
 use Rattle.cs_ids.specs.declared.objects.FileMeta.{FileMeta}
-use Rattle.cs_laws.specs.declared.objects.At.{At}
-use Rattle.cs_laws.specs.Shown.{is_before}
-use Rattle.cs_theorems.specs.Told.{last_before, last_of}
+use Rattle.cs_theorems.specs.Recorded.{AreRising, with_told}
+use Rattle.cs_theorems.proofs.Told.{Rises, are_rising, rises_with}
 
--- a table whose numbers rise can be searched
-pub told_sorted : (ts : List (ℕ × FileMeta)) → AllPairs (λ x y. x.0 < y.0) ts → IsNonDecreasingBy (λ x. x.0) ts
-told_sorted ts rise i j d low within = ⊎_elim (λ up. let less = rise i j d up within in omega (arith, less)) (λ at. same (omega (arith, low, at))) (cases_lt i j)
-  where
-    same : i ≡ j → (get_or ts i d).0 ≤ (get_or ts j d).0
-    same is = rw is (omega arith)
+-- The order is kept
 
--- the metadata just before a place
-abbrev pub before_place : ℕ → List (ℕ × FileMeta) → Option FileMeta
-before_place zero ts = None
-before_place (suc k) ts = option_map (λ x. x.1) (slice_get ts k)
+rises_of : (n : ℕ) (xs : List (ℕ × FileMeta)) → ((k : ℕ) (d : ℕ × FileMeta) → k < length xs → n ≤ (get_or xs k d).0) → AreRising xs → Rises n xs
+rises_of n [] low rising = tt
+rises_of n (x ∷ xs) low rising = (
+  low 0 x (omega arith),
+  rises_of (x.0 + 1) xs
+      (λ k d within. let more = rising 0 (suc k) d (omega arith) (omega arith) in omega arith)
+      (λ i j d less within. rising (suc i) (suc j) d (omega arith) (omega arith)),
+)
 
-abbrev pub Splits : At → List (ℕ × FileMeta) → ℕ → Type 0
-Splits a ts k = IsPartitionPoint (λ x. is_before a x.0 ≡ true) (λ x. is_before a x.0 ≡ false) ts k
+pub rising_with : (x : ℕ × FileMeta) (xs : List (ℕ × FileMeta)) → AreRising xs → AreRising (with_told x xs)
+rising_with x xs rising = are_rising 0 (with_told x xs) (rises_with 0 x xs (omega arith) (rises_of 0 xs (λ k d within. omega arith) rising))
 
-split_tail : (a : At) (x : ℕ × FileMeta) (ts : List (ℕ × FileMeta)) (k : ℕ) → Splits a (x ∷ ts) (suc k) → Splits a ts k
-split_tail a x ts k i = (λ j d low within. i.0 (suc j) d (omega arith) (omega arith), λ j d low within. i.1 (suc j) d (omega arith) (omega arith))
+-- The place
 
-split_none : (a : At) (x : ℕ × FileMeta) (ts : List (ℕ × FileMeta)) → Splits a (x ∷ ts) zero → Splits a ts zero
-split_none a x ts i = (λ j d low within. absurd (omega arith), λ j d low within. i.1 (suc j) d (omega arith) (omega arith))
+-- smaller numbers stand before the place, and greater ones from it on
+pub record IsPlace (s : ℕ) (xs : List (ℕ × FileMeta)) (k : ℕ) : Type 0 where
+  pub within : k ≤ length xs
+  pub smaller : (j : ℕ) (d : ℕ × FileMeta) → j < k → (get_or xs j d).0 < s
+  pub greater : (j : ℕ) (d : ℕ × FileMeta) → k ≤ j → j < length xs → s < (get_or xs j d).0
 
-there_is : (k : ℕ) (ts : List (ℕ × FileMeta)) → k < length ts → (y : FileMeta) × (option_map (λ x. x.1) (slice_get ts k) ≡ Some y)
-there_is k [] within = absurd (omega arith)
-there_is zero (x ∷ ts) within = (x.1, refl)
-there_is (suc k) (x ∷ ts) within = there_is k ts (omega arith)
+-- a smaller number stands in front
+with_behind : (x y : ℕ × FileMeta) (ys : List (ℕ × FileMeta)) → y.0 < x.0 → with_told x (y ∷ ys) ≡ y ∷ with_told x ys
+with_behind x y ys less = cond-true (nat_lt y.0 x.0) (y ∷ with_told x ys) (cond (y.0 == x.0) (x ∷ ys) (x ∷ y ∷ ys)) (lt-ltb y.0 x.0 less)
 
--- where the table is split at a place, the last one of the time before the state stands just before it
-pub last_placed : (a : At) (ts : List (ℕ × FileMeta)) (k : ℕ) → k ≤ length ts → Splits a ts k → last_before a ts ≡ before_place k ts
-last_placed a [] zero within i = refl
-last_placed a [] (suc k) within i = absurd (omega arith)
-last_placed a (x ∷ ts) zero within i =
-    ap (λ o. last_of o (is_before a x.0) x.1) (last_placed a ts zero (omega arith) (split_none a x ts i))
-    ∙ ap (λ b. last_of None b x.1) (i.1 0 x (omega arith) (omega arith))
-last_placed a (x ∷ ts) (suc zero) within i =
-    ap (λ o. last_of o (is_before a x.0) x.1) (last_placed a ts zero (omega arith) (split_tail a x ts zero i))
-    ∙ ap (λ b. last_of None b x.1) (i.0 0 x (omega arith) (omega arith))
-last_placed a (x ∷ ts) (suc (suc k)) within i =
-    let found = there_is k ts (omega arith) in
-    ap (λ o. last_of o (is_before a x.0) x.1) (last_placed a ts (suc k) (omega arith) (split_tail a x ts (suc k) i) ∙ found.1) ∙ sym found.1
+not_behind : (x y : ℕ × FileMeta) (ys : List (ℕ × FileMeta)) → x.0 ≤ y.0 → with_told x (y ∷ ys) ≡ cond (y.0 == x.0) (x ∷ ys) (x ∷ y ∷ ys)
+not_behind x y ys high = cond-false (nat_lt y.0 x.0) (y ∷ with_told x ys) (cond (y.0 == x.0) (x ∷ ys) (x ∷ y ∷ ys)) (le-ltb y.0 x.0 high)
+
+-- the number stands there already
+pub with_set : (x : ℕ × FileMeta) (xs : List (ℕ × FileMeta)) (k : ℕ) (d : ℕ × FileMeta) → AreRising xs → k < length xs → (get_or xs k d).0 ≡ x.0
+    → set xs k x ≡ with_told x xs
+with_set x [] k d rising within same = absurd (omega arith)
+with_set x (y ∷ ys) zero d rising within same =
+    sym (not_behind x y ys (omega arith) ∙ cond-true (y.0 == x.0) (x ∷ ys) (x ∷ y ∷ ys) (eq-eqb y.0 x.0 same))
+with_set x (y ∷ ys) (suc k) d rising within same =
+    let less = rising 0 (suc k) d (omega arith) within in
+    ap (λ zs. y ∷ zs) (with_set x ys k d (λ i j e low inside. rising (suc i) (suc j) e (omega arith) (omega arith)) (omega arith) same)
+    ∙ sym (with_behind x y ys (omega arith))
+
+-- or it doesn't
+pub with_inserted : (x : ℕ × FileMeta) (xs : List (ℕ × FileMeta)) (k : ℕ) → IsPlace x.0 xs k → insert xs k x ≡ with_told x xs
+with_inserted x [] zero i = refl
+with_inserted x [] (suc k) i = absurd (omega (arith, i.within))
+with_inserted x (y ∷ ys) zero i =
+    let more : x.0 < y.0 = i.greater 0 y (omega arith) (omega arith) in
+    sym (not_behind x y ys (omega arith) ∙ cond-false (y.0 == x.0) (x ∷ ys) (x ∷ y ∷ ys) (ne_eqb y.0 x.0 (λ same. omega arith)))
+with_inserted x (y ∷ ys) (suc k) i =
+    let rest : IsPlace x.0 ys k = record {
+      within = omega (arith, i.within);
+      smaller = λ j d low. i.smaller (suc j) d (omega arith);
+      greater = λ j d low inside. i.greater (suc j) d (omega arith) (omega arith);
+    } in
+    ap (λ zs. y ∷ zs) (with_inserted x ys k rest) ∙ sym (with_behind x y ys (i.smaller 0 y (omega arith)))

@@ -25,7 +25,7 @@ use Rattle.cs_laws.specs.Journal.{entry}
 use Rattle.cs_laws.specs.Standing.{recorded, told_of, told}
 use Rattle.cs_theorems.specs.Runs.{IsRun}
 use Rattle.cs_theorems.specs.Underway.{ForClient, ForServer, IsKnown, IsToldClient, IsToldServer}
-use Rattle.cs_theorems.proofs.Inversions.{FlushSnapsIs, flush_unknown, flush_none, flush_writing, flush_sent, flush_snaps_is, FirstIs, first_idle, first_cap, first_flush_ack, first_snap, first_is, ReceivedIs, received_idle, received_ack, received_flush, received_is, SnapIs, snap_unknown, snap_exists, snap_taken, snap_is, RemoveIs, remove_none, remove_gone, removed, remove_is}
+use Rattle.cs_theorems.proofs.Inversions.{FlushIs, head_unknown, head_snap, head_clean, head_sent, flush_is, FlushSnapsIs, flush_unknown, flush_none, flush_writing, flush_sent, flush_snaps_is, FirstIs, first_idle, first_cap, first_flush_ack, first_snap, first_is, ReceivedIs, received_idle, received_ack, received_flush, received_is, SnapIs, snap_unknown, snap_exists, snap_taken, snap_is, RemoveIs, remove_none, remove_gone, removed, remove_is}
 use Rattle.cs_theorems.proofs.Known.{known_then}
 use Rattle.cs_theorems.proofs.Listed.{Each, each_nil, each_cons, each_append, each_end, each_tail}
 use Rattle.cs_theorems.proofs.Runs.{of_run}
@@ -54,10 +54,12 @@ client_more Known More more (messages.Cap f seq bits end) k = more f k
 client_more Known More more (messages.FlushAck f tid) k = more f k
 client_more Known More more (messages.Snap number d realms) k = k
 client_more Known More more (messages.CapAck f seq bits) k = absurd k
+client_more Known More more (messages.Flush f tid follows meta) k = absurd k
 client_more Known More more (messages.FlushSnap f tid follows meta) k = absurd k
 
 server_more : (Known More : ℕ → Type 0) → ((f : ℕ) → Known f → More f) → (m : Message) → ForServer Known m → ForServer More m
 server_more Known More more (messages.CapAck f seq bits) k = more f k
+server_more Known More more (messages.Flush f tid follows meta) k = more f k
 server_more Known More more (messages.FlushSnap f tid follows meta) k = more f k
 server_more Known More more (messages.Cap f seq bits end) k = absurd k
 server_more Known More more (messages.FlushAck f tid) k = absurd k
@@ -94,6 +96,8 @@ each_told Known up dirs before (x ∷ rs) ks =
 
 each_recorded : (Known : ℕ → Type 0) (q : List Message) → Each (ForServer Known) q → Each (λ x. ForLog Known x.body) (recorded q)
 each_recorded Known [] ks = each_nil (λ x. ForLog Known x.body)
+each_recorded Known (messages.Flush f tid follows meta ∷ q) ks =
+    each_cons (λ x. ForLog Known x.body) _ [] (ks (messages.Flush f tid follows meta) (inl refl)) (each_nil (λ x. ForLog Known x.body))
 each_recorded Known (messages.FlushSnap f tid follows meta ∷ q) ks =
     each_cons (λ x. ForLog Known x.body) _ [] (ks (messages.FlushSnap f tid follows meta) (inl refl)) (each_nil (λ x. ForLog Known x.body))
 each_recorded Known (messages.CapAck f seq bits ∷ q) ks = each_nil (λ x. ForLog Known x.body)
@@ -194,6 +198,12 @@ step_flush_snaps h g x flush_none i = i
 step_flush_snaps h g x flush_writing i = i
 step_flush_snaps h g x (flush_sent y ys known is closed) i = flies_sent _ _ _ _ _ _ known i
 
+step_flush : (h : List Entry) (g : ℕ) (x : Answer) → FlushIs h g x → AllFly h → AllFly (record { event = e.Flush g; answer = x } ∷ h)
+step_flush h g x head_unknown i = i
+step_flush h g x head_snap i = i
+step_flush h g x head_clean i = i
+step_flush h g x (head_sent known free changed) i = flies_sent _ _ _ _ _ _ known i
+
 step_to_client : (h : List Entry) (x : Answer) → FirstIs h x → AllFly h → AllFly (record { event = e.ToClient; answer = x } ∷ h)
 step_to_client h x first_idle i = i
 step_to_client h x (first_cap g seq bits end q is) i = flies_delivered _ _ _ _ _ i
@@ -212,7 +222,7 @@ flies_acked Known q p ds fs i = record {
 step_to_mds : (h : List Entry) (x : Answer) → ReceivedIs h x → AllFly h → AllFly (record { event = e.ToMds; answer = x } ∷ h)
 step_to_mds h x received_idle i = i
 step_to_mds h x (received_ack g seq bits q is) i = flies_acked _ _ _ _ _ i
-step_to_mds h x (received_flush g tid follows meta q is) i =
+step_to_mds h x (received_flush y q is) i =
     flies_received _ _ _ _ _ (recorded (to_server h)) (each_recorded (IsKnown h) (to_server h) i.received) i
 
 step_snap : (h : List Entry) (d : ℕ) (name : List ℕ) (x : Answer) → SnapIs h d name x → AllFly h → AllFly (record { event = e.Snap d name; answer = x } ∷ h)
@@ -234,6 +244,7 @@ fly_step p h (e.File f d) i = step_file h (e.File f d) _ i
 fly_step p h (e.Grant g bits end) i = step_grant h g bits end i
 fly_step p h (e.Revoke g bits) i = step_revoke h g bits i
 fly_step p h (e.Check g) i = step_check h g i
+fly_step p h (e.Flush g) i = step_flush h g _ (flush_is h g) i
 fly_step p h (e.FlushSnaps g) i = step_flush_snaps h g _ (flush_snaps_is h g) i
 fly_step p h e.ToClient i = step_to_client h _ (first_is h) i
 fly_step p h e.ToMds i = step_to_mds h _ (received_is h) i

@@ -1,14 +1,16 @@
--- What isn't known as a file has neither capabilities nor writes, and no cap snaps.
-use Rattle.std.proofs.Common.{◌≡◌, refl, subst, ℕ, ◌||◌, not, Bool, true, false, cond, List, [], ◌∷◌, ◌==◌, inl, Option, Some, None}
+-- What isn't known as a file has neither capabilities nor writes, no cap snaps and no flushes, and the mode of a new file.
+use Rattle.std.proofs.Common.{◌≡◌, refl, ap, ◌∙◌, subst, ℕ, ◌||◌, not, Bool, true, false, cond, List, [], ◌∷◌, ◌==◌, inl, Option, Some, None}
 use Rattle.std.proofs.lemmas.Bool.{cond_both, eqb-true, both_ways, and_left, and_right, or_from, false_from_ne_true}
 use Rattle.cs_bits.specs.declared.Caps.{Caps}
 use Rattle.cs_bits.specs.Bits.{no_caps, is_empty, covers, file_write}
+use Rattle.cs_ids.specs.declared.objects.FileMeta.{FileMeta}
 use Rattle.cs_parts.specs.declared.capabilities.ClientCaps.{ClientCaps}
 use Rattle.cs_parts.specs.declared.capabilities.ServerCaps.{ServerCaps}
 use Rattle.cs_parts.specs.declared.references.Live.{Live}
 use Rattle.cs_parts.specs.Capabilities.{no_client_caps, no_server_caps, granted, revoked, held_back, is_complete}
 use Rattle.cs_snapctx.specs.Context.{Context}
 use Rattle.cs_capsnap.specs.declared.snap.CapSnap.{CapSnap as Snap}
+use Rattle.cs_flush.specs.declared.sent.Sent.{Sent}
 use Rattle.cs_laws.specs.declared.events.Event.{Event}
 use Rattle.cs_laws.specs.declared.events.Event.TheVariants as e
 use Rattle.cs_laws.specs.declared.events.RefName.{RefName}
@@ -20,30 +22,36 @@ use Rattle.cs_laws.specs.declared.messages.Message.TheVariants as messages
 use Rattle.cs_laws.specs.Answers.{answer_check_of, answer_check, answer_grant, answer_revoke, sent_cap}
 use Rattle.cs_laws.specs.CapSnaps.{CapSnap, has_writer, makes}
 use Rattle.cs_laws.specs.Events.{setup_file, setup_file_then, client_knows, server_knows}
-use Rattle.cs_laws.specs.History.{client, server, to_client, to_server, live, writes, dirty, queued, context, used}
+use Rattle.cs_laws.specs.Flushes.{Flush, flush_message}
+use Rattle.cs_laws.specs.History.{client, server, to_client, to_server, live, writes, mode, dirty, queued, context, used}
 use Rattle.cs_laws.specs.Image.{Write}
 use Rattle.cs_laws.specs.Journal.{entry}
 use Rattle.cs_laws.specs.References.{named}
 use Rattle.cs_theorems.specs.Queues.{snaps, with_ended}
+use Rattle.cs_theorems.specs.Recorded.{told, with_first, with_message}
 use Rattle.cs_theorems.specs.Runs.{IsRun}
+use Rattle.cs_theorems.specs.Unacked.{unacked}
 use Rattle.cs_theorems.specs.Underway.{IsToldClient, IsToldServer}
-use Rattle.cs_theorems.proofs.Inversions.{WriteIs, write_unknown, write_no_bit, write_past, wrote, write_is, EndIs, end_unknown, ended, end_is, FlushSnapsIs, flush_unknown, flush_none, flush_writing, flush_sent, flush_snaps_is, FirstIs, first_idle, first_cap, first_flush_ack, first_snap, first_is, ReceivedIs, received_idle, received_ack, received_flush, received_is}
+use Rattle.cs_theorems.proofs.Inversions.{ChmodIs, chmod_unknown, chmod_no_bit, chmod_snap, chmod_done, chmod_is, WriteIs, write_unknown, write_no_bit, write_past, wrote, write_is, EndIs, end_unknown, ended, end_is, FlushIs, head_unknown, head_snap, head_clean, head_sent, flush_is, FlushSnapsIs, flush_unknown, flush_none, flush_writing, flush_sent, flush_snaps_is, FirstIs, first_idle, first_cap, first_flush_ack, first_snap, first_is, ReceivedIs, received_idle, received_ack, received_flush, received_is}
 use Rattle.cs_theorems.proofs.Known.{live_known}
 use Rattle.cs_theorems.proofs.Listed.{Each, each_tail}
 use Rattle.cs_theorems.proofs.Runs.{of_run}
 use Rattle.cs_theorems.proofs.Underway.{told_known, received_known}
 use Rattle.cs_theorems.proofs.Uses.{named_is}
 
-pub record IsUntouched (c : ClientCaps) (s : ServerCaps) (ws : List Write) (d : Caps) (qs : List CapSnap) (xs : List Snap) : Type 0 where
+pub record IsUntouched (c : ClientCaps) (s : ServerCaps) (ws : List Write) (m : ℕ) (d : Caps) (qs : List CapSnap) (xs : List Snap) (us : List Sent) (ts : List (ℕ × FileMeta)) : Type 0 where
   pub client : c ≡ no_client_caps
   pub server : s ≡ no_server_caps
   pub writes : ws ≡ []
+  pub mode : m ≡ 420
   pub dirty : d ≡ no_caps
   pub queued : qs ≡ []
   pub snaps : xs ≡ []
+  pub unacked : us ≡ []
+  pub told : ts ≡ []
 
 abbrev pub IsUntouchedAt : List Entry → ℕ → Type 0
-IsUntouchedAt h f = IsUntouched (client h f) (server h f) (writes h f) (dirty h f) (queued h f) (snaps h f)
+IsUntouchedAt h f = IsUntouched (client h f) (server h f) (writes h f) (mode h f) (dirty h f) (queued h f) (snaps h f) (unacked h f) (told h f)
 
 abbrev AllUntouched : List Entry → Type 0
 AllUntouched h = (f : ℕ) → setup_file h f ≡ false → IsUntouchedAt h f
@@ -101,6 +109,22 @@ step_flush_snaps h g x flush_none i = i
 step_flush_snaps h g x flush_writing i = i
 step_flush_snaps h g x (flush_sent y ys known is closed) i = λ f unknown. rw (apart h g f known unknown) (i f unknown)
 
+step_flush : (h : List Entry) (g : ℕ) (x : Answer) → FlushIs h g x → AllUntouched h → AllUntouched (record { event = e.Flush g; answer = x } ∷ h)
+step_flush h g x head_unknown i = i
+step_flush h g x head_snap i = i
+step_flush h g x head_clean i = i
+step_flush h g x (head_sent known free changed) i = λ f unknown. rw (apart h g f known unknown) (i f unknown)
+
+step_chmod : (h : List Entry) (c : ℕ) (name : RefName) (mode : ℕ) (x : Answer) → ChmodIs h c name x
+    → Each (λ r. setup_file h r.file ≡ true) (live h) → AllUntouched h
+    → AllUntouched (record { event = e.Chmod c name mode; answer = x } ∷ h)
+step_chmod h c name mode x chmod_unknown known i = i
+step_chmod h c name mode x chmod_no_bit known i = i
+step_chmod h c name mode x chmod_snap known i = i
+step_chmod h c name mode x (chmod_done r is may free) known i = λ f unknown.
+    let there = (named_is c name r (live h) is).1 in
+    rw is (rw (apart h r.file f (known r there) unknown) (i f unknown))
+
 step_write : (h : List Entry) (c : ℕ) (name : RefName) (off : ℕ) (bytes : List ℕ) (x : Answer) → WriteIs h c name x
     → Each (λ r. setup_file h r.file ≡ true) (live h) → AllUntouched h
     → AllUntouched (record { event = e.Write c name off bytes; answer = x } ∷ h)
@@ -124,9 +148,12 @@ step_end h c name x (ended there) i = λ f unknown.
       client = was.client;
       server = was.server;
       writes = was.writes;
+      mode = was.mode;
       dirty = was.dirty;
       queued = was.queued;
       snaps = ended_nothing (named c name (live h)) f _ (writes h f) (snaps h f) was.snaps;
+      unacked = was.unacked;
+      told = was.told;
     }
 
 -- no writer of it lives
@@ -158,28 +185,60 @@ step_to_client h x (first_snap number d realms q is) lives told i = λ f unknown
 received_first : (h : List Entry) (m : Message) (q : List Message) → to_server h ≡ m ∷ q → Each (IsToldServer h) (to_server h) → IsToldServer h m
 received_first h m q is known = known m (rw is (inl refl))
 
+flush_known : (h : List Entry) (y : Flush) → IsToldServer h (flush_message y) → setup_file h y.file ≡ true
+flush_known h y known = at y.snap known
+  where
+    at : (b : Bool) → IsToldServer h (cond b (messages.FlushSnap y.file y.tid y.follows y.meta) (messages.Flush y.file y.tid y.follows y.meta)) → setup_file h y.file ≡ true
+    at true known = known
+    at false known = known
+
+-- another file's flush
+untold : (f : ℕ) (y : Flush) (xs : List (ℕ × FileMeta)) → (y.file == f) ≡ false → xs ≡ [] → with_message f (flush_message y) xs ≡ []
+untold f y xs other none = at y.snap
+  where
+    at : (b : Bool) → with_message f (cond b (messages.FlushSnap y.file y.tid y.follows y.meta) (messages.Flush y.file y.tid y.follows y.meta)) xs ≡ []
+    at true = rw other none
+    at false = rw other none
+
 step_to_mds : (h : List Entry) (x : Answer) → ReceivedIs h x → Each (IsToldServer h) (to_server h) → AllUntouched h
     → AllUntouched (record { event = e.ToMds; answer = x } ∷ h)
 step_to_mds h x received_idle received i = i
 step_to_mds h x (received_ack g seq bits q is) received i = λ f unknown.
     let known : setup_file h g ≡ true = received_first h (messages.CapAck g seq bits) q is received in
     rw (apart h g f known unknown) (i f unknown)
-step_to_mds h x (received_flush g tid follows meta q is) received i = i
+step_to_mds h x (received_flush y q is) received i = λ f unknown.
+    let known : setup_file h y.file ≡ true = flush_known h y (received_first h (flush_message y) q is received) in
+    let was : IsUntouchedAt h f = i f unknown in
+    let still : told (record { event = e.ToMds; answer = x } ∷ h) f ≡ [] = ap (λ ms. with_first f ms (told h f)) is ∙ untold f y (told h f) (apart h y.file f known unknown) was.told in
+    record {
+      client = was.client;
+      server = was.server;
+      writes = was.writes;
+      mode = was.mode;
+      dirty = was.dirty;
+      queued = was.queued;
+      snaps = was.snaps;
+      unacked = was.unacked;
+      told = still;
+    }
 
 untouched_step : (p : ℕ) (h : List Entry) (x : Event) → IsRun p h → AllUntouched h → AllUntouched (entry p h x ∷ h)
 untouched_step p h (e.File g d) run i = λ f unknown. i f (unknown_before (e.File g d) _ f (setup_file h f) unknown)
 untouched_step p h (e.Grant g bits end) run i = step_grant h g bits end i
 untouched_step p h (e.Revoke g bits) run i = step_revoke h g bits i
 untouched_step p h (e.Check g) run i = step_check h g i
+untouched_step p h (e.Flush g) run i = step_flush h g _ (flush_is h g) i
 untouched_step p h (e.FlushSnaps g) run i = step_flush_snaps h g _ (flush_snaps_is h g) i
 untouched_step p h (e.Write c name off bytes) run i = step_write h c name off bytes _ (write_is h c name off bytes) (live_known p h run) i
+untouched_step p h (e.Chmod c name mode) run i = step_chmod h c name mode _ (chmod_is h c name) (live_known p h run) i
 untouched_step p h (e.End c name) run i = step_end h c name _ (end_is h c name) i
 untouched_step p h e.ToClient run i = step_to_client h _ (first_is h) (live_known p h run) (told_known p h run) i
 untouched_step p h e.ToMds run i = step_to_mds h _ (received_is h) (received_known p h run) i
 untouched_step p h _ run i = i
 
 nothing_touched : AllUntouched []
-nothing_touched = λ f unknown. record { client = refl; server = refl; writes = refl; dirty = refl; queued = refl; snaps = refl }
+nothing_touched = λ f unknown.
+    record { client = refl; server = refl; writes = refl; mode = refl; dirty = refl; queued = refl; snaps = refl; unacked = refl; told = refl }
 
 pub untouched : (p : ℕ) (h : List Entry) → IsRun p h → (f : ℕ) → setup_file h f ≡ false → IsUntouchedAt h f
 untouched p h run = of_run p AllUntouched nothing_touched (λ g x fit before i. untouched_step p g x before i) h run

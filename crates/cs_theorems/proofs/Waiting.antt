@@ -1,4 +1,4 @@
--- A file's cap snaps that were sent and aren't acknowledged, beside the flushes that were sent. What holds of one file at one
+-- A file's cap snaps that were sent and aren't acknowledged, beside the flushes of cap snaps that were sent. What holds of one file at one
 -- moment is a record over its values: its queue, the flushes that were sent, and which of the file's are acknowledged.
 use Rattle.std.proofs.Common.{◌≡◌, refl, sym, ap, ◌∙◌, subst, ℕ, Bool, true, false, cond, ◌==◌, List, [], ◌∷◌, ◌++◌, Option, Some, None, is_none, map, inl, inr}
 use Rattle.std.specs.Option.{option_map_or}
@@ -18,11 +18,12 @@ pub record InQueue (x : Flush) (xs : List CapSnap) : Type 0 where
   pub tid : snap.tid ≡ Some x.tid
   pub follows : snap.context.seq ≡ x.follows
 
--- a flush of the file was sent with this number, and follows the other one
+-- the flush of a cap snap of the file was sent with this number, and follows the other one
 pub record WasSent (f t s : ℕ) (ss : List Flush) : Type 0 where
   pub flush : Flush
   pub there : Member flush ss
   pub file : flush.file ≡ f
+  pub snap : flush.snap ≡ true
   pub tid : flush.tid ≡ t
   pub follows : flush.follows ≡ s
 
@@ -31,7 +32,7 @@ abbrev pub IsSent : ℕ → List Flush → (ℕ → Bool) → CapSnap → Type 0
 IsSent f ss acked y = (t : ℕ) → y.tid ≡ Some t → WasSent f t y.context.seq ss × (acked t ≡ false)
 
 abbrev pub Stays : ℕ → List CapSnap → (ℕ → Bool) → Flush → Type 0
-Stays f xs acked x = x.file ≡ f → acked x.tid ≡ false → InQueue x xs
+Stays f xs acked x = x.file ≡ f → x.snap ≡ true → acked x.tid ≡ false → InQueue x xs
 
 pub record Waiting (f : ℕ) (xs : List CapSnap) (ss : List Flush) (acked : ℕ → Bool) : Type 0 where
   pub sent : Each (Stays f xs acked) ss
@@ -50,8 +51,8 @@ unsent_since t y none some = not_some (sym none ∙ some)
 pub waiting_made : (f : ℕ) (xs : List CapSnap) (ss : List Flush) (acked : ℕ → Bool) (y : CapSnap) → y.tid ≡ None → Waiting f xs ss acked
     → Waiting f (xs ++ y ∷ []) ss acked
 waiting_made f xs ss acked y new i = record {
-  sent = λ x m own free.
-      let j : InQueue x xs = i.sent x m own free in
+  sent = λ x m own snap free.
+      let j : InQueue x xs = i.sent x m own snap free in
       record { snap = j.snap; there = member_left j.snap xs (y ∷ []) j.there; tid = j.tid; follows = j.follows };
   queued = each_end (IsSent f ss acked) xs y i.queued (λ t is. absurd (unsent_since t y new is));
 }
@@ -77,8 +78,8 @@ each_map P F (x ∷ xs) all = each_cons P (F x) (map F xs) (all x (inl refl)) (e
 pub waiting_finished : (f : ℕ) (xs : List CapSnap) (ss : List Flush) (acked : ℕ → Bool) (size mtime : ℕ) → Waiting f xs ss acked
     → Waiting f (finished size mtime xs) ss acked
 waiting_finished f xs ss acked size mtime i = record {
-  sent = λ x m own free.
-      let j : InQueue x xs = i.sent x m own free in
+  sent = λ x m own snap free.
+      let j : InQueue x xs = i.sent x m own snap free in
       record {
         snap = fixed size mtime j.snap;
         there = member_map (fixed size mtime) j.snap xs j.there;
@@ -125,15 +126,15 @@ sent_each P n (x ∷ xs) all new = at (is_unsent x) new (λ own. sent_each P n x
     at true own rest = each_cons P (sent_as n x) xs (own x refl) (each_tail P x xs all)
     at false own rest = each_cons P x (with_first_sent n xs) (all x (inl refl)) (rest own)
 
-pub waiting_sent : (f n : ℕ) (xs : List CapSnap) (ss : List Flush) (acked : ℕ → Bool) (x : Flush) (z : CapSnap) → x.file ≡ f → x.tid ≡ n
+pub waiting_sent : (f n : ℕ) (xs : List CapSnap) (ss : List Flush) (acked : ℕ → Bool) (x : Flush) (z : CapSnap) → x.file ≡ f → x.snap ≡ true → x.tid ≡ n
     → acked n ≡ false → first_unsent xs ≡ Some z → z.context.seq ≡ x.follows → Waiting f xs ss acked
     → Waiting f (with_first_sent n xs) (ss ++ x ∷ []) acked
-waiting_sent f n xs ss acked x z own tid free first follows i = record {
+waiting_sent f n xs ss acked x z own snap tid free first follows i = record {
   sent = each_end (Stays f (with_first_sent n xs) acked) ss x
-      (λ y m is unacked.
-      let j : InQueue y xs = i.sent y m is unacked in
+      (λ y m is of_snap unacked.
+      let j : InQueue y xs = i.sent y m is of_snap unacked in
       record { snap = j.snap; there = sent_keeps n y.tid j.snap xs j.tid j.there; tid = j.tid; follows = j.follows })
-      (λ _ _. record { snap = sent_as n z; there = sent_first n z xs first; tid = ap (λ k. Some k) (sym tid); follows = follows });
+      (λ _ _ _. record { snap = sent_as n z; there = sent_first n z xs first; tid = ap (λ k. Some k) (sym tid); follows = follows });
   queued = sent_each (IsSent f (ss ++ x ∷ []) acked) n xs
       (λ y m t is. let j = i.queued y m t is in (was_more x j.0, j.1))
       (λ y is t same.
@@ -142,6 +143,7 @@ waiting_sent f n xs ss acked x z own tid free first follows i = record {
           flush = x;
           there = member_end x ss;
           file = own;
+          snap = snap;
           tid = tid ∙ now;
           follows = sym follows ∙ ap (λ (c : CapSnap). c.context.seq) (some_snap (sym first ∙ is));
         },
@@ -156,16 +158,16 @@ waiting_sent f n xs ss acked x z own tid free first follows i = record {
     some_snap e = cc
 
     was_more : {t s : ℕ} {fs : List Flush} (y : Flush) → WasSent f t s fs → WasSent f t s (fs ++ y ∷ [])
-    was_more y j = record { flush = j.flush; there = member_left j.flush _ (y ∷ []) j.there; file = j.file; tid = j.tid; follows = j.follows }
+    was_more y j = record { flush = j.flush; there = member_left j.flush _ (y ∷ []) j.there; file = j.file; snap = j.snap; tid = j.tid; follows = j.follows }
 
--- another file's is sent
-pub waiting_beside : (f : ℕ) (xs : List CapSnap) (ss : List Flush) (acked : ℕ → Bool) (x : Flush) → (x.file ≡ f → ⊥) → Waiting f xs ss acked
+-- a flush that is none of a cap snap of the file is sent
+pub waiting_beside : (f : ℕ) (xs : List CapSnap) (ss : List Flush) (acked : ℕ → Bool) (x : Flush) → (x.file ≡ f → x.snap ≡ true → ⊥) → Waiting f xs ss acked
     → Waiting f xs (ss ++ x ∷ []) acked
 waiting_beside f xs ss acked x other i = record {
-  sent = each_end (Stays f xs acked) ss x i.sent (λ own _. absurd (other own));
+  sent = each_end (Stays f xs acked) ss x i.sent (λ own snap _. absurd (other own snap));
   queued = λ y m t is.
       let j = i.queued y m t is in
-      (record { flush = j.0.flush; there = member_left j.0.flush ss (x ∷ []) j.0.there; file = j.0.file; tid = j.0.tid; follows = j.0.follows }, j.1);
+      (record { flush = j.0.flush; there = member_left j.0.flush ss (x ∷ []) j.0.there; file = j.0.file; snap = j.0.snap; tid = j.0.tid; follows = j.0.follows }, j.1);
 }
 
 -- One is acknowledged
@@ -192,23 +194,23 @@ left_each P t (x ∷ xs) all =
 abbrev pub now_acked : ℕ → (ℕ → Bool) → ℕ → Bool
 now_acked t acked n = cond (t == n) true (acked n)
 
-other_acked : (t n : ℕ) (acked : ℕ → Bool) → now_acked t acked n ≡ false → ((n == t) ≡ false) × (acked n ≡ false)
+pub other_acked : (t n : ℕ) (acked : ℕ → Bool) → now_acked t acked n ≡ false → ((n == t) ≡ false) × (acked n ≡ false)
 other_acked t n acked = at (t == n) refl
   where
     at : (b : Bool) → (t == n) ≡ b → cond b true (acked n) ≡ false → ((n == t) ≡ false) × (acked n ≡ false)
     at true is e = absurd (false≢true (sym e))
     at false is e = (ne_eqb n t (λ same. both_ways (t == n) is (eq-eqb t n (sym same))), e)
 
-still_free : (t n : ℕ) (acked : ℕ → Bool) → (n == t) ≡ false → acked n ≡ false → now_acked t acked n ≡ false
+pub still_free : (t n : ℕ) (acked : ℕ → Bool) → (n == t) ≡ false → acked n ≡ false → now_acked t acked n ≡ false
 still_free t n acked other free =
     cond_both (t == n) true (acked n) (λ b. b ≡ false) (λ same. absurd (both_ways (n == t) other (eq-eqb n t (sym (eqb-true t n same))))) (λ _. free)
 
 pub waiting_left : (f t : ℕ) (xs : List CapSnap) (ss : List Flush) (acked : ℕ → Bool) → IsInOrder xs → Waiting f xs ss acked
     → Waiting f (without_tid t xs) ss (now_acked t acked)
 waiting_left f t xs ss acked order i = record {
-  sent = λ x m own free.
+  sent = λ x m own snap free.
       let parts = other_acked t x.tid acked free in
-      let j : InQueue x xs = i.sent x m own parts.1 in
+      let j : InQueue x xs = i.sent x m own snap parts.1 in
       record {
         snap = j.snap;
         there = left_keeps t j.snap xs (sent_under t j.snap x.tid j.tid ∙ parts.0) j.there;

@@ -1,6 +1,6 @@
 -- After each event every file's queue has the flushes that were sent and aren't acknowledged.
 use Rattle.std.proofs.Common.{◌≡◌, refl, sym, subst, ℕ, ◌+◌, Bool, true, false, cond, not, ◌&&◌, ◌==◌, List, [], ◌∷◌, ◌++◌, Option, Some, None, length, arith}
-use Rattle.std.proofs.lemmas.Bool.{both_ways, cond_both, eqb-true, eq-eqb, false_from_ne_true}
+use Rattle.std.proofs.lemmas.Bool.{both_ways, cond_both, eqb-true, eq-eqb, false_from_ne_true, false≢true}
 use Rattle.cs_parts.specs.declared.references.Live.{Live}
 use Rattle.cs_capsnap.specs.declared.snap.CapSnap.{CapSnap as Snap}
 use Rattle.cs_capsnap.specs.CapSnaps as kept
@@ -13,18 +13,17 @@ use Rattle.cs_laws.specs.declared.answers.Entry.{Entry}
 use Rattle.cs_laws.specs.CapSnaps.{has_writer, makes}
 use Rattle.cs_laws.specs.Context.{first_told, path_context}
 use Rattle.cs_laws.specs.Tree.{file_path}
-use Rattle.cs_laws.specs.Events.{mode}
-use Rattle.cs_laws.specs.Flushes.{Flush, acked, first_mode, flush_snap}
-use Rattle.cs_laws.specs.History.{context, dirty, durable, fresh, live, queued, realms, sent, stand, to_client, to_server, writes}
+use Rattle.cs_laws.specs.Flushes.{Flush, acked, first_mode, flush_snap, written_meta}
+use Rattle.cs_laws.specs.History.{context, dirty, durable, fresh, live, mode, present, queued, realms, sent, stand, to_client, to_server, writes}
 use Rattle.cs_laws.specs.Image.{Write, size, mtime}
 use Rattle.cs_laws.specs.Journal.{entry}
 use Rattle.cs_laws.specs.References.{named, without_named}
 use Rattle.cs_theorems.specs.Flushes.{tids}
-use Rattle.cs_theorems.specs.Queues.{snaps, with_ended, written_meta}
+use Rattle.cs_theorems.specs.Queues.{snaps, with_ended}
 use Rattle.cs_theorems.specs.Runs.{IsRun}
 use Rattle.cs_theorems.proofs.Acks.{run_acked}
 use Rattle.cs_theorems.proofs.Chains.{flight, run_rise, tids_append}
-use Rattle.cs_theorems.proofs.Inversions.{FlushSnapsIs, flush_unknown, flush_none, flush_writing, flush_sent, flush_snaps_is, FirstIs, first_idle, first_cap, first_flush_ack, first_snap, first_is, EndIs, end_unknown, ended, end_is}
+use Rattle.cs_theorems.proofs.Inversions.{FlushIs, head_unknown, head_snap, head_clean, head_sent, flush_is, FlushSnapsIs, flush_unknown, flush_none, flush_writing, flush_sent, flush_snaps_is, FirstIs, first_idle, first_cap, first_flush_ack, first_snap, first_is, EndIs, end_unknown, ended, end_is}
 use Rattle.cs_theorems.proofs.Listed.{Member, member_left}
 use Rattle.cs_theorems.proofs.QueueAnswers.{queue_first, queue_order}
 use Rattle.cs_theorems.proofs.Queues.{IsFirst}
@@ -50,7 +49,7 @@ waiting_acked true f t xs ss was order i = waiting_left f t xs ss was order i
 waiting_acked false f t xs ss was order i = i
 
 -- the number of the next flush isn't acknowledged
-next_unacked : (p : ℕ) (h : List Entry) → IsRun p h → (f : ℕ) → acked h f (length (sent h) + 1) ≡ false
+pub next_unacked : (p : ℕ) (h : List Entry) → IsRun p h → (f : ℕ) → acked h f (length (sent h) + 1) ≡ false
 next_unacked p h run f =
     false_from_ne_true (acked h f (length (sent h) + 1)) (λ told.
     let n : ℕ = length (sent h) + 1 in
@@ -90,12 +89,20 @@ step_flush_snaps p h g x run (flush_sent q qs known there closed) i = λ f.
     cond_both (g == f) (kept.with_first_sent n (snaps h f)) (snaps h f) (λ ys. Waiting f ys (sent h ++ y ∷ []) (λ k. acked h f k))
     (λ own.
     let first : IsFirst (live h) (writes h f) q (snaps h f) = queue_first p h run f q qs (subst (λ k. queued h k ≡ q ∷ qs) (eqb-true g f own) there) in
-    waiting_sent f n (snaps h f) (sent h) (λ k. acked h f k) y first.snap (eqb-true g f own) refl (next_unacked p h run f) first.is first.seen.follows (i f))
-    (λ other. waiting_beside f (snaps h f) (sent h) (λ k. acked h f k) y (λ own. both_ways (g == f) other (eq-eqb g f own)) (i f))
+    waiting_sent f n (snaps h f) (sent h) (λ k. acked h f k) y first.snap (eqb-true g f own) refl refl (next_unacked p h run f) first.is first.seen.follows (i f))
+    (λ other. waiting_beside f (snaps h f) (sent h) (λ k. acked h f k) y (λ own _. both_ways (g == f) other (eq-eqb g f own)) (i f))
+
+step_flush : (p : ℕ) (h : List Entry) (g : ℕ) (x : Answer) → FlushIs h g x → AllWaiting h → AllWaiting (record { event = e.Flush g; answer = x } ∷ h)
+step_flush p h g x head_unknown i = i
+step_flush p h g x head_snap i = i
+step_flush p h g x head_clean i = i
+step_flush p h g x (head_sent known free changed) i = λ f.
+    waiting_beside f (snaps h f) (sent h) (λ k. acked h f k) (present h g (length (sent h) + 1)) (λ _ snap. false≢true snap) (i f)
 
 waiting_step : (p : ℕ) (h : List Entry) (x : Event) → IsRun p h → AllWaiting h → AllWaiting (entry p h x ∷ h)
 waiting_step p h (e.End c name) run i = step_end h c name _ (end_is h c name) i
 waiting_step p h e.ToClient run i = step_client p h _ run (first_is h) i
+waiting_step p h (e.Flush g) run i = step_flush p h g _ (flush_is h g) i
 waiting_step p h (e.FlushSnaps g) run i = step_flush_snaps p h g _ run (flush_snaps_is h g) i
 waiting_step p h _ run i = i
 

@@ -15,14 +15,15 @@ use Rattle.cs_laws.specs.declared.answers.Answer.TheVariants as a
 use Rattle.cs_laws.specs.declared.answers.Entry.{Entry}
 use Rattle.cs_laws.specs.Answers.{answer}
 use Rattle.cs_laws.specs.CapSnaps.{CapSnap, has_writer, is_open, makes}
-use Rattle.cs_laws.specs.Events.{mode, setup_file}
-use Rattle.cs_laws.specs.History.{context, dirty, live, queued, writes}
+use Rattle.cs_laws.specs.Events.{setup_file}
+use Rattle.cs_laws.specs.History.{context, dirty, live, mode, queued, writes}
 use Rattle.cs_laws.specs.Image.{Write, size, mtime}
 use Rattle.cs_laws.specs.Journal.{entry}
 use Rattle.cs_laws.specs.Operations.{begun_under}
 use Rattle.cs_laws.specs.References.{named, without_named}
 use Rattle.cs_theorems.specs.Contexts.{HadContext}
-use Rattle.cs_theorems.specs.Queues.{snaps, snaps_then, makes_snap, with_ended, written_meta}
+use Rattle.cs_laws.specs.Flushes.{written_meta}
+use Rattle.cs_theorems.specs.Queues.{snaps, snaps_then, makes_snap, with_ended}
 use Rattle.cs_theorems.specs.Runs.{IsRun}
 use Rattle.cs_theorems.specs.Snapshots.{BeganUnderOne}
 use Rattle.cs_theorems.proofs.Blank.{AllBlank, makes_none, no_writer, none_live}

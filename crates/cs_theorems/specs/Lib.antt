@@ -14,5 +14,6 @@ pub mod Refusals
 pub mod Runs
 pub mod Snapshots
 pub mod Told
+pub mod Unacked
 pub mod Underway
 pub mod Uses

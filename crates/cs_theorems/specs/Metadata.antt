@@ -6,7 +6,7 @@ use Rattle.cs_laws.specs.History.{stand, writes}
 use Rattle.cs_laws.specs.Metadata.{meta_at}
 use Rattle.cs_laws.specs.Owed.{mode_at, owed}
 use Rattle.cs_laws.specs.Shown.{writes_at}
-use Rattle.cs_theorems.specs.Queues.{written_meta}
+use Rattle.cs_laws.specs.Flushes.{written_meta}
 
 -- at each state that isn't owed a file's metadata is that of the state's writes, with the mode that the file had then
 abbrev pub MetadataIsOfTheWrites : List Entry → Type 0

@@ -1,5 +1,5 @@
--- The flushes of a file that the server recorded, as they came.
-use Rattle.std.specs.Prelude.{ℕ, ◌<◌, ◌==◌, List, [], ◌∷◌, ◌++◌, AllPairs, if◌then◌else◌}
+-- The flushes of a file that the server recorded: of each number that one followed, the metadata of the last one that did.
+use Rattle.std.specs.Prelude.{ℕ, ◌<◌, ◌==◌, List, [], ◌∷◌, AllPairs, nat_lt, if◌then◌else◌}
 use Rattle.cs_ids.specs.declared.objects.FileMeta.{FileMeta}
 use Rattle.cs_laws.specs.declared.events.Event.{Event}
 use Rattle.cs_laws.specs.declared.events.Event.TheVariants as events
@@ -10,24 +10,31 @@ use Rattle.cs_laws.specs.declared.messages.Message.{Message}
 use Rattle.cs_laws.specs.declared.messages.Message.TheVariants as messages
 use Rattle.cs_laws.specs.History.{to_server}
 
--- what a message says of a file's flush: which number it follows, and the metadata
-abbrev pub flush_of : ℕ → Message → List (ℕ × FileMeta)
-flush_of f (messages.FlushSnap g tid follows meta) = if g == f then (follows, meta) ∷ [] else []
-flush_of f _ = []
+-- each number is smaller than all behind it
+abbrev pub AreRising : List (ℕ × FileMeta) → Type 0
+AreRising = AllPairs (λ x y. x.0 < y.0)
 
-abbrev pub first_flush : ℕ → List Message → List (ℕ × FileMeta)
-first_flush f [] = []
-first_flush f (m ∷ q) = flush_of f m
+-- the metadata under a number takes the place of what stands under it, or else goes to its place in the order of the numbers
+abbrev pub with_told : ℕ × FileMeta → List (ℕ × FileMeta) → List (ℕ × FileMeta)
+with_told x [] = x ∷ []
+with_told x (y ∷ ys) = if nat_lt y.0 x.0 then y ∷ with_told x ys else if y.0 == x.0 then x ∷ ys else x ∷ y ∷ ys
+
+-- a message with a flush of the file is recorded
+abbrev pub with_message : ℕ → Message → List (ℕ × FileMeta) → List (ℕ × FileMeta)
+with_message f (messages.Flush g tid follows meta) xs = if g == f then with_told (follows, meta) xs else xs
+with_message f (messages.FlushSnap g tid follows meta) xs = if g == f then with_told (follows, meta) xs else xs
+with_message f _ xs = xs
+
+-- the first of these messages is
+abbrev pub with_first : ℕ → List Message → List (ℕ × FileMeta) → List (ℕ × FileMeta)
+with_first f [] xs = xs
+with_first f (m ∷ q) xs = with_message f m xs
 
 -- q: the messages to the server before the entry
 abbrev pub told_then : Event → Answer → ℕ → List Message → List (ℕ × FileMeta) → List (ℕ × FileMeta)
-told_then events.ToMds (answers.Flushed g tid) f q xs = xs ++ first_flush f q
+told_then events.ToMds (answers.Flushed g tid) f q xs = with_first f q xs
 told_then _ _ f q xs = xs
 
 abbrev pub told : List Entry → ℕ → List (ℕ × FileMeta)
 told [] f = []
 told (x ∷ h) f = told_then x.event x.answer f (to_server h) (told h f)
-
--- each follows a smaller number than all behind it
-abbrev pub AreRising : List (ℕ × FileMeta) → Type 0
-AreRising = AllPairs (λ x y. x.0 < y.0)

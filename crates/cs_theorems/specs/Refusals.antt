@@ -1,9 +1,9 @@
 -- Two histories that say the same of all but the journal.
 use Rattle.std.specs.Prelude.{◌≡◌, ℕ, List}
 use Rattle.cs_laws.specs.declared.answers.Entry.{Entry}
-use Rattle.cs_laws.specs.Events.{setup_file, files, begun, clock, mode}
+use Rattle.cs_laws.specs.Events.{setup_file, files, begun, clock}
 use Rattle.cs_laws.specs.Tree.{directories, file_path, path, setup_dir}
-use Rattle.cs_laws.specs.History.{client, server, to_client, to_server, durable, fresh, realms, context, live, writes, dirty, queued, sent}
+use Rattle.cs_laws.specs.History.{client, server, to_client, to_server, durable, fresh, realms, context, live, writes, mode, dirty, queued, sent}
 use Rattle.cs_laws.specs.Operations.{begun_under, operations_drawn, applied}
 
 pub record IsAsBefore (h new : List Entry) : Type 0 where

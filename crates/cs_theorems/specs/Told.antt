@@ -1,22 +1,9 @@
--- A file's standing flushes as the server's table keeps them: of each the number that it follows, and the metadata.
-use Rattle.std.specs.Prelude.{ℕ, ◌==◌, Bool, List, [], ◌∷◌, Option, Some, None, unwrap_or, if◌then◌else◌}
-use Rattle.std.specs.List.{flat_map}
+-- A file's metadata at a state, by the server's table of it: pairs of a number and the metadata under it.
+use Rattle.std.specs.Prelude.{ℕ, Bool, List, [], ◌∷◌, Option, Some, None, unwrap_or, if◌then◌else◌}
 use Rattle.cs_ids.specs.declared.objects.FileMeta.{FileMeta}
 use Rattle.cs_laws.specs.declared.objects.At.{At}
-use Rattle.cs_laws.specs.declared.records.Record.{Record}
-use Rattle.cs_laws.specs.declared.records.RecordBody.{RecordBody}
-use Rattle.cs_laws.specs.declared.records.RecordBody.TheVariants as bodies
 use Rattle.cs_laws.specs.Metadata.{no_meta}
 use Rattle.cs_laws.specs.Shown.{is_before}
-
--- what the table has of a record
-abbrev pub told_of : ℕ → RecordBody → List (ℕ × FileMeta)
-told_of f (bodies.Flush snap g tid follows meta) = if g == f then (follows, meta) ∷ [] else []
-told_of f _ = []
-
--- the table of these records
-abbrev pub told_in : ℕ → List Record → List (ℕ × FileMeta)
-told_in f rs = flat_map (λ r. told_of f r.body) rs
 
 -- the metadata that stands later, or, where there is none, this one, if it is of the time before the state
 abbrev pub last_of : Option FileMeta → Bool → FileMeta → Option FileMeta

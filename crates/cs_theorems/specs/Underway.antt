@@ -11,10 +11,12 @@ ForClient Known (messages.Cap f seq bits end) = Known f
 ForClient Known (messages.FlushAck f tid) = Known f
 ForClient Known (messages.Snap number d realms) = Unit {0}
 ForClient Known (messages.CapAck f seq bits) = ⊥
+ForClient Known (messages.Flush f tid follows meta) = ⊥
 ForClient Known (messages.FlushSnap f tid follows meta) = ⊥
 
 abbrev pub ForServer : (ℕ → Type 0) → Message → Type 0
 ForServer Known (messages.CapAck f seq bits) = Known f
+ForServer Known (messages.Flush f tid follows meta) = Known f
 ForServer Known (messages.FlushSnap f tid follows meta) = Known f
 ForServer Known _ = ⊥
 

@@ -5,7 +5,7 @@ ghost use Rattle.cs_laws.specs.Journal.{journal};
 ghost use Rattle.cs_theorems.specs.Flushes.{AckedStandOnce, FlushesAreNumbered, FlushesStandOnce};
 
 /// The standing flushes of a file have numbers that rise strictly, and each flush that the client was
-/// told is durable stands exactly once.
+/// told is durable stands exactly once; so does each flush of a file's metadata that such a one retires.
 pub fn flushes_stand_once()
     ensures { (pages : ℕ) (es : List Event) → FlushesStandOnce (journal pages es) }
 {}

@@ -5,8 +5,9 @@ ghost use Rattle.cs_laws.specs.Journal.{journal};
 ghost use Rattle.cs_theorems.specs.References.{LiveWereIssued, NumbersAreDrawnOnce};
 ghost use Rattle.cs_theorems.specs.Uses.{UsesAreIssued};
 
-/// Each write is on a reference that lives then, of its caller or of caller 0, that has the right to
-/// write, and all whose bits were issued when it began.
+/// Each write, each read and each change of mode that is answered as done is on a reference that lives
+/// then, of its caller or of caller 0, that has the right to it, and all whose bits were issued when it
+/// began.
 pub fn uses_are_issued()
     ensures { (pages : ℕ) (es : List Event) → UsesAreIssued (journal pages es) }
 {}

@@ -1,5 +1,5 @@
 -- The messages that are delivered are of known files.
-use Rattle.std.proofs.Common.{◌≡◌, ◌∙◌, sym, ap, refl, ℕ, true, false, List, [], ◌∷◌, Some, None, inl, drop, length, ◌<◌, subst, slice_index_or, arith}
+use Rattle.std.proofs.Common.{◌≡◌, sym, ap, ℕ, true, false, List, [], ◌∷◌, Some, None, inl, drop, length, ◌<◌, subst, slice_index_or, arith}
 use Rattle.std.specs.Ordering.{nat_cmp}
 use Rattle.std.specs.BTreeMap.{get}
 use Rattle.cs_laws.specs.declared.answers.Entry.{Entry}

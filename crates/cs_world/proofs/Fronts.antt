@@ -1,5 +1,5 @@
 -- Fronts of the operations that an event brings.
-use Rattle.std.proofs.Common.{◌≡◌, refl, sym, subst, ℕ, List, [], ◌∷◌, ◌++◌, reverse}
+use Rattle.std.proofs.Common.{◌≡◌, refl, sym, subst, ℕ, List, [], ◌∷◌, ◌++◌, reverse, Result, Ok, Err, OnErr}
 use Rattle.std.proofs.lemmas.List.{append-nil}
 use Rattle.cs_laws.specs.declared.events.Event.{Event}
 use Rattle.cs_laws.specs.declared.answers.Answer.{Answer}
@@ -11,6 +11,11 @@ use Rattle.cs_laws.specs.Operations.{applied, brought, operations_drawn}
 use Rattle.cs_theorems.specs.Runs.{IsRun}
 use Rattle.cs_theorems.proofs.Agreeing.{reads_back}
 use Rattle.cs_world.specs.Storing.{AppliesFront, brings}
+
+-- what holds anyway holds after a fault
+pub any_err : {T E Q : Type 0} (r : Result T E) → Q → OnErr r Q
+any_err (Ok x) q = tt
+any_err (Err e) q = q
 
 -- nothing was applied
 pub front_none : (ops old : List ObjOp) → AppliesFront ops old old

@@ -11,7 +11,6 @@ use Rattle.cs_laws.specs.declared.objects.ObjOp.{ObjOp}
 use Rattle.cs_laws.specs.Answers.{bytes_from}
 use Rattle.cs_laws.specs.Objects.{object_byte}
 use Rattle.cs_world.specs.Shown.{file_byte}
-use Rattle.cs_world.proofs.Pieces.{in_object}
 
 pub length_bytes : (b : ℕ → ℕ) (off n : ℕ) → length (bytes_from b off n) ≡ n
 length_bytes b off zero = refl
@@ -71,6 +70,10 @@ piece_byte a f ops p i placed within below =
     let place : (offset_of p + i) % 65536 ≡ p.obj_off + i = omega (arith, placed.same_offset, within, below) in
     rw (index, place) refl
 
+-- a piece in one object ends where the object does, or before
+in_object : (p : Piece) → HasPlaces p → LiesInOne OBJECT_SIZE p → p.obj_off + p.len ≤ 65536
+in_object p placed within = omega (arith, placed.in_object, placed.same_offset, within.1, within.2)
+
 -- the pieces that are left when this many bytes of the range were read
 pub record AreLeft (off count got : ℕ) (ps : List Piece) : Type 0 where
   pub covered : CoversOnce (off + got) (off + count) ps
@@ -118,3 +121,9 @@ one_more_read a f off count got ops p ps bytes part left before now =
     (λ i below. piece_byte a f ops p i placed fits below) in
     let here : part ≡ bytes_from (file_byte a f ops) (off + got) p.len = rw start at (now ∙ sym moved) in
     rw (before, here) (sym (bytes_append (file_byte a f ops) off got p.len))
+
+-- more bytes behind them leave those in front
+pub front_read : (b : ℕ → ℕ) (off n : ℕ) (base rest new : List ℕ) → base ≡ bytes_from b off n → new ≡ base ++ rest → take n new ≡ bytes_from b off n
+front_read b off n base rest new is grown =
+    let long : n ≡ length base = sym (ap length is ∙ length_bytes b off n) in
+    rw (grown, long) (take-append_seam base rest) ∙ is

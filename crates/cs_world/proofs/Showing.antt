@@ -1,10 +1,12 @@
 -- What is shown of a file, by the tables and by the store.
-use Rattle.std.proofs.Common.{◌≡◌, ◌∙◌, refl, sym, ap, ℕ, zero, suc, ◌+◌, ◌<◌, ◌≤◌, ◌&&◌, Bool, true, false, List, ◌∷◌, nat_lt, nat_le, cond, Option, Some, None, is_some, ◌==◌, ◌++◌, arith}
+use Rattle.std.proofs.Common.{◌≡◌, ◌∙◌, refl, sym, ap, ℕ, zero, suc, ◌+◌, ◌<◌, ◌≤◌, ◌&&◌, Bool, true, false, List, [], ◌∷◌, nat_lt, nat_le, cond, Option, Some, None, is_some, ◌==◌, ◌++◌, arith}
 use Rattle.std.specs.Ordering.{nat_cmp}
 use Rattle.std.specs.BTreeMap.{get}
 use Rattle.std.proofs.lemmas.Bool.{and_parts, cond-false, cond-true, cond_both, leb-true, ltb-true}
 use Rattle.std.specs.List.{list_any}
 use Rattle.cs_ids.specs.declared.objects.FileMeta.{FileMeta}
+use Rattle.cs_inode.specs.Inodes as inodes
+use Rattle.cs_inode.specs.Inodes.{has_any}
 use Rattle.cs_laws.specs.declared.events.Event.TheVariants as events
 use Rattle.cs_laws.specs.declared.answers.Answer.{Answer}
 use Rattle.cs_laws.specs.declared.answers.Answer.TheVariants as answers
@@ -15,7 +17,7 @@ use Rattle.cs_laws.specs.declared.objects.ObjOp.{ObjOp}
 use Rattle.cs_laws.specs.Answers.{answer_show, bytes_from, covers_file, is_gone, shown, standing_context, stands}
 use Rattle.cs_laws.specs.Events.{setup_file}
 use Rattle.cs_laws.specs.Fits.{greatest_end, is_shown, is_state, most_shown}
-use Rattle.cs_laws.specs.History.{context, live, stand, writes}
+use Rattle.cs_laws.specs.History.{live, stand, writes}
 use Rattle.cs_laws.specs.Image as images
 use Rattle.cs_laws.specs.Metadata.{meta_at}
 use Rattle.cs_laws.specs.Operations.{applied}
@@ -28,30 +30,31 @@ use Rattle.cs_records.specs.Records.{all}
 use Rattle.cs_theorems.specs.Runs.{IsRun}
 use Rattle.cs_theorems.proofs.Agreeing.{run_holds}
 use Rattle.cs_theorems.proofs.Ends.{states_end}
-use Rattle.cs_theorems.proofs.Owing.{owed_head, owed_snap}
-use Rattle.cs_theorems.proofs.Recorded.{told_stands}
+use Rattle.cs_theorems.proofs.Owing.{owed_head, owed_snap, writer_counted}
+use Rattle.cs_theorems.proofs.Recorded.{last_told_is}
 use Rattle.cs_theorems.proofs.Sizes.{meta_is}
 use Rattle.cs_theorems.proofs.Covering.{covers_by, stands_dir}
-use Rattle.cs_theorems.proofs.Told.{last_told_is}
-use Rattle.cs_theorems.specs.Recorded.{told}
+use Rattle.cs_theorems.specs.Queues.{snaps}
+use Rattle.cs_theorems.specs.Unacked.{unacked}
 use Rattle.cs_theorems.specs.Told.{last_told}
 use Rattle.cs_world.specs.declared.state.State.{State}
 use Rattle.cs_world.specs.declared.state.FileState.{FileState}
 use Rattle.cs_world.specs.declared.shows.Standing.{Standing}
 use Rattle.cs_world.specs.declared.shows.Standing.TheVariants as standing
 use Rattle.cs_world.specs.Storing.{calls_store}
-use Rattle.cs_world.specs.Shown.{file_byte, is_owed, shown_count, standing_in, standing_of}
-use Rattle.cs_world.specs.Tables.{Refines, row}
+use Rattle.cs_world.specs.Shown.{file_byte, shown_count, snapshot_of, standing_in, standing_of}
+use Rattle.cs_world.specs.Tables.{Refines, inode}
 use Rattle.cs_world.proofs.Rows.{row_is, row_known}
 
--- The tables tell what is owed, and the metadata
+-- The tables tell what is owed
 
-pub owed_is : (p : ℕ) (h : List Entry) (f : ℕ) (a : At) → IsRun p h → setup_file h f ≡ true → is_owed (row h f) (live h) f a ≡ owed h f a
-owed_is p h f at.Head run known = sym (owed_head p h run f known)
-owed_is p h f (at.Snap s) run known = sym (owed_snap p h run f s known)
+any_is : {A : Type 0} (xs : List A) → list_any (λ (x : A). true) xs ≡ has_any xs
+any_is [] = refl
+any_is (x ∷ xs) = refl
 
-pub meta_told : (p : ℕ) (h : List Entry) (f : ℕ) (a : At) → IsRun p h → last_told a (told h f) ≡ meta_at f a (stand h)
-meta_told p h f a run = ap (λ xs. last_told a xs) (told_stands h f) ∙ sym (last_told_is p h run f a)
+pub owed_is : (p : ℕ) (h : List Entry) (f : ℕ) (a : At) → IsRun p h → setup_file h f ≡ true → owed h f a ≡ inodes.owed (snapshot_of a) (inode h f)
+owed_is p h f at.Head run known = owed_head p h run f known ∙ rw (writer_counted f (live h), any_is (snaps h f), any_is (unacked h f)) refl
+owed_is p h f (at.Snap s) run known = owed_snap p h run f s known
 
 -- The store has the bytes
 
@@ -162,11 +165,10 @@ meta_small p h f a run free = rw (meta_is p h run f a free) (states_end p h run 
 -- The same of the tables of a state
 
 pub owes : (h : List Entry) (s : State) (f : ℕ) (a : At) (r : FileState) → Refines h s → IsRun s.pages h → get nat_cmp s.files f ≡ Some r → (b : Bool)
-    → is_owed r s.refs.live f a ≡ b → owed h f a ≡ b
+    → inodes.owed (snapshot_of a) r.inode ≡ b → owed h f a ≡ b
 owes h s f a r t run has b is =
-    let now : is_owed (row h f) (live h) f a ≡ b = rw (row_is h s f r t has, t.live) at is in
-    sym (owed_is s.pages h f a run (row_known h s f r t has)) ∙ now
+    owed_is s.pages h f a run (row_known h s f r t has) ∙ (ap (λ (q : FileState). inodes.owed (snapshot_of a) q.inode) (sym (row_is h s f r t has)) ∙ is)
 
 pub told_meta : (h : List Entry) (s : State) (f : ℕ) (a : At) (r : FileState) (meta : FileMeta) → Refines h s → IsRun s.pages h → get nat_cmp s.files f ≡ Some r
     → meta ≡ last_told a r.told → meta ≡ meta_at f a (stand h)
-told_meta h s f a r meta t run has is = is ∙ (ap (λ q. last_told a q.told) (row_is h s f r t has) ∙ meta_told s.pages h f a run)
+told_meta h s f a r meta t run has is = is ∙ (ap (λ (q : FileState). last_told a q.told) (row_is h s f r t has) ∙ last_told_is s.pages h run f a)

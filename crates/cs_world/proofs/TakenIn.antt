@@ -1,5 +1,5 @@
 -- Realm records that are taken in one after the other.
-use Rattle.std.proofs.Common.{◌≡◌, ◌∙◌, refl, sym, ap, subst, ℕ, zero, suc, ◌+◌, ◌<◌, ◌≤◌, List, [], ◌∷◌, Option, Some, None, length, drop, slice_get, add-one, arith}
+use Rattle.std.proofs.Common.{◌≡◌, ◌∙◌, refl, sym, ap, subst, ℕ, zero, suc, ◌+◌, ◌<◌, ◌≤◌, List, [], ◌∷◌, Some, None, length, drop, slice_get, add-one, arith}
 use Rattle.cs_snapctx.specs.declared.realm.RealmRecord.{RealmRecord}
 use Rattle.cs_snapctx.specs.Records.{missing_parent, with_record, with_records}
 use Rattle.cs_theorems.specs.Realms.{ParentsAreKnown}

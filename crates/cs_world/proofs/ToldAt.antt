@@ -1,14 +1,19 @@
--- The last flush of a front, where those of the front are the ones of the time before a state.
-use Rattle.std.proofs.Common.{◌≡◌, ◌∙◌, refl, sym, ap, ℕ, zero, suc, ◌-◌, ◌≤◌, true, false, List, [], ◌∷◌, length, take, Option, Some, None, arith, nat_lt, slice_get, slice_index_or, unwrap_or, ⊎_elim}
-use Rattle.std.specs.List.Sorted.{IsPartitionPoint, IsPartitionedBy}
+-- The last flush of a front, where those of the front are the ones of the time before a state; and the place of a number.
+use Rattle.std.proofs.Common.{◌≡◌, ◌∙◌, refl, sym, ap, ℕ, zero, suc, ◌-◌, ◌≤◌, true, false, List, [], ◌∷◌, length, take, Option, Some, None, Ok, Err, arith, get_or, nat_lt, slice_get, slice_index_or, unwrap_or, ⊎_elim}
+use Rattle.std.specs.List.{insert}
+use Rattle.std.specs.List.Sorted.{IsBinarySearchResult, IsNonDecreasingBy, IsPartitionPoint, IsPartitionedBy}
+use Rattle.std.specs.Ordering.{nat_cmp, ordering_index}
+use Rattle.std.proofs.lemmas.Bool.Decides.{nat_tests}
+use Rattle.std.proofs.lemmas.Cmp.{ranked}
 use Rattle.std.proofs.lemmas.List.Sorted.{IsPartitionedBy-ltb}
 use Rattle.std.proofs.Math.Nat.{eq-or-lt_of_le}
 use Rattle.cs_ids.specs.declared.objects.FileMeta.{FileMeta}
 use Rattle.cs_laws.specs.declared.objects.At.{At}
 use Rattle.cs_laws.specs.Metadata.{no_meta}
 use Rattle.cs_laws.specs.Shown.{is_before}
-use Rattle.cs_theorems.specs.Recorded.{AreRising}
+use Rattle.cs_theorems.specs.Recorded.{AreRising, with_told}
 use Rattle.cs_theorems.specs.Told.{last_told, last_before, last_of}
+use Rattle.cs_theorems.proofs.ToldPlaces.{with_inserted}
 
 -- the metadata of the last flush
 abbrev last_meta : List (ℕ × FileMeta) → Option FileMeta
@@ -74,3 +79,24 @@ last_told_none a n xs few cut e = sym (told_front a n xs few cut ∙ ap (λ o. u
 pub rising_parts : (s : ℕ) (xs : List (ℕ × FileMeta)) → AreRising xs → IsPartitionedBy (λ x. nat_lt x.0 s) xs
 rising_parts s xs rising = IsPartitionedBy-ltb (λ (x : ℕ × FileMeta). x.0) xs s
     (λ i j d below inside. ⊎_elim (λ same. omega (arith, ap (λ k. (slice_index_or xs k d).0) same)) (λ less. omega (arith, rising i j d less inside)) (eq-or-lt_of_le below))
+
+-- A search for a number
+
+-- the comparisons with it rise along the table, as a search asks
+comparisons_rise : (s : ℕ) (xs : List (ℕ × FileMeta)) → AreRising xs → IsNonDecreasingBy (λ x. ordering_index (nat_cmp x.0 s)) xs
+comparisons_rise s xs rising i j d low within = ⊎_elim (λ same. rw same (omega arith)) (λ less. let up = rising i j d less within in grind (arith, nat_tests)) (eq-or-lt_of_le low)
+
+-- it ends at the number
+pub found_there : (s k : ℕ) (xs : List (ℕ × FileMeta)) (d : ℕ × FileMeta) → IsBinarySearchResult (λ x. nat_cmp x.0 s) xs (Ok k) → (get_or xs k d).0 ≡ s
+found_there s k xs d at = ranked (get_or xs k d).0 s _ (sym (at d))
+
+-- or at the place for it
+pub inserted_there : (x : ℕ × FileMeta) (k : ℕ) (xs : List (ℕ × FileMeta)) → AreRising xs → k ≤ length xs
+    → IsBinarySearchResult (λ y. nat_cmp y.0 x.0) xs (Err k) → insert xs k x ≡ with_told x xs
+inserted_there x k xs rising within parted =
+    let parts = parted (comparisons_rise x.0 xs rising) in
+    with_inserted x xs k (record {
+      within = within;
+      smaller = λ j d low. ranked (get_or xs j d).0 x.0 _ (sym (parts.0 j d (omega arith) low));
+      greater = λ j d low inside. ranked (get_or xs j d).0 x.0 _ (sym (parts.1 j d low inside));
+    })

@@ -1,37 +1,19 @@
 -- What is shown of a file, by the tables and the store.
-use Rattle.std.specs.Prelude.{ℕ, ◌-◌, ◌/◌, ◌%◌, ◌==◌, ◌||◌, not, min, Bool, is_some, List, Option, Some, None, nat_lt, slice_get, if◌then◌else◌}
+use Rattle.std.specs.Prelude.{ℕ, ◌-◌, ◌/◌, ◌%◌, ◌==◌, min, List, Option, Some, None, if◌then◌else◌}
 use Rattle.std.specs.List.{list_any}
-use Rattle.cs_bits.specs.Bits.{is_empty}
-use Rattle.cs_parts.specs.declared.references.Live.{Live}
-use Rattle.cs_capsnap.specs.declared.snap.CapSnap.{CapSnap}
-use Rattle.cs_capsnap.specs.CapSnaps.{first_follows, has_unacked_below, unacked}
 use Rattle.cs_laws.specs.declared.objects.At.{At}
 use Rattle.cs_laws.specs.declared.objects.At.TheVariants as at
 use Rattle.cs_laws.specs.declared.objects.ObjOp.{ObjOp}
-use Rattle.cs_laws.specs.CapSnaps.{has_writer}
 use Rattle.cs_laws.specs.declared.records.Record.{Record}
 use Rattle.cs_laws.specs.Objects.{object_byte}
 use Rattle.cs_laws.specs.Standing.{dir_of, is_removed}
 use Rattle.cs_world.specs.declared.shows.Standing.{Standing}
 use Rattle.cs_world.specs.declared.shows.Standing.TheVariants as standing
-use Rattle.cs_world.specs.declared.state.FileState.{FileState}
 
--- a cap snap, sent or not, isn't acknowledged
-abbrev pub is_any_unacked : List CapSnap → Bool
-is_any_unacked xs = is_some (first_follows xs) || is_some (slice_get (unacked xs) 0)
-
--- its metadata is dirty, or a cap snap isn't acknowledged
-abbrev pub is_unsettled : FileState → Bool
-is_unsettled r = not (is_empty r.dirty) || is_any_unacked r.snaps
-
--- what the file with this row is at present may be with the client, or on its way
-abbrev pub is_owed_at_present : FileState → List Live → ℕ → Bool
-is_owed_at_present r rs f = has_writer f rs || is_unsettled r
-
--- what the file with this row is at the state may be on its way, or still with the client
-abbrev pub is_owed : FileState → List Live → ℕ → At → Bool
-is_owed r rs f at.Head = is_owed_at_present r rs f
-is_owed r rs f (at.Snap s) = nat_lt r.context.seq s || has_unacked_below s r.snaps
+-- the snapshot of a state, or None for the present one
+abbrev pub snapshot_of : At → Option ℕ
+snapshot_of at.Head = None
+snapshot_of (at.Snap s) = Some s
 
 -- whether the server has the state of a file; rs: the records, up: the directories that hold the file
 abbrev pub standing_in : List Record → List ℕ → ℕ → Option ℕ → Standing

@@ -1,29 +1,30 @@
 -- How the tables of a world stand for its history.
-use Rattle.std.specs.Prelude.{◌≡◌, ℕ, ◌<◌, ◌||◌, Bool, is_some, List, [], ◌∷◌, if◌then◌else◌, Option, Some, None, reverse, length, ◌==◌, max}
+use Rattle.std.specs.Prelude.{◌≡◌, ℕ, ◌<◌, ◌||◌, Bool, is_some, List, [], ◌∷◌, if◌then◌else◌, Option, Some, None, reverse, length, ◌==◌}
 use Rattle.std.specs.Ordering.{nat_cmp}
 use Rattle.std.specs.BTreeMap.{get, BTreeMap}
-use Rattle.cs_ids.specs.declared.objects.FileMeta.{FileMeta}
 use Rattle.cs_bits.specs.declared.Caps.{Caps}
-use Rattle.cs_bits.specs.Bits.{no_caps, union, file_write}
-use Rattle.cs_parts.specs.Capabilities.{no_client_caps, no_server_caps, acknowledged}
+use Rattle.cs_parts.specs.Capabilities.{no_server_caps}
 use Rattle.cs_caps.specs.declared.client.Done.{Done}
-use Rattle.cs_caps.specs.declared.client.Done.TheVariants as done
-use Rattle.cs_caps.specs.Client.{completion}
+use Rattle.cs_caps.specs.Client.{completed}
+use Rattle.cs_inode.specs.Answers.{check_answer}
+use Rattle.cs_inode.specs.Inodes.{FileInode, new_inode}
 use Rattle.cs_laws.specs.declared.events.Event.{Event}
 use Rattle.cs_laws.specs.declared.answers.Answer.{Answer}
 use Rattle.cs_laws.specs.declared.answers.Entry.{Entry}
 use Rattle.cs_laws.specs.Answers.{answer}
-use Rattle.cs_laws.specs.Events.{setup_file, files, begun, clock, mode}
+use Rattle.cs_laws.specs.Events.{setup_file, files, begun, clock}
+use Rattle.cs_laws.specs.Flushes.{written_meta}
 use Rattle.cs_snapctx.specs.Context.{Context}
 use Rattle.cs_laws.specs.Tree.{directories, home, is_directory, path}
 use Rattle.cs_tree.specs.declared.directories.Directory.{Directory}
 use Rattle.cs_tree.specs.Directories.{has_directory, inos, path_of}
-use Rattle.cs_laws.specs.History.{client, context, server, to_client, to_server, realms, durable, fresh, live, writes, dirty, sent}
+use Rattle.cs_laws.specs.History.{client, context, server, to_client, to_server, realms, durable, fresh, live, writes, mode, dirty, sent}
 use Rattle.cs_laws.specs.Operations.{operations_drawn}
-use Rattle.cs_refs.specs.Table.{begun_of}
-use Rattle.cs_theorems.specs.Queues.{snaps, written_meta}
+use Rattle.cs_refs.specs.Table.{begun_of, writers_of}
+use Rattle.cs_theorems.specs.Queues.{snaps}
 use Rattle.cs_theorems.specs.Runs.{IsRun}
 use Rattle.cs_theorems.specs.Recorded.{told}
+use Rattle.cs_theorems.specs.Unacked.{unacked}
 use Rattle.cs_world.specs.declared.state.State.{State}
 use Rattle.cs_world.specs.declared.state.FileState.{FileState}
 
@@ -31,16 +32,24 @@ use Rattle.cs_world.specs.declared.state.FileState.{FileState}
 abbrev pub past : State → List Entry
 past s = reverse s.entries.items
 
--- the metadata of a file as the client has written it
-abbrev pub meta : List Entry → ℕ → FileMeta
-meta h f = written_meta (mode h f) (writes h f)
+-- what the client keeps of a file
+abbrev pub inode : List Entry → ℕ → FileInode
+inode h f = record {
+  ino = f;
+  context = context h f;
+  caps = client h f;
+  snaps = snaps h f;
+  flushes = record { dirty = dirty h f; unacked = unacked h f };
+  meta = written_meta (mode h f) (writes h f);
+  writers = writers_of f (live h);
+}
 
 abbrev pub row : List Entry → ℕ → FileState
-row h f = record { client = client h f; server = server h f; home = home h f; context = context h f; meta = meta h f; dirty = dirty h f; snaps = snaps h f; told = told h f }
+row h f = record { inode = inode h f; server = server h f; home = home h f; told = told h f }
 
 -- the row of a file of which nothing was granted, and to which nothing was written
-abbrev pub new_row : ℕ → Context → FileState
-new_row d ctx = record { client = no_client_caps; server = no_server_caps; home = d; context = ctx; meta = record { size = 0; mtime = 0; mode = 420 }; dirty = no_caps; snaps = []; told = [] }
+abbrev pub new_row : ℕ → ℕ → Context → FileState
+new_row f d ctx = record { inode = new_inode f ctx; server = no_server_caps; home = d; told = [] }
 
 -- what the table of files has at a file
 abbrev pub row_of : List Entry → ℕ → Option FileState
@@ -102,29 +111,14 @@ PutsRow old new f r = (g : ℕ) → get nat_cmp new g ≡ (if f == g then Some r
 abbrev pub SameRows : Files → Files → Type 0
 SameRows old new = (g : ℕ) → get nat_cmp new g ≡ get nat_cmp old g
 
--- only an acknowledgement changes the table
-abbrev pub CompletesBy : Files → Files → ℕ → FileState → Done → Type 0
-CompletesBy old new f r (done.Ack seq bits) = PutsRow old new f (record r { client = acknowledged r.client bits seq })
-CompletesBy old new f r (done.Hold bits) = SameRows old new
-CompletesBy old new f r done.Nothing = SameRows old new
-
 -- what the client does about a file that the table has, by the bits of its live references
 abbrev pub CompletesIn : Files → Files → ℕ → Caps → Option Done → Option FileState → Type 0
-CompletesIn old new f used None None = SameRows old new
-CompletesIn old new f used (Some d) (Some r) = (completion r.client (union used r.dirty) ≡ d) × CompletesBy old new f r d
-CompletesIn old new f used None (Some r) = ⊥
-CompletesIn old new f used (Some d) None = ⊥
+CompletesIn old new f refs None None = SameRows old new
+CompletesIn old new f refs (Some d) (Some r) =
+    (d ≡ check_answer refs r.inode) × PutsRow old new f (record r { inode = record r.inode { caps = completed r.inode.caps d } })
+CompletesIn old new f refs None (Some r) = ⊥
+CompletesIn old new f refs (Some d) None = ⊥
 
 -- a directory or a file of the tables has the inode
 abbrev pub is_in_tables : ℕ → State → Bool
 is_in_tables i s = has_directory i s.directories || is_some (get nat_cmp s.files i)
-
--- a row after a write up to an end, at a time
-abbrev pub written_row : FileState → ℕ → ℕ → FileState
-written_row r end time =
-    record r { meta = record { size = max end r.meta.size; mtime = time; mode = r.meta.mode }; dirty = union r.dirty file_write }
-
--- what a write does to the table, if it has the file
-abbrev pub Marks : Files → Files → ℕ → ℕ → ℕ → Option FileState → Type 0
-Marks old new f end time None = SameRows old new
-Marks old new f end time (Some r) = PutsRow old new f (written_row r end time)

@@ -51,7 +51,9 @@ pub fn to_client(state: &mut State) -> Result<Answer, Memory>
             take_in(&mut state.realms, realms)?;
             deliver_snap(state, number, realm)
         }
-        Message::CapAck { .. } | Message::FlushSnap { .. } => unreachable!(),
+        Message::CapAck { .. } | Message::Flush { .. } | Message::FlushSnap { .. } => {
+            unreachable!()
+        }
     }
 }
 
@@ -64,7 +66,7 @@ fn deliver_cap(state: &mut State, file: Ino, seq: Seq, bits: Caps, max: u32) -> 
     let Some(row) = state.files.get_mut(&file) else {
         unreachable!()
     };
-    row.client.deliver(bits, seq, max);
+    row.inode.deliver_cap(bits, seq, max);
     let _ = state.to_client.pop_front();
     Answer::Cap {
         file,
@@ -74,7 +76,7 @@ fn deliver_cap(state: &mut State, file: Ino, seq: Seq, bits: Caps, max: u32) -> 
     }
 }
 
-// The record of a flush is durable: its cap snap is done with.
+// The record of a flush is durable: it is done with, and so are those of the file before it, or its cap snap.
 fn deliver_ack(state: &mut State, file: Ino, tid: Tid) -> Answer
     requires ready { IsReady state.old }
     requires first { IsFirst (messages.FlushAck file tid) (to_client (past state.old)) }
@@ -83,7 +85,7 @@ fn deliver_ack(state: &mut State, file: Ino, tid: Tid) -> Answer
     let Some(row) = state.files.get_mut(&file) else {
         unreachable!()
     };
-    row.snaps.acked(tid);
+    row.inode.flush_acked(tid);
     let _ = state.to_client.pop_front();
     Answer::FlushAck { file, tid }
 }
@@ -99,7 +101,6 @@ fn deliver_snap(state: &mut State, number: Snap, realm: Ino) -> Result<Answer, M
         state.alloc,
         &mut state.files,
         state.made.as_slice(),
-        &state.refs,
         &state.directories,
         &state.realms,
     )?;
@@ -160,10 +161,10 @@ pub fn check(state: &mut State, file: Ino) -> Result<Answer, Memory>
 }
 
 // Acknowledges what a file's client end was told, as far as the bits in use allow it: those of its
-// live references, and those that its dirty metadata needs.
+// live references, `used`, and those that its dirty metadata needs.
 fn complete(files: &mut BTreeMap<Ino, FileState>, file: Ino, used: Caps) -> Option<Done>
     ensures { CompletesIn files.old files.new file used result (get nat_cmp files.old file) }
 {
     let state = files.get_mut(&file)?;
-    Some(state.client.complete(used.union(state.dirty)))
+    Some(state.inode.check(used))
 }

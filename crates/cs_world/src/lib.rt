@@ -4,6 +4,7 @@
 
 mod client;
 mod contexts;
+mod objects;
 mod references;
 mod server;
 mod setup;

@@ -1,18 +1,19 @@
-// The callers' events: references begin and end.
-ghost use Rattle.std.specs.Prelude.{◌≡◌, ◌&&◌, nat_lt, IfOk, OnErr};
+// The callers' events on references: they begin and end, and give a file another mode.
+ghost use Rattle.std.specs.Prelude.{◌≡◌, ◌<◌, ◌≤◌, true, false, IfOk, OnErr};
 ghost use Rattle.cs_capsnap.specs.CapSnaps.{is_writing};
 ghost use Rattle.cs_laws.specs.declared.events.Event.TheVariants as events;
 ghost use Rattle.cs_laws.specs.Answers.{may_write};
+ghost use Rattle.cs_laws.specs.References.{named};
+ghost use Rattle.cs_world.specs.Changed.{started, stopped};
 ghost use Rattle.cs_world.specs.Tables.{Steps, KeepsJournal, IsReady};
 
-use crate::snaps::finish_unwritten;
 use crate::state::State;
 use cs_bits::Caps;
-use cs_caps::Cap;
-use cs_capsnap::CapSnaps;
 use cs_ids::{Caller, Ino, Memory};
+use cs_inode::{Allow, ChmodStep, Inode};
 use cs_laws::{Answer, RefName, Why};
-use cs_refs::RefFault;
+use cs_parts::Live;
+use cs_refs::{RefFault, Refs};
 
 pub fn begin(
     state: &mut State,
@@ -25,40 +26,34 @@ pub fn begin(
     ensures ok { IfOk result (λ a. Steps state.old state.new (events.Begin caller file bits end) a) }
     ensures err { OnErr result (KeepsJournal state.old state.new) }
 {
-    let Some(caps) = state.files.get(&file) else {
+    let Some(row) = state.files.get_mut(&file) else {
         return Ok(Answer::Unknown);
     };
-    if !caps.client.issued().covers(bits) {
-        return Ok(Answer::Again(Why::Caps));
-    }
-    if must_wait(&caps.snaps, bits) {
-        return Ok(Answer::Again(Why::Snap));
-    }
-    if is_beyond(&caps.client, bits, end) {
-        return Ok(Answer::Again(Why::Max));
-    }
-    let tag = caps.context.seq();
+    let tag = match row.inode.allow(bits, end) {
+        Allow::Yes { tag } => tag,
+        Allow::NoCaps => return Ok(Answer::Again(Why::Caps)),
+        Allow::Snap => return Ok(Answer::Again(Why::Snap)),
+        Allow::Max => return Ok(Answer::Again(Why::Max)),
+    };
     match state.refs.begin(caller, file, bits, end, tag) {
-        Ok(number) => Ok(Answer::Ref { number }),
-        Err(fault) => match fault {
-            RefFault::Full { .. } => Ok(Answer::Full),
-            RefFault::Memory => Err(Memory),
-        },
+        Ok(number) => {
+            start(&mut row.inode, bits);
+            Ok(Answer::Ref { number })
+        }
+        Err(RefFault::Full { .. }) => Ok(Answer::Full),
+        Err(RefFault::Memory) => Err(Memory),
     }
 }
 
-// Whether a reference would write while a cap snap of the file is writing.
-fn must_wait(snaps: &CapSnaps, bits: Caps) -> bool
-    ensures { result ≡ (may_write bits && is_writing snaps.now) }
+// A reference with these bits to the file has begun.
+fn start(inode: &mut Inode, bits: Caps)
+    requires free { may_write bits ≡ true → is_writing inode.old.snaps ≡ false }
+    requires few { inode.old.writers < 256 }
+    ensures { inode.new ≡ started bits inode.old }
 {
-    bits.has_write() && snaps.is_writing()
-}
-
-// Whether a reference with the right to write would end beyond the file's greatest end.
-fn is_beyond(client: &Cap, bits: Caps, end: u32) -> bool
-    ensures { result ≡ (may_write bits && nat_lt client.now.max end) }
-{
-    bits.has_write() && client.max() < end
+    if bits.has_write() {
+        inode.start_writer();
+    }
 }
 
 pub fn end(state: &mut State, caller: Caller, name: RefName) -> Result<Answer, Memory>
@@ -72,6 +67,49 @@ pub fn end(state: &mut State, caller: Caller, name: RefName) -> Result<Answer, M
     let Some(ended) = state.refs.end(caller, number) else {
         return Ok(Answer::Unknown);
     };
-    finish_unwritten(&mut state.files, &state.refs, ended.file);
+    let Some(row) = state.files.get_mut(&ended.file) else {
+        unreachable!()
+    };
+    stop(&mut row.inode, ended.bits);
     Ok(Answer::Ended)
+}
+
+// A reference with these bits to the file has ended.
+fn stop(inode: &mut Inode, bits: Caps)
+    requires { may_write bits ≡ true → 1 ≤ inode.old.writers }
+    ensures { inode.new ≡ stopped bits inode.old }
+{
+    if bits.has_write() {
+        inode.stop_writer();
+    }
+}
+
+/// The live reference that a caller uses by this name: one of its own, or one of caller 0.
+pub fn find(refs: &Refs, caller: Caller, name: RefName) -> Option<Live>
+    ensures { result ≡ named caller name refs.now.live }
+{
+    match name {
+        RefName::Own(number) => refs.find(caller, number),
+        RefName::Kept(number) => refs.find(Caller::new(0)?, number),
+    }
+}
+
+pub fn chmod(state: &mut State, caller: Caller, name: RefName, mode: u16) -> Result<Answer, Memory>
+    requires { IsReady state.old }
+    ensures ok { IfOk result (λ a. Steps state.old state.new (events.Chmod caller name mode) a) }
+    ensures err { OnErr result (KeepsJournal state.old state.new) }
+{
+    let Some(live) = find(&state.refs, caller, name) else {
+        return Ok(Answer::Unknown);
+    };
+    if !live.bits.covers(Caps::AUTH_EXCL) {
+        return Ok(Answer::NoBit);
+    }
+    let Some(row) = state.files.get_mut(&live.file) else {
+        unreachable!()
+    };
+    match row.inode.chmod(mode) {
+        ChmodStep::Done => Ok(Answer::Done),
+        ChmodStep::Snap => Ok(Answer::Again(Why::Snap)),
+    }
 }

@@ -2,6 +2,7 @@
 ghost use Rattle.std.specs.Prelude.{◌≡◌, IfOk, OnErr};
 ghost use Rattle.cs_laws.specs.declared.events.Event.TheVariants as events;
 ghost use Rattle.cs_laws.specs.declared.messages.Message.TheVariants as messages;
+ghost use Rattle.cs_laws.specs.Flushes.{flush_message};
 ghost use Rattle.cs_laws.specs.History.{to_server};
 ghost use Rattle.cs_world.specs.Delivered.{IsFirst};
 ghost use Rattle.cs_world.specs.Tables.{Steps, KeepsJournal, IsReady, past};
@@ -89,6 +90,15 @@ pub fn to_mds(state: &mut State) -> Result<Answer, Memory>
             let (file, seq, bits) = (*file, *seq, *bits);
             Ok(receive_ack(state, file, seq, bits))
         }
+        Message::Flush {
+            file,
+            tid,
+            follows,
+            meta,
+        } => {
+            let (file, tid, follows, meta) = (*file, *tid, *follows, *meta);
+            receive_flush(state, false, file, tid, follows, meta)
+        }
         Message::FlushSnap {
             file,
             tid,
@@ -96,7 +106,7 @@ pub fn to_mds(state: &mut State) -> Result<Answer, Memory>
             meta,
         } => {
             let (file, tid, follows, meta) = (*file, *tid, *follows, *meta);
-            receive_flush(state, file, tid, follows, meta)
+            receive_flush(state, true, file, tid, follows, meta)
         }
         Message::Cap { .. } | Message::FlushAck { .. } | Message::Snap { .. } => unreachable!(),
     }
@@ -117,24 +127,25 @@ fn receive_ack(state: &mut State, file: Ino, seq: Seq, bits: Caps) -> Answer
     Answer::CapAck { file, seq, held }
 }
 
-// Records the flush of a cap snap.
+// Records a flush; `snap` tells whether it is that of a cap snap.
 fn receive_flush(
     state: &mut State,
+    snap: bool,
     file: Ino,
     tid: Tid,
     follows: Seq,
     meta: FileMeta,
 ) -> Result<Answer, Memory>
     requires ready { IsReady state.old }
-    requires first { IsFirst (messages.FlushSnap file tid follows meta) (to_server (past state.old)) }
+    requires first { IsFirst (flush_message (record { tid = tid; file = file; follows = follows; meta = meta; snap = snap })) (to_server (past state.old)) }
     ensures ok { IfOk result (λ a. Steps state.old state.new events.ToMds a) }
     ensures err { OnErr result (KeepsJournal state.old state.new) }
 {
     let Some(row) = state.files.get_mut(&file) else {
         unreachable!()
     };
-    state.records.add_flush(true, file, tid, follows, meta)?;
-    row.told.push(follows, meta)?;
+    state.records.add_flush(snap, file, tid, follows, meta)?;
+    row.told.record(follows, meta)?;
     let _ = state.to_server.pop_front();
     Ok(Answer::Flushed { file, tid })
 }

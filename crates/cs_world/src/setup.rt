@@ -1,4 +1,4 @@
-// The lines that stand before all others.
+// The lines that stand before all others, and the script's time.
 ghost use Rattle.std.specs.Prelude.{◌≡◌, IfOk, OnErr};
 ghost use Rattle.cs_laws.specs.declared.events.Event.TheVariants as events;
 ghost use Rattle.cs_world.specs.Tables.{Steps, KeepsJournal, IsReady, is_in_tables};
@@ -47,4 +47,16 @@ pub fn file(state: &mut State, file: Ino, parent: Ino) -> Result<Answer, Memory>
     add_file(state.alloc, &mut state.files, file, parent, context)?;
     state.made.push(file)?;
     Ok(Answer::Made)
+}
+
+/// The script's time becomes this one, unless that is past.
+pub fn clock(state: &mut State, time: u64) -> Answer
+    requires { IsReady state.old }
+    ensures { Steps state.old state.new (events.Clock time) result }
+{
+    if time < state.clock {
+        return Answer::Back;
+    }
+    state.clock = time;
+    Answer::Now { time }
 }

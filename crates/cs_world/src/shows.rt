@@ -10,20 +10,17 @@ ghost use Rattle.cs_tree.specs.Directories.{path_of};
 ghost use Rattle.cs_records.specs.Records.{all};
 ghost use Rattle.cs_laws.specs.Objects.{object_byte};
 ghost use Rattle.cs_laws.specs.Operations.{applied};
-ghost use Rattle.cs_world.specs.Shown.{file_byte, is_any_unacked, is_owed, is_owed_at_present, is_unsettled, shown_count, standing_of};
+ghost use Rattle.cs_world.specs.Shown.{shown_count, snapshot_of, standing_of};
 ghost use Rattle.cs_world.specs.Storing.{calls_store};
 ghost use Rattle.cs_world.specs.Tables.{Steps, KeepsJournal, IsReady, past};
 
-use crate::state::{FileState, State};
-use cs_capsnap::CapSnaps;
-use cs_geom::split_objects;
-use cs_ids::{Bytes, Failed, Ino, Memory, Obj};
+use crate::objects::read_file;
+use crate::state::State;
+use cs_ids::{Ino, Snap};
 use cs_laws::{Answer, At, StepFault};
 use cs_objstore::ObjStore;
 use cs_records::Records;
-use cs_refs::Refs;
 use cs_tree::Directories;
-use std::alloc::Global;
 
 /// Shows a file at a snapshot, or at present: its metadata by the server's records, and bytes of it by
 /// the object store.
@@ -54,7 +51,7 @@ pub fn show<O: ObjStore>(
         Standing::Absent => Ok(Answer::NoSnap),
         Standing::Gone => Ok(Answer::Gone),
         Standing::There => {
-            if is_owed(row, &state.refs, file, *at) {
+            if row.inode.owed(snapshot_of(*at)) {
                 return Ok(Answer::Pending);
             }
             let meta = row.told.at(*at);
@@ -106,102 +103,19 @@ fn is_below(directories: &Directories, home: Ino, dir: Ino) -> bool
     }
 }
 
-// Whether the server may not have yet what a file was.
-fn is_owed(row: &FileState, refs: &Refs, file: Ino, at: At) -> bool
-    ensures { result ≡ is_owed row.now refs.now.live file at }
+// The snapshot of a state, or None for the present one.
+fn snapshot_of(at: At) -> Option<Snap>
+    ensures { result ≡ snapshot_of at }
 {
     match at {
-        At::Head => is_head_owed(row, refs, file),
-        At::Snap(s) => row.context.seq().get() < s.get() || row.snaps.unacked_below(s),
+        At::Head => None,
+        At::Snap(snap) => Some(snap),
     }
 }
 
-// Whether it may not have yet what a file is at present.
-fn is_head_owed(row: &FileState, refs: &Refs, file: Ino) -> bool
-    ensures { result ≡ is_owed_at_present row.now refs.now.live file }
-{
-    if refs.writers(file) != 0 {
-        return true;
-    }
-    is_unsettled(row)
-}
-
-// Whether a file's metadata is dirty, or a cap snap of it isn't acknowledged.
-fn is_unsettled(row: &FileState) -> bool
-    ensures { result ≡ is_unsettled row.now }
-{
-    !row.dirty.is_none() || is_any_unacked(&row.snaps)
-}
-
-// Whether a cap snap isn't acknowledged.
-fn is_any_unacked(snaps: &CapSnaps) -> bool
-    ensures { result ≡ is_any_unacked snaps.now }
-{
-    snaps.first_follows().is_some() || snaps.unacked(0).is_some()
-}
-
-// How many of the bytes that are asked for a file of this size has.
-fn shown_count(size: u64, off: u32, len: u32) -> u32
+/// How many of the bytes that are asked for a file of this size has.
+pub fn shown_count(size: u64, off: u32, len: u32) -> u32
     ensures { result ≡ shown_count size off len }
 {
     u64::from(len).min(size.saturating_sub(u64::from(off))) as u32
-}
-
-// The file's bytes from a place on, as its objects have them.
-fn read_file<O: ObjStore>(
-    alloc: Global,
-    store: &mut O,
-    file: Ino,
-    at: At,
-    off: u32,
-    count: u32,
-) -> Result<Bytes, StepFault>
-    requires few { count ≤ 4096 }
-    requires within { off + count ≤ 1048576 }
-    ensures bytes { IfOk result (λ b. b ≡ bytes_from (file_byte at file (O.ops store.old)) off count) }
-    ensures kept { O.ops store.new ≡ O.ops store.old }
-    ensures later { O.faults store.old ≤ O.faults store.new }
-    ensures cause { IsErrOf result StepFault.Store → Rose (O.faults store.old) (O.faults store.new) }
-    ensures unlogged { IsErrOf result StepFault.Log → ⊥ }
-{
-    let mut bytes = Bytes::from_slice(alloc, &[])?;
-    for piece in split_objects(u64::from(off), u64::from(count)) {
-        let obj = Obj {
-            ino: file,
-            index: piece.index,
-        };
-        let part = read_part(alloc, store, obj, &at, piece.obj_off, piece.len)?;
-        bytes.append(part.as_slice())?;
-    }
-    Ok(bytes)
-}
-
-// The object's bytes from a place on.
-fn read_part<O: ObjStore>(
-    alloc: Global,
-    store: &mut O,
-    obj: Obj,
-    at: &At,
-    off: u32,
-    count: u32,
-) -> Result<Vec<u8>, StepFault>
-    requires { off + count ≤ 65536 }
-    ensures bytes { IfOk result (λ b. b.items ≡ bytes_from (object_byte at.now obj (O.ops store.old)) off count) }
-    ensures kept { O.ops store.new ≡ O.ops store.old }
-    ensures later { O.faults store.old ≤ O.faults store.new }
-    ensures cause { IsErrOf result StepFault.Store → Rose (O.faults store.old) (O.faults store.new) }
-    ensures unlogged { IsErrOf result StepFault.Log → ⊥ }
-{
-    let mut part = zeros(alloc, count)?;
-    match store.read(obj, *at, off, part.as_mut_slice()) {
-        Ok(()) => Ok(part),
-        Err(Failed) => Err(StepFault::Store),
-    }
-}
-
-// So many bytes, all of them 0.
-fn zeros(alloc: Global, count: u32) -> Result<Vec<u8>, Memory>
-    ensures { IfOk result (λ bytes. length bytes.items ≡ count) }
-{
-    Ok(vec![in alloc; 0u8; count as usize]?)
 }

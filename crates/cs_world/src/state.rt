@@ -5,10 +5,9 @@ ghost use Rattle.cs_laws.specs.Flight.{cap_message};
 ghost use Rattle.cs_world.specs.Tables.{Refines, PutsRow, new_row};
 
 use crate::told::Told;
-use cs_bits::Caps;
-use cs_caps::{Cap, Held};
-use cs_capsnap::CapSnaps;
-use cs_ids::{FileMeta, Ino, Memory};
+use cs_caps::Held;
+use cs_ids::{Ino, Memory};
+use cs_inode::Inode;
 use cs_laws::{Answer, Entry, Message};
 use cs_realms::Realms;
 use cs_records::Records;
@@ -18,26 +17,15 @@ use cs_tree::Directories;
 use std::alloc::Global;
 use std::collections::{BTreeMap, VecDeque};
 
-/// The mode of a file that was made and not changed since.
-const FIRST_MODE: u16 = 0o644;
-
 /// What is kept of a file.
 #[derive(Drop)]
 pub struct FileState {
-    /// The client's end of its capabilities.
-    pub client: Cap,
-    /// The server's end.
+    /// What the client keeps of it.
+    pub inode: Inode,
+    /// The server's end of its capabilities.
     pub server: Held,
     /// The directory in which it was made.
     pub home: Ino,
-    /// Its snapshot context.
-    pub context: SnapContext,
-    /// Its metadata, as the client has written it.
-    pub meta: FileMeta,
-    /// Which of it was changed and not sent in a flush.
-    pub dirty: Caps,
-    /// Its metadata under earlier snapshot contexts, as far as the server hasn't acknowledged it.
-    pub snaps: CapSnaps,
     /// Its flushes that the server recorded.
     pub told: Told,
 }
@@ -100,20 +88,12 @@ pub fn add_file(
     home: Ino,
     context: SnapContext,
 ) -> Result<(), Memory>
-    ensures { OnOk result (PutsRow files.old files.new file (new_row home context)) }
+    ensures { OnOk result (PutsRow files.old files.new file (new_row file home context)) }
 {
     let state = FileState {
-        client: Cap::new(),
+        inode: Inode::new(alloc, file, context),
         server: Held::new(),
         home,
-        context,
-        meta: FileMeta {
-            size: 0,
-            mtime: 0,
-            mode: FIRST_MODE,
-        },
-        dirty: Caps::none(),
-        snaps: CapSnaps::new(alloc),
         told: Told::new(alloc),
     };
     files.insert(file, state)?;

@@ -9,13 +9,13 @@ ghost use Rattle.cs_world.specs.Storing.{AppliesFront, brings, calls_store};
 ghost use Rattle.cs_world.specs.Tables.{Steps, IsReady, IsKept, KeepsJournal, past};
 
 use crate::client::{check, to_client};
-use crate::references::{begin, end};
+use crate::references::{begin, chmod, end};
 use crate::server::{commit, grant, remove_snap, revoke, snap, to_mds};
-use crate::setup::{dir, file};
+use crate::setup::{clock, dir, file};
 use crate::shows::show;
-use crate::snaps::flush_snaps;
+use crate::snaps::{flush, flush_snaps};
 use crate::state::State;
-use crate::writes::write;
+use crate::writes::{read, write};
 use cs_ids::Memory;
 use cs_laws::{Answer, At, Entry, Event, RefName, StepFault};
 use cs_objstore::ObjStore;
@@ -45,6 +45,7 @@ pub fn answer<O: ObjStore>(
     match event {
         Event::Dir { dir: made, parent } => Ok(dir(state, *made, *parent)?),
         Event::File { file: made, parent } => Ok(file(state, *made, *parent)?),
+        Event::Clock { time } => Ok(clock(state, *time)),
         Event::Begin {
             caller,
             file,
@@ -58,7 +59,15 @@ pub fn answer<O: ObjStore>(
             off,
             bytes,
         } => write(state, store, *caller, *name, *off, bytes),
+        Event::Read {
+            caller,
+            name,
+            off,
+            len,
+        } => read(state, store, *caller, *name, *off, *len),
+        Event::Chmod { caller, name, mode } => Ok(chmod(state, *caller, *name, *mode)?),
         Event::Check { file } => Ok(check(state, *file)?),
+        Event::Flush { file } => Ok(flush(state, *file)?),
         Event::FlushSnaps { file } => Ok(flush_snaps(state, *file)?),
         Event::ToClient => Ok(to_client(state)?),
         Event::ToMds => Ok(to_mds(state)?),

@@ -1,7 +1,8 @@
 // The flushes of a file that the server recorded.
-ghost use Rattle.std.specs.Prelude.{◌≡◌, ◌<◌, ◌≤◌, true, false, [], ◌∷◌, ◌++◌, length, All, OnOk, OnErr};
+ghost use Rattle.std.specs.Prelude.{◌≡◌, ◌≤◌, true, false, [], length, OnOk, OnErr};
 ghost use Rattle.std.specs.List.Sorted.{IsPartitionPoint};
 ghost use Rattle.cs_laws.specs.Shown.{is_before};
+ghost use Rattle.cs_theorems.specs.Recorded.{with_told};
 ghost use Rattle.cs_theorems.specs.Told.{last_told};
 
 use cs_ids::{FileMeta, Memory, Seq};
@@ -9,8 +10,8 @@ use cs_laws::At;
 use std::alloc::Global;
 use std::marker::Model;
 
-/// The flushes of a file that the server recorded: the number that each follows, and the file's
-/// metadata under it. These numbers rise. Contracts see them as a list of pairs.
+/// The flushes of a file that the server recorded: each number that one follows, and the metadata of
+/// the last one that does. These numbers rise. Contracts see them as a list of pairs.
 #[derive(Drop)]
 pub struct Told {
     flushes: Vec<(Seq, FileMeta)>,
@@ -38,14 +39,19 @@ impl Told {
         }
     }
 
-    /// Adds a flush that follows a greater number than all before. After `Memory` all is as before.
-    pub fn push(&mut self, follows: Seq, meta: FileMeta) -> Result<(), Memory>
-        requires { All (λ x. x.0 < follows) self.old }
-        ensures ok { OnOk result (self.new ≡ self.old ++ (follows, meta) ∷ []) }
+    /// Records a flush: its metadata takes the place of what stands under the number that it follows.
+    /// After `Memory` all is as before.
+    pub fn record(&mut self, follows: Seq, meta: FileMeta) -> Result<(), Memory>
+        ensures ok { OnOk result (self.new ≡ with_told (follows, meta) self.old) }
         ensures err { OnErr result (self.new ≡ self.old) }
     {
-        self.flushes.push((follows, meta))?;
-        Ok(())
+        match self.flushes.binary_search_by_key(&follows, |x| x.0) {
+            Ok(place) => {
+                self.flushes[place].1 = meta;
+                Ok(())
+            }
+            Err(place) => Ok(self.flushes.insert(place, (follows, meta))?),
+        }
     }
 
     /// The file's metadata at a snapshot, which is that of the last flush that follows a smaller
@@ -74,5 +80,34 @@ impl Told {
             At::Head => self.flushes.len(),
             At::Snap(s) => self.flushes.partition_point(|x| x.0.get() < s.get()),
         }
+    }
+}
+
+#[cfg(test)]
+mod tests {
+    use super::*;
+    use cs_ids::Snap;
+    use std::test::Fail;
+
+    fn of_size(size: u64) -> FileMeta {
+        FileMeta {
+            size,
+            mtime: 0,
+            mode: 0o644,
+        }
+    }
+
+    #[test]
+    fn a_later_flush_under_one_number_wins(rt: HostRuntime) -> Result<(), Fail> {
+        let first = Seq::new(1).ok_or("seq")?;
+        let third = Seq::new(3).ok_or("seq")?;
+        let second = Snap::new(2).ok_or("snap")?;
+        let mut told = Told::new(rt.alloc());
+        told.record(third, of_size(3))?;
+        told.record(first, of_size(1))?;
+        told.record(third, of_size(9))?;
+        assert_eq!(rt; told.at(At::Snap(second)).size, 1);
+        assert_eq!(rt; told.at(At::Head).size, 9);
+        Ok(())
     }
 }

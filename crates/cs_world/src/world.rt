@@ -73,7 +73,8 @@ impl<O: ObjStore, L> World<O, L> {
     /// Does one event, and enters it with its answer. A line of a script has to spell the event. The
     /// store then has the operations that the journal implies, and agrees with the journal: each file,
     /// at present and at each snapshot that isn't owed, reads back as exactly the writes of before. It
-    /// is called only at a write that is answered `wrote` and at a `show` that is answered `size`.
+    /// is called only at a write that is answered `wrote`, at a read that is answered by some bytes, and
+    /// at a `show` that is answered `size`.
     ///
     /// `Store` comes only where the store's count of faults rose in this step, and only where it is
     /// called; `Log` never comes. After a fault the history and the log are

@@ -7,7 +7,7 @@ use Rattle.cs_theorems.proofs.Counts.{files_few}
 use Rattle.cs_tree.specs.Directories.{path_of}
 use Rattle.cs_world.specs.Changed.{ChangesAll, count_changed}
 use Rattle.cs_world.specs.Tables.{past}
-use Rattle.cs_world.proofs.ContextChange.{made_all, told_answer, told_refines}
+use Rattle.cs_world.proofs.ContextChange.{contexts_rise, made_all, told_answer, told_refines}
 use Rattle.cs_world.proofs.client.deliver_snap.Goals as goal
 
 pub change_all-requires-clause-few : goal.change_all-requires-clause-few
@@ -23,6 +23,13 @@ change_all-requires-clause-once c =
     let all = made_all s.pages (past s) c.requires.ready.run s.made.items c.requires.ready.tables.made in
     subst (λ ns. IsEachOnce ns) (sym c.as_slice.ensures.value) all.once
 
+pub change_all-requires-clause-rises : goal.change_all-requires-clause-rises
+change_all-requires-clause-rises c =
+    let s = c.args.state.now in
+    let h = past s in
+    let before = record s { realms = realms h } in
+    contexts_rise h before c.args.number c.args.realm s.realms c.requires.ready.tables c.requires.ready.run c.requires.told
+
 pub returns-clause-ok : goal.returns-clause-ok
 returns-clause-ok c =
     let s = c.args.state.now in
@@ -33,8 +40,8 @@ returns-clause-ok c =
     let t = c.requires.ready.tables in
     let run = c.requires.ready.run in
     let told = c.requires.told in
-    let counted = subst (λ ns. made ≡ count_changed (path_of s.directories) s.realms s.refs.live s.files ns) c.as_slice.ensures.value c.in_ok-made.ensures.count in
-    let changed = subst (λ ns. ChangesAll (path_of s.directories) s.realms s.refs.live s.files now ns) c.as_slice.ensures.value c.in_ok-made.ensures.rows in
+    let counted = subst (λ ns. made ≡ count_changed (path_of s.directories) s.realms s.files ns) c.as_slice.ensures.value c.in_ok-made.ensures.count in
+    let changed = subst (λ ns. ChangesAll (path_of s.directories) s.realms s.files now ns) c.as_slice.ensures.value c.in_ok-made.ensures.rows in
     record {
       answer = told_answer h before c.args.number c.args.realm made s.realms t run told counted;
       entries = refl;

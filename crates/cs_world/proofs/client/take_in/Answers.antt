@@ -1,4 +1,4 @@
-use Rattle.std.proofs.Common.{◌∙◌, sym, ap, ◌≤◌, length, arith}
+use Rattle.std.proofs.Common.{◌∙◌, sym, ap, arith}
 use Rattle.std.specs.Option.{option_copied}
 use Rattle.cs_snapctx.specs.Records.{with_records}
 use Rattle.cs_world.proofs.TakenIn.{never_past, next_known, rest_done, rest_first, rest_next}

@@ -44,5 +44,5 @@ unreachable-requires c =
     let told = first_told s.pages (past s) c.in-Some.message.now c.requires.run first in
     ⊎_elim
     (λ ack. subst (λ m. IsToldClient (past s) m) ack.3 told)
-    (λ flush. subst (λ m. IsToldClient (past s) m) flush.4 told)
+    (λ rest. ⊎_elim (λ flush. subst (λ m. IsToldClient (past s) m) flush.4 told) (λ snap. subst (λ m. IsToldClient (past s) m) snap.4 told) rest)
     c.in-CapAck.is

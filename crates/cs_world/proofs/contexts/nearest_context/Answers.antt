@@ -1,5 +1,4 @@
 use Rattle.std.proofs.Common.{◌∙◌, refl, sym, ap, arith}
-use Rattle.std.specs.Option.{is_some}
 use Rattle.cs_world.specs.Contexts.{nearest_context}
 use Rattle.cs_world.proofs.Nearest.{found_here, not_here}
 use Rattle.cs_world.proofs.TakenIn.{none_left}

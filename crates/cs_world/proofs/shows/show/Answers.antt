@@ -4,11 +4,9 @@ use Rattle.cs_laws.specs.Fits.{greatest_end, is_shown, is_state}
 use Rattle.cs_laws.specs.History.{stand}
 use Rattle.cs_laws.specs.Metadata.{meta_at}
 use Rattle.cs_laws.specs.Owed.{owed}
-use Rattle.cs_laws.specs.Tree.{file_path}
 use Rattle.cs_world.specs.declared.shows.Standing.TheVariants as standing
-use Rattle.cs_world.specs.Shown.{standing_of}
 use Rattle.cs_world.specs.Tables.{past}
-use Rattle.cs_world.proofs.Pieces.{any_err}
+use Rattle.cs_world.proofs.Fronts.{any_err}
 use Rattle.cs_world.proofs.Rows.{row_known}
 use Rattle.cs_world.proofs.Showing.{absent_is, count_within, gone_is, meta_small, owes, pending_is, reads_store, shown_is, stored_bytes, table_standing, told_meta}
 use Rattle.cs_world.proofs.shows.show.Goals as goal
@@ -49,8 +47,8 @@ returns-in-Gone-clause-ok g c =
       tables = search rules;
     }
 
-pub returns-then-is_owed-clause-ok : goal.returns-then-is_owed-clause-ok
-returns-then-is_owed-clause-ok g c =
+pub returns-then-owed-clause-ok : goal.returns-then-owed-clause-ok
+returns-then-owed-clause-ok g c =
     let s = c.args.state.now in
     let h = past s in
     let f = c.args.file in
@@ -60,7 +58,7 @@ returns-then-is_owed-clause-ok g c =
     let known = row_known h s f c.in-Some.row.now ready.tables has in
     let state = (and_parts (is_state a) (is_shown c.args.off c.args.len) c.requires.fits).0 in
     let stands = table_standing h s f a c.in-Some.row.now standing.There ready.tables has (sym c.in-There.is ∙ c.standing_of.ensures) in
-    let owing : owed h f a ≡ true = owes h s f a c.in-Some.row.now ready.tables ready.run has true (sym c.is_owed.ensures ∙ c.if-is_owed.true) in
+    let owing : owed h f a ≡ true = owes h s f a c.in-Some.row.now ready.tables ready.run has true (rw c.snapshot_of.ensures at (sym c.owed.ensures ∙ c.if-owed.true)) in
     record {
       answer = pending_is s.pages h f a c.args.off c.args.len ready.run known state stands owing;
       entries = refl;
@@ -76,7 +74,7 @@ read_file-requires-clause-within g c κs within =
     let a = c.args.at.now in
     let ready = c.requires.ready in
     let has = sym c.in-Some.ensures.value in
-    let free : owed h f a ≡ false = owes h s f a c.in-Some.row.now ready.tables ready.run has false (sym c.is_owed.ensures ∙ c.if-is_owed.false) in
+    let free : owed h f a ≡ false = owes h s f a c.in-Some.row.now ready.tables ready.run has false (rw c.snapshot_of.ensures at (sym c.owed.ensures ∙ c.if-owed.false)) in
     let is : c.at-meta.result ≡ meta_at f a (stand h) = told_meta h s f a c.in-Some.row.now c.at-meta.result ready.tables ready.run has c.at-meta.ensures in
     let small : c.at-meta.result.size ≤ greatest_end = rw is (meta_small s.pages h f a ready.run free) in
     let shown = (and_parts (is_state a) (is_shown c.args.off c.args.len) c.requires.fits).1 in
@@ -93,7 +91,7 @@ returns-in_err-bytes-in-There-clause-called g c =
     let known = row_known h s f c.in-Some.row.now ready.tables has in
     let state = (and_parts (is_state a) (is_shown c.args.off c.args.len) c.requires.fits).0 in
     let stands = table_standing h s f a c.in-Some.row.now standing.There ready.tables has (sym c.in-There.is ∙ c.standing_of.ensures) in
-    let free : owed h f a ≡ false = owes h s f a c.in-Some.row.now ready.tables ready.run has false (sym c.is_owed.ensures ∙ c.if-is_owed.false) in
+    let free : owed h f a ≡ false = owes h s f a c.in-Some.row.now ready.tables ready.run has false (rw c.snapshot_of.ensures at (sym c.owed.ensures ∙ c.if-owed.false)) in
     any_err c.from_residual.result (reads_store s.pages h f a c.args.off c.args.len ready.run known state stands free)
 
 pub returns-in_ok-bytes-in-There-clause-ok : goal.returns-in_ok-bytes-in-There-clause-ok
@@ -107,7 +105,7 @@ returns-in_ok-bytes-in-There-clause-ok g c =
     let known = row_known h s f c.in-Some.row.now ready.tables has in
     let state = (and_parts (is_state a) (is_shown c.args.off c.args.len) c.requires.fits).0 in
     let stands = table_standing h s f a c.in-Some.row.now standing.There ready.tables has (sym c.in-There.is ∙ c.standing_of.ensures) in
-    let free : owed h f a ≡ false = owes h s f a c.in-Some.row.now ready.tables ready.run has false (sym c.is_owed.ensures ∙ c.if-is_owed.false) in
+    let free : owed h f a ≡ false = owes h s f a c.in-Some.row.now ready.tables ready.run has false (rw c.snapshot_of.ensures at (sym c.owed.ensures ∙ c.if-owed.false)) in
     let is : c.at-meta.result ≡ meta_at f a (stand h) = told_meta h s f a c.in-Some.row.now c.at-meta.result ready.tables ready.run has c.at-meta.ensures in
     let held = c.in_ok-bytes-in-There.ensures.bytes ∙ stored_bytes s.pages h f a (g.O.ObjStore.ops c.args.store.now) c.args.off c.shown_count-count.result ready.run c.requires.listed in
     record {

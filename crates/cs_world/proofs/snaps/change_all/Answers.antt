@@ -1,26 +1,27 @@
-use Rattle.std.proofs.Common.{◌≡◌, ◌∙◌, ap, subst, ◌+◌, cond, take, take_all, nat_lt, arith}
+use Rattle.std.proofs.Common.{◌≡◌, ◌∙◌, ◌+◌, cond, take, take_all, arith}
 use Rattle.std.proofs.lemmas.List.{length-take}
-use Rattle.std.specs.Ordering.{nat_cmp}
-use Rattle.std.specs.BTreeMap.{get}
-use Rattle.cs_laws.specs.CapSnaps.{has_writer}
 use Rattle.cs_tree.specs.Directories.{path_of}
-use Rattle.cs_world.specs.Changed.{Changes}
-use Rattle.cs_world.proofs.Changed.{ChangesNext, front_more, front_without, next_rows, next_count, count_small, writes_is}
+use Rattle.cs_world.proofs.Changed.{ChangesNext, front_more, front_without, next_rows, next_count, next_rises, count_small}
 use Rattle.cs_world.proofs.snaps.change_all.Goals as goal
 use Rattle.cs_world.proofs.snaps.change_all.Goals.{then-branch, else-branch}
 
 pub overflow_add-count : goal.overflow_add-count
 overflow_add-count c =
     let made = c.args.made.now in
-    let small = count_small (path_of c.args.directories.now) c.args.realms.now c.args.refs.now.live c.args.files.now (take c.loop-file.file-index made) in
+    let small = count_small (path_of c.args.directories.now) c.args.realms.now c.args.files.now (take c.loop-file.file-index made) in
     omega (arith, small, length-take c.loop-file.file-index made, c.loop-file.invariant.count, c.requires.few, c.loop-file-test.true)
+
+pub change-requires-clause-rises : goal.change-requires-clause-rises
+change-requires-clause-rises c =
+    let made = c.args.made.now in
+    next_rises (path_of c.args.directories.now) c.args.realms.now c.args.files.now c.loop-file.files (take c.loop-file.file-index made) c.file-item.result c.loop-file.invariant.rows
+    (front_without made c.loop-file.file-index c.file-item.result c.loop-file-test.true c.file-item.is c.requires.once) c.requires.rises
 
 pub loop-file-preserved : goal.loop-file-preserved
 loop-file-preserved c =
     let i = c.loop-file.invariant in
     let up = path_of c.args.directories.now in
     let ts = c.args.realms.now in
-    let rs = c.args.refs.now.live in
     let old = c.args.files.now in
     let mid = c.loop-file.files in
     let new = c.change.new.files in
@@ -28,10 +29,9 @@ loop-file-preserved c =
     let f = c.file-item.result in
     let needed = c.in_ok-change.field-0 in
     let fs = take c.loop-file.file-index made in
-    let writes : nat_lt 0 c.writers-has_writer.result ≡ has_writer f rs = ap (λ n. nat_lt 0 n) c.writers-has_writer.ensures ∙ writes_is f rs in
-    let next : ChangesNext up ts rs old mid new fs f needed = record {
+    let next : ChangesNext up ts old mid new fs f needed = record {
       rows = i.rows;
-      next = subst (λ b. Changes up ts b mid new f needed (get nat_cmp mid f)) writes c.in_ok-change.ensures;
+      next = c.in_ok-change.ensures;
       absent = front_without made c.loop-file.file-index f c.loop-file-test.true c.file-item.is c.requires.once;
     } in
     let more = front_more made c.loop-file.file-index f c.loop-file-test.true c.file-item.is in
@@ -40,8 +40,8 @@ loop-file-preserved c =
       | else-branch w ↦ rw (w.if-branch.false) (omega (arith, w.count-is))
     ] in
     rw more (record {
-      count = counted ∙ next_count up ts rs old mid new fs f needed c.loop-file.count next i.count;
-      rows = next_rows up ts rs old mid new fs f needed next;
+      count = counted ∙ next_count up ts old mid new fs f needed c.loop-file.count next i.count;
+      rows = next_rows up ts old mid new fs f needed next;
     })
 
 pub returns-clause-count : goal.returns-clause-count

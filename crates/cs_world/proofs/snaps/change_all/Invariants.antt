@@ -5,6 +5,6 @@ use Rattle.cs_world.proofs.snaps.change_all.Given as goal
 
 abbrev pub invariant-loop-file : goal.invariant-loop-file
 invariant-loop-file l = record {
-  count : l.count ≡ count_changed (path_of l.directories) l.realms l.refs.live l.fn.files (take l.file-index l.made);
-  rows : ChangesAll (path_of l.directories) l.realms l.refs.live l.fn.files l.files (take l.file-index l.made);
+  count : l.count ≡ count_changed (path_of l.directories) l.realms l.fn.files (take l.file-index l.made);
+  rows : ChangesAll (path_of l.directories) l.realms l.fn.files l.files (take l.file-index l.made);
 }

@@ -1,47 +1,49 @@
-use Rattle.std.proofs.Common.{rules, ◌≡◌, ◌∙◌, refl, sym, ap, ◌+◌, ◌≤◌, [], ◌∷◌, ◌++◌, length, arith}
+use Rattle.std.proofs.Common.{rules, ◌≡◌, ◌∙◌, refl, sym, ap, ◌+◌, ◌≤◌, length, arith}
 use Rattle.std.proofs.lemmas.List.{length-reverse}
-use Rattle.cs_capsnap.specs.CapSnaps.{first_unsent, greatest_tid, readiness}
-use Rattle.cs_capsnap.specs.declared.snap.Ready.TheVariants as ready
+use Rattle.cs_inode.specs.Answers.{flush_snaps_answer}
+use Rattle.cs_inode.specs.Inodes.{greatest_tid}
+use Rattle.cs_inode.specs.declared.answers.SnapStep.TheVariants as snap
 use Rattle.cs_laws.specs.declared.messages.Message.TheVariants as messages
 use Rattle.cs_laws.specs.History.{sent, to_server}
-use Rattle.cs_theorems.specs.Queues.{snaps}
 use Rattle.cs_theorems.proofs.Counts.{sent_few}
-use Rattle.cs_theorems.proofs.QueueAnswers.{queue_message, queue_tids}
 use Rattle.cs_world.specs.Tables.{Files, PutsRow, past, row}
-use Rattle.cs_world.proofs.Completes.{same_rows}
-use Rattle.cs_world.proofs.Flushed.{none_is, writing_is, flushed_is, flushed_rows, one_longer}
+use Rattle.cs_world.proofs.Flushed.{flush_snap_told, flush_snaps_is, one_longer, sent_behind, snap_flushed_rows, tids_drawn}
 use Rattle.cs_world.proofs.Rows.{row_is, row_known}
 use Rattle.cs_world.proofs.snaps.flush_snaps.Goals as goal
 
-pub following-tid-requires : goal.following-tid-requires
-following-tid-requires c =
+pub following-requires : goal.following-requires
+following-requires c =
     let s = c.args.state.now in
     omega (arith, c.requires.tables.flushes, sent_few (past s), c.requires.room, length-reverse s.entries.items)
 
-pub sent-requires-clause-later : goal.sent-requires-clause-later
-sent-requires-clause-later c =
+pub flush_snaps-requires : goal.flush_snaps-requires
+flush_snaps-requires c =
     let s = c.args.state.now in
     let h = past s in
     let is : c.in-Some.row.now ≡ row h c.args.file = row_is h s c.args.file c.in-Some.row.now c.requires.tables (sym c.in-Some.ensures.value) in
-    let tids : greatest_tid c.in-Some.row.now.snaps ≤ length (sent h) = rw is (queue_tids s.pages h c.requires.run c.args.file) in
-    omega (arith, tids, c.requires.tables.flushes, c.following-tid.ensures)
+    let tids : greatest_tid c.in-Some.row.now.inode ≤ length (sent h) = rw is (tids_drawn s.pages h c.args.file c.requires.run) in
+    omega (arith, tids, c.requires.tables.flushes, c.following.ensures)
 
-pub returns-in-NoneQueued-clause-ok : goal.returns-in-NoneQueued-clause-ok
-returns-in-NoneQueued-clause-ok c =
+pub returns-in-None-clause-ok : goal.returns-in-None-clause-ok
+returns-in-None-clause-ok c =
     let s = c.args.state.now in
     let h = past s in
+    let f = c.args.file in
     let t = c.requires.tables in
+    let r = c.in-Some.row.now in
     let has = sym c.in-Some.ensures.value in
-    let is : c.in-Some.row.now ≡ row h c.args.file = row_is h s c.args.file c.in-Some.row.now t has in
-    let told : readiness 0 (first_unsent (snaps h c.args.file)) ≡ ready.NoneQueued = rw is at (sym c.ready.ensures.value ∙ c.in-NoneQueued.is) in
-    let new : Files = c.get_mut.follows.lender c.in-Some.row.now in
-    let put : PutsRow s.files new c.args.file c.in-Some.row.now = λ g. search rules in
+    let known = row_known h s f r t has in
+    let is : r ≡ row h f = row_is h s f r t has in
+    let tid = c.following.result in
+    let told : snap.None ≡ flush_snaps_answer tid r.inode = sym c.in-None.is ∙ c.flush_snaps.ensures.answer in
+    let new : Files = c.get_mut.follows.lender (record r { inode = c.flush_snaps.new.self }) in
+    let put : PutsRow s.files new f (record r { inode = c.flush_snaps.new.self }) = λ g. search rules in
     record {
-      answer = none_is s.pages h c.args.file c.requires.run (row_known h s c.args.file c.in-Some.row.now t has) told;
+      answer = flush_snaps_is s.pages h f tid snap.None c.requires.run known (c.following.ensures ∙ ap (λ n. n + 1) t.flushes) (rw is at told);
       entries = refl;
       pages = refl;
       tables = record {
-        rows = λ g. same_rows s.files new c.args.file c.in-Some.row.now has put g ∙ t.rows g;
+        rows = snap_flushed_rows h s f tid snap.None new r c.flush_snaps.new.self t known is told c.flush_snaps.ensures.after put;
         made = t.made;
         sent_to_client = t.sent_to_client;
         sent_to_server = t.sent_to_server;
@@ -61,18 +63,22 @@ pub returns-in-Writing-clause-ok : goal.returns-in-Writing-clause-ok
 returns-in-Writing-clause-ok c =
     let s = c.args.state.now in
     let h = past s in
+    let f = c.args.file in
     let t = c.requires.tables in
+    let r = c.in-Some.row.now in
     let has = sym c.in-Some.ensures.value in
-    let is : c.in-Some.row.now ≡ row h c.args.file = row_is h s c.args.file c.in-Some.row.now t has in
-    let told : readiness 0 (first_unsent (snaps h c.args.file)) ≡ ready.Writing = rw is at (sym c.ready.ensures.value ∙ c.in-Writing.is) in
-    let new : Files = c.get_mut.follows.lender c.in-Some.row.now in
-    let put : PutsRow s.files new c.args.file c.in-Some.row.now = λ g. search rules in
+    let known = row_known h s f r t has in
+    let is : r ≡ row h f = row_is h s f r t has in
+    let tid = c.following.result in
+    let told : snap.Writing ≡ flush_snaps_answer tid r.inode = sym c.in-Writing.is ∙ c.flush_snaps.ensures.answer in
+    let new : Files = c.get_mut.follows.lender (record r { inode = c.flush_snaps.new.self }) in
+    let put : PutsRow s.files new f (record r { inode = c.flush_snaps.new.self }) = λ g. search rules in
     record {
-      answer = writing_is s.pages h c.args.file c.requires.run (row_known h s c.args.file c.in-Some.row.now t has) told;
+      answer = flush_snaps_is s.pages h f tid snap.Writing c.requires.run known (c.following.ensures ∙ ap (λ n. n + 1) t.flushes) (rw is at told);
       entries = refl;
       pages = refl;
       tables = record {
-        rows = λ g. same_rows s.files new c.args.file c.in-Some.row.now has put g ∙ t.rows g;
+        rows = snap_flushed_rows h s f tid snap.Writing new r c.flush_snaps.new.self t known is told c.flush_snaps.ensures.after put;
         made = t.made;
         sent_to_client = t.sent_to_client;
         sent_to_server = t.sent_to_server;
@@ -88,30 +94,30 @@ returns-in-Writing-clause-ok c =
       };
     }
 
-pub returns-in_ok-push_back-in-Ready-clause-ok : goal.returns-in_ok-push_back-in-Ready-clause-ok
-returns-in_ok-push_back-in-Ready-clause-ok c =
+pub returns-in_ok-push_back-in-Sent-clause-ok : goal.returns-in_ok-push_back-in-Sent-clause-ok
+returns-in_ok-push_back-in-Sent-clause-ok c =
     let s = c.args.state.now in
     let h = past s in
     let f = c.args.file in
     let t = c.requires.tables in
-    let run = c.requires.run in
+    let r = c.in-Some.row.now in
     let has = sym c.in-Some.ensures.value in
-    let known = row_known h s f c.in-Some.row.now t has in
-    let is : c.in-Some.row.now ≡ row h f = row_is h s f c.in-Some.row.now t has in
-    let tid = c.following-tid.result in
-    let next : tid ≡ length (sent h) + 1 = c.following-tid.ensures ∙ ap (λ n. n + 1) t.flushes in
-    let told : readiness 0 (first_unsent (snaps h f)) ≡ ready.Ready c.in-Ready.meta c.in-Ready.follows = rw is at (sym c.ready.ensures.value ∙ c.in-Ready.is) in
-    let new : Files = c.get_mut.follows.lender (record c.in-Some.row.now { snaps = c.sent.new.self }) in
-    let put : PutsRow s.files new f (record c.in-Some.row.now { snaps = c.sent.new.self }) = λ g. search rules in
+    let known = row_known h s f r t has in
+    let is : r ≡ row h f = row_is h s f r t has in
+    let tid = c.following.result in
+    let x = c.in-Sent.sent in
+    let told : snap.Sent x ≡ flush_snaps_answer tid r.inode = sym c.in-Sent.is ∙ c.flush_snaps.ensures.answer in
+    let new : Files = c.get_mut.follows.lender (record r { inode = c.flush_snaps.new.self }) in
+    let put : PutsRow s.files new f (record r { inode = c.flush_snaps.new.self }) = λ g. search rules in
     record {
-      answer = flushed_is s.pages h f tid c.in-Ready.meta c.in-Ready.follows run known told next;
+      answer = flush_snaps_is s.pages h f tid (snap.Sent x) c.requires.run known (c.following.ensures ∙ ap (λ n. n + 1) t.flushes) (rw is at told);
       entries = refl;
       pages = refl;
       tables = record {
-        rows = flushed_rows h s f tid c.in-Ready.follows new c.in-Some.row.now c.sent.new.self t known is c.sent.ensures put;
+        rows = snap_flushed_rows h s f tid (snap.Sent x) new r c.flush_snaps.new.self t known is told c.flush_snaps.ensures.after put;
         made = t.made;
         sent_to_client = t.sent_to_client;
-        sent_to_server = c.in_ok-push_back-in-Ready.ensures.items ∙ (ap (λ q. q ++ messages.FlushSnap f tid c.in-Ready.follows c.in-Ready.meta ∷ []) t.sent_to_server ∙ ap (λ m. to_server h ++ m ∷ []) (queue_message s.pages h run f tid c.in-Ready.meta c.in-Ready.follows told));
+        sent_to_server = sent_behind s.to_server.items c.push_back.new.self.items (to_server h) (messages.FlushSnap f x.tid x.follows x.meta) _ c.in_ok-push_back-in-Sent.ensures.items t.sent_to_server (flush_snap_told s.pages h f tid x c.requires.run (rw is at told));
         clock = t.clock;
         tree = t.tree;
         realms = t.realms;

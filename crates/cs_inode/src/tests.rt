@@ -1,0 +1,166 @@
+// The calls that take memory, with ample memory; and that a file may go to another thread.
+ghost use Rattle.std.specs.Prelude.{◌≡◌, ◌≤◌, IfOk};
+
+use crate::{Allow, ChmodStep, FlushStep, Inode, WriteStep};
+use cs_bits::Caps;
+use cs_caps::Done;
+use cs_flush::Sent;
+use cs_ids::{Bytes, FileMeta, Ino, Seq, Snap, Tid};
+use cs_laws::ObjOps;
+use cs_snapctx::SnapContext;
+use std::alloc::Global;
+use std::test::Fail;
+
+fn context(alloc: Global, seq: u64) -> Result<SnapContext, Fail>
+    ensures { IfOk result (λ c. c.seq ≡ seq) }
+{
+    let seq = Seq::new(seq).ok_or("seq")?;
+    let since = Snap::new(0).ok_or("snapshot")?;
+    let parent = SnapContext::empty(alloc);
+    Ok(SnapContext::merge(alloc, &[], &[], seq, &parent, since)?)
+}
+
+fn tid(value: u64) -> Result<Tid, Fail>
+    ensures { IfOk result (λ t. t ≡ value) }
+{
+    Ok(Tid::new(value).ok_or("tid")?)
+}
+
+// A flush of the new mode.
+fn sent(number: u64, follows: u64) -> Result<Sent, Fail> {
+    Ok(Sent {
+        tid: tid(number)?,
+        follows: Seq::new(follows).ok_or("seq")?,
+        meta: FileMeta {
+            size: 0,
+            mtime: 0,
+            mode: 0o600,
+        },
+    })
+}
+
+fn crosses_threads<T: Send>(_: &T) {}
+
+// A file to which two bytes were written from an offset on, and the operations of the write.
+fn written(alloc: Global, off: u32) -> Result<(Inode, ObjOps), Fail>
+    requires { off ≤ 65535 }
+{
+    let ino = Ino::new(7).ok_or("ino")?;
+    let mut inode = Inode::new(alloc, ino, SnapContext::empty(alloc));
+    let WriteStep::Direct(ops) = inode.write(false, off, b"ab", 9, 0, tid(4)?)?;
+    Ok((inode, ops))
+}
+
+#[test]
+fn a_write_touches_two_objects(rt: HostRuntime) -> Result<(), Fail> {
+    let (inode, ops) = written(rt.alloc(), 65_535)?;
+    assert_eq!(rt; ops.len(), 2);
+    let second = ops.get(1).ok_or("second")?;
+    assert_eq!(rt; second.tid, tid(5)?);
+    assert_eq!(rt; second.obj.index, 1);
+    assert_eq!(rt; second.bytes.as_slice(), b"b".as_slice());
+    assert_eq!(rt; inode.size(), 65_537);
+    crosses_threads(&inode);
+    Ok(())
+}
+
+#[test]
+fn a_read_ends_with_the_file(rt: HostRuntime) -> Result<(), Fail> {
+    let (inode, _) = written(rt.alloc(), 0)?;
+    let mut out = Bytes::from_slice(rt.alloc(), b">")?;
+    inode.read(1, 3, b"b\0\0", &mut out)?;
+    assert_eq!(rt; out.as_slice(), b">b".as_slice());
+    Ok(())
+}
+
+#[test]
+fn a_reference_needs_what_was_issued(rt: HostRuntime) -> Result<(), Fail> {
+    let ino = Ino::new(7).ok_or("ino")?;
+    let mut inode = Inode::new(rt.alloc(), ino, SnapContext::empty(rt.alloc()));
+    inode.deliver_cap(Caps::FILE_WRITE, Seq::new(1).ok_or("seq")?, 8);
+    assert_eq!(rt; inode.allow(Caps::AUTH_EXCL, 8), Allow::NoCaps);
+    assert_eq!(rt; inode.allow(Caps::FILE_WRITE, 9), Allow::Max);
+    assert_eq!(rt;
+        inode.allow(Caps::FILE_WRITE, 8),
+        Allow::Yes { tag: Seq::zero() }
+    );
+    Ok(())
+}
+
+// A file whose context changed while a writer runs.
+fn snapped(alloc: Global) -> Result<(Inode, bool), Fail> {
+    let ino = Ino::new(7).ok_or("ino")?;
+    let mut inode = Inode::new(alloc, ino, SnapContext::empty(alloc));
+    inode.start_writer();
+    let made = inode.new_context(context(alloc, 1)?)?;
+    Ok((inode, made))
+}
+
+#[test]
+fn a_snapshot_waits_for_the_writer(rt: HostRuntime) -> Result<(), Fail> {
+    let (mut inode, made) = snapped(rt.alloc())?;
+    assert!(rt; made);
+    assert!(rt; inode.snaps_wait());
+    assert_eq!(rt; inode.chmod(0o600), ChmodStep::Snap);
+    assert!(rt; inode.owed(Snap::new(1)));
+    Ok(())
+}
+
+// A file with a new mode, and what a flush of it sends.
+fn flushed(alloc: Global) -> Result<(Inode, FlushStep), Fail> {
+    let ino = Ino::new(7).ok_or("ino")?;
+    let mut inode = Inode::new(alloc, ino, SnapContext::empty(alloc));
+    let _ = inode.chmod(0o600);
+    let step = inode.flush(tid(1)?)?;
+    Ok((inode, step))
+}
+
+#[test]
+fn a_flush_is_acked(rt: HostRuntime) -> Result<(), Fail> {
+    let (mut inode, step) = flushed(rt.alloc())?;
+    assert_eq!(rt; step, FlushStep::Sent(sent(1, 0)?));
+    assert!(rt; inode.owed(None));
+    inode.flush_acked(tid(1)?);
+    assert!(rt; !inode.owed(None));
+    Ok(())
+}
+
+// A file with a cap snap that was sent, and then a flush.
+fn flushed_twice(alloc: Global) -> Result<Inode, Fail> {
+    let ino = Ino::new(7).ok_or("ino")?;
+    let mut inode = Inode::new(alloc, ino, SnapContext::empty(alloc));
+    let _ = inode.chmod(0o600);
+    let _ = inode.new_context(context(alloc, 1)?)?;
+    let _ = inode.flush_snaps(tid(1)?);
+    let _ = inode.flush(tid(2)?)?;
+    Ok(inode)
+}
+
+#[test]
+fn flushes_are_reported_in_order(rt: HostRuntime) -> Result<(), Fail> {
+    let inode = flushed_twice(rt.alloc())?;
+    let reports = inode.unacked(rt.alloc())?;
+    assert_eq!(rt; reports.len(), 2);
+    let first = reports.get(0).ok_or("first")?;
+    assert_eq!(rt; first.sent, sent(1, 0)?);
+    assert!(rt; first.snap);
+    let second = reports.get(1).ok_or("second")?;
+    assert_eq!(rt; second.sent, sent(2, 1)?);
+    assert!(rt; !second.snap);
+    Ok(())
+}
+
+#[test]
+fn dirty_metadata_is_in_use(rt: HostRuntime) -> Result<(), Fail> {
+    let (mut inode, _) = written(rt.alloc(), 0)?;
+    inode.deliver_cap(Caps::FILE_WRITE, Seq::new(1).ok_or("seq")?, 8);
+    inode.deliver_cap(Caps::none(), Seq::new(2).ok_or("seq")?, 8);
+    assert!(rt; inode.check_holds(Caps::none()));
+    let held = Done::Hold {
+        bits: Caps::FILE_WRITE,
+    };
+    assert_eq!(rt; inode.check(Caps::none()), held);
+    inode.restart();
+    assert_eq!(rt; inode.caps().seq(), Seq::zero());
+    Ok(())
+}

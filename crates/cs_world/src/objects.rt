@@ -1,0 +1,106 @@
+// The object store's part in the events: it applies the operations of a write, and reads files.
+ghost use Rattle.std.specs.Prelude.{◌≡◌, ◌+◌, ◌≤◌, ◌∷◌, ◌++◌, false, length, reverse, All, IfOk, OnOk, OnErr, IsErrOf};
+ghost use Rattle.cs_ids.specs.Devices.{Rose};
+ghost use Rattle.cs_laws.specs.Answers.{bytes_from};
+ghost use Rattle.cs_laws.specs.Objects.{object_byte};
+ghost use Rattle.cs_objstore.specs.Stores.{has_tid};
+ghost use Rattle.cs_world.specs.Shown.{file_byte};
+ghost use Rattle.cs_world.specs.Storing.{AppliesFront, AreNew, FitsObject};
+
+use cs_geom::split_objects;
+use cs_ids::{Bytes, Failed, Ino, Memory, Obj};
+use cs_laws::{At, ObjOp, StepFault};
+use cs_objstore::{ObjStore, StoreFault};
+use std::alloc::Global;
+
+/// Applies operations of new numbers, in their order. After a fault a front of them was applied.
+pub fn apply_all<O: ObjStore>(store: &mut O, ops: &[ObjOp]) -> Result<(), StepFault>
+    requires fits { All FitsObject ops.now }
+    requires fresh { AreNew ops.now (O.ops store.old) }
+    ensures ok { OnOk result (O.ops store.new ≡ reverse ops.now ++ O.ops store.old) }
+    ensures front { OnErr result (AppliesFront ops.now (O.ops store.old) (O.ops store.new)) }
+    ensures later { O.faults store.old ≤ O.faults store.new }
+    ensures cause { IsErrOf result StepFault.Store → Rose (O.faults store.old) (O.faults store.new) }
+    ensures unlogged { IsErrOf result StepFault.Log → ⊥ }
+{
+    for op in ops {
+        apply(store, op)?;
+    }
+    Ok(())
+}
+
+// Applies an operation of a new number.
+fn apply<O: ObjStore>(store: &mut O, op: &ObjOp) -> Result<(), StepFault>
+    requires fits { FitsObject op.now }
+    requires fresh { has_tid op.now.tid (O.ops store.old) ≡ false }
+    ensures ok { OnOk result (O.ops store.new ≡ op.now ∷ O.ops store.old) }
+    ensures err { OnErr result (O.ops store.new ≡ O.ops store.old) }
+    ensures later { O.faults store.old ≤ O.faults store.new }
+    ensures cause { IsErrOf result StepFault.Store → Rose (O.faults store.old) (O.faults store.new) }
+    ensures unlogged { IsErrOf result StepFault.Log → ⊥ }
+{
+    match store.apply(op) {
+        Ok(_) => Ok(()),
+        Err(StoreFault::Failed) => Err(StepFault::Store),
+        Err(StoreFault::Memory) => Err(StepFault::Memory),
+    }
+}
+
+/// The file's bytes from a place on, as its objects have them.
+pub fn read_file<O: ObjStore>(
+    alloc: Global,
+    store: &mut O,
+    file: Ino,
+    at: At,
+    off: u32,
+    count: u32,
+) -> Result<Bytes, StepFault>
+    requires few { count ≤ 4096 }
+    requires within { off + count ≤ 1048576 }
+    ensures bytes { IfOk result (λ b. b ≡ bytes_from (file_byte at file (O.ops store.old)) off count) }
+    ensures kept { O.ops store.new ≡ O.ops store.old }
+    ensures later { O.faults store.old ≤ O.faults store.new }
+    ensures cause { IsErrOf result StepFault.Store → Rose (O.faults store.old) (O.faults store.new) }
+    ensures unlogged { IsErrOf result StepFault.Log → ⊥ }
+{
+    let mut bytes = Bytes::from_slice(alloc, &[])?;
+    for piece in split_objects(u64::from(off), u64::from(count)) {
+        let obj = Obj {
+            ino: file,
+            index: piece.index,
+        };
+        let part = read_part(alloc, store, obj, &at, piece.obj_off, piece.len)?;
+        bytes.append(part.as_slice())?;
+    }
+    Ok(bytes)
+}
+
+// The object's bytes from a place on.
+fn read_part<O: ObjStore>(
+    alloc: Global,
+    store: &mut O,
+    obj: Obj,
+    at: &At,
+    off: u32,
+    count: u32,
+) -> Result<Vec<u8>, StepFault>
+    requires { off + count ≤ 65536 }
+    ensures bytes { IfOk result (λ b. b.items ≡ bytes_from (object_byte at.now obj (O.ops store.old)) off count) }
+    ensures kept { O.ops store.new ≡ O.ops store.old }
+    ensures later { O.faults store.old ≤ O.faults store.new }
+    ensures cause { IsErrOf result StepFault.Store → Rose (O.faults store.old) (O.faults store.new) }
+    ensures unlogged { IsErrOf result StepFault.Log → ⊥ }
+{
+    let mut part = zeros(alloc, count)?;
+    match store.read(obj, *at, off, part.as_mut_slice()) {
+        Ok(()) => Ok(part),
+        Err(Failed) => Err(StepFault::Store),
+    }
+}
+
+/// So many bytes, all of them 0.
+pub fn zeros(alloc: Global, count: u32) -> Result<Vec<u8>, Memory>
+    ensures { IfOk result (λ bytes. length bytes.items ≡ count) }
+{
+    Ok(vec![in alloc; 0u8; count as usize]?)
+}
