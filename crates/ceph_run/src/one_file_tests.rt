@@ -1,7 +1,14 @@
-// Runs of scripts with times, modes and flushes of one file.
+// Runs of scripts with times, reads, modes and flushes of one file.
 use crate::test_runs::run_over;
 use cs_objstore::MemStore;
 use std::test::Fail;
+
+// A file that is written, read, given another mode, and flushed.
+const ONE_FILE: &[u8] =
+    b"ceph-script 1\n# The time, reads, the mode and the flush of what is dirty, on one file.\nfile 100 1\ngrant 100 AxFrw 4096\ntoclient\n\n# The time goes on, and never back. A write has the time that was told last.\nclock 1000\nclock 999\nbegin 1 100 AxFrw 16\nwrite 1 1 0 68656c6c6f\nclock 1060\n\n# A read ends at the size that the client knows.\nread 1 1 3 16\nread 1 1 5 16\nchmod 1 1 0600\nend 1 1\n\n# The server doesn't know of them: size, time and mode are dirty. So the client holds on to Fw and Ax till it has sent them.\nshow 100 head 0 16\nrevoke 100 AxFw\ntoclient\ncheck 100\nflush 100\nflush 100\ncheck 100\n\n# The flush reaches the server and is recorded, and once its record is durable the client is told.\ntomds\ntomds\ncommit\nshow 100 head 0 16\ntoclient\nshow 100 head 0 16\n";
+
+const SHOWN: &[u8] =
+    b"ceph-journal 1\n1 file 100 1 -> made\n2 grant 100 AxFrw 4096 -> sent 1 held AxFrw\n3 toclient -> cap 100 1 AxFrw 4096\n4 clock 1000 -> now 1000\n5 clock 999 -> back\n6 begin 1 100 AxFrw 16 -> ref 1\n7 write 1 1 0 68656c6c6f -> wrote\n8 clock 1060 -> now 1060\n9 read 1 1 3 16 -> bytes 6c6f\n10 read 1 1 5 16 -> bytes -\n11 chmod 1 1 0600 -> done\n12 end 1 1 -> ended\n13 show 100 head 0 16 -> pending\n14 revoke 100 AxFw -> sent 2 held AxFrw\n15 toclient -> cap 100 2 Fr 4096\n16 check 100 -> hold AxFw\n17 flush 100 -> flush 1\n18 flush 100 -> clean\n19 check 100 -> ack 2 Fr\n20 tomds -> flushed 100 1\n21 tomds -> capack 100 2 held Fr\n22 commit -> commit 1\n23 show 100 head 0 16 -> pending\n24 toclient -> flushack 100 1\n25 show 100 head 0 16 -> size 5 mtime 1000 mode 0600 bytes 68656c6c6f\nend 25\n";
 
 // A file of which nothing is dirty gets no cap snap.
 const CLEAN_AT_A_SNAPSHOT: &[u8] =
@@ -26,7 +33,8 @@ const REFUSALS: &[u8] =
 
 #[test]
 fn files_are_flushed(rt: HostRuntime) -> Result<(), Fail> {
-    let table: [(&[u8], &[u8], usize); 3] = [
+    let table: [(&[u8], &[u8], usize); 4] = [
+        (ONE_FILE, SHOWN, 1),
         (CLEAN_AT_A_SNAPSHOT, NO_CAP_SNAP, 1),
         (HEAD_FIRST, BOTH_FLUSHED, 2),
         (REFUSED, REFUSALS, 0),

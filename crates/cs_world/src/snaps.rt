@@ -1,6 +1,6 @@
 // Cap snaps and flushes: cap snaps are queued where a file's context changes, and what the client has of a
 // file is sent to the server.
-ghost use Rattle.std.specs.Prelude.{◌≡◌, ◌<◌, ◌≤◌, ◌+◌, true, length, IfOk, OnOk, OnErr};
+ghost use Rattle.std.specs.Prelude.{◌≡◌, ◌<◌, ◌≤◌, true, length, IfOk, OnOk, OnErr};
 ghost use Rattle.std.specs.BTreeMap.{get};
 ghost use Rattle.std.specs.Ordering.{nat_cmp};
 ghost use Rattle.cs_laws.specs.declared.events.Event.TheVariants as events;
@@ -12,8 +12,8 @@ ghost use Rattle.cs_world.specs.Changed.{Changes, ChangesAll, ContextsRise, Rise
 ghost use Rattle.cs_world.specs.Tables.{Steps, KeepsJournal, IsReady};
 
 use crate::contexts::home_context;
-use crate::state::{FileState, State};
-use cs_ids::{Ino, Memory, Tid};
+use crate::state::{FileState, State, following};
+use cs_ids::{Ino, Memory};
 use cs_inode::{FlushStep, SnapStep};
 use cs_laws::{Answer, Message, Why};
 use cs_realms::Realms;
@@ -130,15 +130,4 @@ pub fn flush_snaps(state: &mut State, file: Ino) -> Result<Answer, Memory>
             })
         }
     }
-}
-
-// The number behind a count of flushes.
-fn following(count: u64) -> Tid
-    requires { count < 99998 }
-    ensures { result ≡ count + 1 }
-{
-    let Some(tid) = Tid::new(count + 1) else {
-        unreachable!()
-    };
-    tid
 }

@@ -1,5 +1,5 @@
 // The callers' writes and reads.
-ghost use Rattle.std.specs.Prelude.{◌≡◌, ◌+◌, ◌-◌, ◌<◌, ◌≤◌, ◌∷◌, ◌++◌, true, false, length, min, take, IfOk, OnErr, IsErrOf};
+ghost use Rattle.std.specs.Prelude.{◌≡◌, ◌+◌, ◌-◌, ◌≤◌, ◌∷◌, ◌++◌, true, false, length, min, take, IfOk, OnErr, IsErrOf};
 ghost use Rattle.cs_ids.specs.Devices.{Rose};
 ghost use Rattle.cs_laws.specs.declared.events.Event.TheVariants as events;
 ghost use Rattle.cs_laws.specs.declared.answers.Answer.TheVariants as answers;
@@ -14,9 +14,9 @@ ghost use Rattle.cs_world.specs.Tables.{Steps, KeepsJournal, IsReady, past};
 use crate::objects::{apply_all, read_file, zeros};
 use crate::references::find;
 use crate::shows::shown_count;
-use crate::state::State;
+use crate::state::{State, following};
 use cs_bits::Caps;
-use cs_ids::{Bytes, Caller, Ino, Tid};
+use cs_ids::{Bytes, Caller, Ino};
 use cs_inode::WriteStep;
 use cs_laws::{Answer, At, RefName, StepFault};
 use cs_objstore::ObjStore;
@@ -65,17 +65,6 @@ pub fn write<O: ObjStore>(
     apply_all(store, ops.as_slice())?;
     state.operations += ops.len() as u64;
     Ok(Answer::Wrote)
-}
-
-// The number behind a count of operations.
-fn following(count: u64) -> Tid
-    requires { count < 99998 }
-    ensures { result ≡ count + 1 }
-{
-    let Some(tid) = Tid::new(count + 1) else {
-        unreachable!()
-    };
-    tid
 }
 
 /// Reads bytes of the file of a reference, as far as its size goes: those that the object store has.
