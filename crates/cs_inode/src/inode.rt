@@ -23,8 +23,8 @@ use std::alloc::Global;
 use std::marker::Model;
 use std::mem;
 
-/// The mode of a file that was made and not changed since.
-const FIRST_MODE: u16 = 0o644;
+/// The mode of a file that was made and not changed since: 0644.
+pub const FIRST_MODE: u16 = 0o644;
 
 /// What the client keeps of one file.
 #[derive(Drop)]
@@ -69,8 +69,9 @@ impl Inode {
         }
     }
 
-    /// Whether a reference to these bits may begin. One that may write is refused while a cap snap is
-    /// writing, and where it ends, in bytes, beyond what the server granted.
+    /// Whether a reference to these bits may begin, up to an end in bytes. `NoCaps` where a bit isn't
+    /// issued; of one that may write, `Snap` while a cap snap is writing, and `Max` where its end is
+    /// beyond the one that the server granted.
     pub fn allow(&self, bits: Caps, end: u32) -> Allow
         ensures { result ≡ allowance bits end self.now }
     {
@@ -110,10 +111,12 @@ impl Inode {
         }
     }
 
-    /// Writes bytes from an offset on, at the time `now`, where no pages are `buffered`: one operation
-    /// for each object that they touch, in rising order, with numbers from `tid` on. They are made under
-    /// the context of the cap snap that is writing, or else under the file's own. They need none of the
-    /// free pages. After `Memory` the file is as before.
+    /// Writes 1 to 1,024 bytes from the offset `off` on, to an end of at most 1,048,576 bytes, at the time
+    /// `now` in seconds, not `buffered` in pages: one operation for each object that they touch, in rising
+    /// order, with numbers from `tid` on, which is below 99,999. They are made under the context of the cap
+    /// snap that is writing, or else under the file's own. The size grows to the end, the mtime is `now`,
+    /// and `Fw` is dirty. How many pages are free, `_free`, makes no difference. After `Memory` the file is
+    /// as before.
     pub fn write(
         &mut self,
         buffered: bool,
@@ -147,8 +150,9 @@ impl Inode {
         self.meta.size
     }
 
-    /// Adds the bytes from an offset on to `out`: at most `len`, and none past the file's size. `base` is
-    /// what the store has there. After `Memory` `out` is as before.
+    /// Adds the bytes from the offset `off` on, below 1,048,576, to `out`: at most `len`, which is 1 to
+    /// 4,096, and none past the file's size. `base` is what the store has there, in as many bytes as `len`
+    /// and the greatest size of a file, 1,048,576, allow. After `Memory` `out` is as before.
     pub fn read(&self, off: u32, len: u32, base: &[u8], out: &mut Bytes) -> Result<(), Memory>
         requires within { off < greatest_end }
         requires some { 1 ≤ len }
@@ -162,7 +166,8 @@ impl Inode {
         out.append(&base[..count.min(base.len())])
     }
 
-    /// Sets the mode, unless a cap snap is writing.
+    /// Sets the mode, whatever its bits, after which `Ax` is dirty. `Snap`, and nothing changes, while a
+    /// cap snap is writing.
     pub fn chmod(&mut self, mode: u16) -> ChmodStep
         ensures answer { result ≡ chmod_answer self.old }
         ensures after { self.new ≡ after_chmod mode self.old }
@@ -203,8 +208,8 @@ impl Inode {
         self.caps.complete(refs.union(self.flushes.dirty_bits()))
     }
 
-    /// Sends the metadata in a flush of this number, greater than that of each flush that isn't
-    /// acknowledged; nothing is dirty then. Not while a cap snap is writing, and not where nothing is
+    /// Sends size, mtime and mode in a flush of this number, greater than that of each flush that isn't
+    /// acknowledged; nothing is dirty then. `Snap` while a cap snap is writing, `Clean` where nothing is
     /// dirty. After `Memory` the file is as before.
     pub fn flush(&mut self, tid: Tid) -> Result<FlushStep, Memory>
         requires { greatest_tid self.old < tid }
@@ -225,7 +230,7 @@ impl Inode {
     }
 
     /// Sends the first cap snap that wasn't sent, in a flush of this number, greater than that of each
-    /// flush that isn't acknowledged. Not while it is writing.
+    /// flush that isn't acknowledged. `None` where each was sent, `Writing` while this one is writing.
     pub fn flush_snaps(&mut self, tid: Tid) -> SnapStep
         requires { greatest_tid self.old < tid }
         ensures answer { result ≡ flush_snaps_answer tid self.old }
@@ -291,7 +296,8 @@ impl Inode {
         &self.context
     }
 
-    /// The unacknowledged flushes of the file and of its cap snaps, in the order of their numbers.
+    /// The unacknowledged flushes of the file and of its cap snaps, in the order of their numbers. No
+    /// error but `Memory`.
     pub fn unacked(&self, alloc: Global) -> Result<FlushReportList, Memory>
         ensures { IfOk result (ReportsUnacked self.now) }
     {

@@ -13,5 +13,5 @@ mod reports;
 mod tests;
 
 pub use answers::{Allow, ChmodStep, FlushStep, SnapStep, WriteStep};
-pub use inode::Inode;
+pub use inode::{FIRST_MODE, Inode};
 pub use laws::operations_fit_their_objects;

@@ -1,5 +1,7 @@
 -- What the begin of a reference does to the tables.
-use Rattle.std.proofs.Common.{◌≡◌, ◌∙◌, refl, sym, ap, ℕ, ◌+◌, ◌<◌, ◌≤◌, ◌==◌, ◌&&◌, Bool, true, false, cond, List, [], ◌∷◌, ◌++◌, length, nat_lt, nat_le, arith}
+use Rattle.std.proofs.Common.{◌≡◌, ◌∙◌, refl, sym, ap, ℕ, ◌+◌, ◌<◌, ◌≤◌, ◌==◌, ◌&&◌, Bool, true, false, cond, List, [], ◌∷◌, ◌++◌, Some, length, nat_lt, nat_le, arith}
+use Rattle.std.specs.Ordering.{nat_cmp}
+use Rattle.std.specs.BTreeMap.{get}
 use Rattle.std.proofs.lemmas.Bool.{and_left, eq-eqb, eqb-true}
 use Rattle.std.proofs.lemmas.Bool.Decides.{nat_tests}
 use Rattle.cs_bits.specs.declared.Caps.{Caps}
@@ -14,22 +16,23 @@ use Rattle.cs_capsnap.specs.CapSnaps as kept
 use Rattle.cs_laws.specs.declared.events.Event.TheVariants as events
 use Rattle.cs_laws.specs.declared.answers.Answer.{Answer}
 use Rattle.cs_laws.specs.declared.answers.Answer.TheVariants as answers
-use Rattle.cs_laws.specs.declared.answers.Why.{Why}
 use Rattle.cs_laws.specs.declared.answers.Why.TheVariants as why
 use Rattle.cs_laws.specs.declared.answers.Entry.{Entry}
 use Rattle.cs_laws.specs.Answers.{answer_begin, may_write}
 use Rattle.cs_laws.specs.CapSnaps.{is_writing}
 use Rattle.cs_laws.specs.Events.{begun, setup_file}
 use Rattle.cs_laws.specs.History.{client, context, live, queued}
-use Rattle.cs_refs.specs.Table.{RefTable, begun_of, writers_of}
+use Rattle.cs_laws.specs.Refusals.{is_refusal}
+use Rattle.cs_refs.specs.Table.{RefTable, writers_of}
 use Rattle.cs_theorems.specs.Runs.{IsRun}
 use Rattle.cs_theorems.proofs.QueueAnswers.{queue_writing}
 use Rattle.cs_world.specs.declared.state.FileState.{FileState}
 use Rattle.cs_world.specs.Changed.{started}
 use Rattle.cs_world.specs.declared.state.State.{State}
-use Rattle.cs_world.specs.Tables.{Files, PutsRow, Refines, inode, row}
+use Rattle.cs_world.specs.Tables.{Files, IsReady, PutsRow, Refines, Steps, inode, past, row}
 use Rattle.cs_world.proofs.Counting.{writers_begin}
-use Rattle.cs_world.proofs.Rows.{put_rows}
+use Rattle.cs_world.proofs.Refused.{refused}
+use Rattle.cs_world.proofs.Rows.{put_rows, row_is, row_known}
 
 -- The answer, by what the file allows
 
@@ -128,44 +131,20 @@ begun_next h c d n m next is = at (c == d) refl
 pub fewer : (m n : ℕ) → m ≤ n → n ≤ 256 → (n ≡ 256 → ⊥) → m < 256
 fewer m n within few other = grind (arith, within, few, other)
 
--- A begin that is refused leaves the tables
-
-pub begin_waits : (h : List Entry) (s : State) (new : Files) (c f : ℕ) (bits : Caps) (end : ℕ) (w : Why) (r : FileState) → Refines h s → setup_file h f ≡ true → r ≡ row h f
-    → PutsRow s.files new f r → Refines (record { event = events.Begin c f bits end; answer = answers.Again w } ∷ h) (record s { files = new })
-begin_waits h s new c f bits end w r t known is put =
-    let after : List Entry = record { event = events.Begin c f bits end; answer = answers.Again w } ∷ h in
+-- A begin that is refused leaves the tables. same: where this is the answer, no row is another one
+pub begin_refused : (s : State) (new : Files) (refs : RefTable) (c f : ℕ) (bits : Caps) (end : ℕ) (a : Answer) (r : FileState) → IsReady s → get nat_cmp s.files f ≡ Some r
+    → a ≡ answer_begin (past s) c f bits end → is_refusal (events.Begin c f bits end) a ≡ true
+    → ((g : ℕ) → row (record { event = events.Begin c f bits end; answer = a } ∷ past s) g ≡ row (past s) g)
+    → PutsRow s.files new f r → refs ≡ s.refs → Steps s (record s { files = new; refs = refs }) (events.Begin c f bits end) a
+begin_refused s new refs c f bits end a r ready has is turned same put left =
+    let h : List Entry = past s in
+    let after : List Entry = record { event = events.Begin c f bits end; answer = a } ∷ h in
+    let t : Refines h s = ready.tables in
+    let there : r ≡ row after f = row_is h s f r t has ∙ sym (same f) in
+    let rows = put_rows h after s.files new f r t.rows (λ g. refl) (row_known h s f r t has) there (λ g other. same g) put in
     record {
-      rows = put_rows h after s.files new f r t.rows (λ g. refl) known is (λ g other. refl) put;
-      made = t.made;
-      sent_to_client = t.sent_to_client;
-      sent_to_server = t.sent_to_server;
-      clock = t.clock;
-      tree = t.tree;
-      realms = t.realms;
-      live = t.live;
-      operations = t.operations;
-      begun = t.begun;
-      flushes = t.flushes;
-      durable = t.durable;
-      fresh = t.fresh;
-    }
-
-pub begin_full : (h : List Entry) (s : State) (new : Files) (refs : RefTable) (c f : ℕ) (bits : Caps) (end : ℕ) (r : FileState) → Refines h s → setup_file h f ≡ true → r ≡ row h f
-    → PutsRow s.files new f r → refs ≡ s.refs → Refines (record { event = events.Begin c f bits end; answer = answers.Full } ∷ h) (record s { files = new; refs = refs })
-begin_full h s new refs c f bits end r t known is put same =
-    let after : List Entry = record { event = events.Begin c f bits end; answer = answers.Full } ∷ h in
-    record {
-      rows = put_rows h after s.files new f r t.rows (λ g. refl) known is (λ g other. refl) put;
-      made = t.made;
-      sent_to_client = t.sent_to_client;
-      sent_to_server = t.sent_to_server;
-      clock = t.clock;
-      tree = t.tree;
-      realms = t.realms;
-      live = ap (λ x. x.live) same ∙ t.live;
-      operations = t.operations;
-      begun = λ d. ap (λ x. begun_of d x) same ∙ t.begun d;
-      flushes = t.flushes;
-      durable = t.durable;
-      fresh = t.fresh;
+      answer = is;
+      entries = refl;
+      pages = refl;
+      tables = refused h (record { event = events.Begin c f bits end; answer = a }) s new refs t turned rows left;
     }

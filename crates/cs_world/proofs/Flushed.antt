@@ -28,6 +28,7 @@ use Rattle.cs_laws.specs.Answers.{answer_flush, answer_flush_snaps}
 use Rattle.cs_laws.specs.Events.{setup_file}
 use Rattle.cs_laws.specs.Flushes.{flush_message}
 use Rattle.cs_laws.specs.History.{dirty, present, sent, snap as snap_of}
+use Rattle.cs_laws.specs.Refusals.{is_refusal}
 use Rattle.cs_theorems.specs.Queues as queues
 use Rattle.cs_theorems.specs.Queues.{snaps}
 use Rattle.cs_theorems.specs.Runs.{IsRun}
@@ -35,8 +36,9 @@ use Rattle.cs_theorems.proofs.QueueAnswers.{queue_answer, queue_message, queue_t
 use Rattle.cs_theorems.proofs.UnackedSteps.{unacked_tids}
 use Rattle.cs_world.specs.declared.state.State.{State}
 use Rattle.cs_world.specs.declared.state.FileState.{FileState}
-use Rattle.cs_world.specs.Tables.{Files, PutsRow, Refines, inode, row, row_of}
-use Rattle.cs_world.proofs.Rows.{put_rows}
+use Rattle.cs_world.specs.Tables.{Files, IsReady, PutsRow, Refines, Steps, inode, past, row, row_of}
+use Rattle.cs_world.proofs.Refused.{refused}
+use Rattle.cs_world.proofs.Rows.{put_rows, row_is, row_known}
 
 pub one_longer : {A : Type 0} (xs : List A) (x : A) → length xs + 1 ≡ length (xs ++ x ∷ [])
 one_longer xs x = omega (arith, length-append xs (x ∷ []))
@@ -109,6 +111,22 @@ flushed_rows h s f tid x new r i t known is told after put =
   where
     same : record r { inode = i } ≡ row (flushed f x h) f
     same = rw (after, told, is) (ap (λ k. record (row h f) { inode = k }) (inode_flushed h f tid))
+
+-- one that is refused leaves the tables
+pub flush_refused : (s : State) (f tid : ℕ) (x : FlushStep) (new : Files) (r : FileState) (i : FileInode) → IsReady s → get nat_cmp s.files f ≡ Some r → tid ≡ s.flushes + 1
+    → x ≡ flush_answer tid r.inode → i ≡ after_flush tid r.inode → PutsRow s.files new f (record r { inode = i })
+    → is_refusal (events.Flush f) (flush_said x) ≡ true → Steps s (record s { files = new }) (events.Flush f) (flush_said x)
+flush_refused s f tid x new r i ready has next told after put turned =
+    let h : List Entry = past s in
+    let t : Refines h s = ready.tables in
+    let known = row_known h s f r t has in
+    let is : r ≡ row h f = row_is h s f r t has in
+    record {
+      answer = flush_is s.pages h f tid x ready.run known (next ∙ ap (λ n. n + 1) t.flushes) (rw is at told);
+      entries = refl;
+      pages = refl;
+      tables = refused h (record { event = events.Flush f; answer = flush_said x }) s new s.refs t turned (flushed_rows h s f tid x new r i t known is told after put) refl;
+    }
 
 -- A flush of its cap snaps
 
@@ -183,3 +201,19 @@ snap_flushed_rows h s f tid x new r i t known is told after put =
   where
     same : record r { inode = i } ≡ row (snap_flushed f x h) f
     same = rw (after, told, is) (ap (λ k. record (row h f) { inode = k }) (inode_snap_flushed h f tid))
+
+-- one that is refused leaves the tables
+pub flush_snaps_refused : (s : State) (f tid : ℕ) (x : SnapStep) (new : Files) (r : FileState) (i : FileInode) → IsReady s → get nat_cmp s.files f ≡ Some r → tid ≡ s.flushes + 1
+    → x ≡ flush_snaps_answer tid r.inode → i ≡ after_flush_snaps tid r.inode → PutsRow s.files new f (record r { inode = i })
+    → is_refusal (events.FlushSnaps f) (snap_said x) ≡ true → Steps s (record s { files = new }) (events.FlushSnaps f) (snap_said x)
+flush_snaps_refused s f tid x new r i ready has next told after put turned =
+    let h : List Entry = past s in
+    let t : Refines h s = ready.tables in
+    let known = row_known h s f r t has in
+    let is : r ≡ row h f = row_is h s f r t has in
+    record {
+      answer = flush_snaps_is s.pages h f tid x ready.run known (next ∙ ap (λ n. n + 1) t.flushes) (rw is at told);
+      entries = refl;
+      pages = refl;
+      tables = refused h (record { event = events.FlushSnaps f; answer = snap_said x }) s new s.refs t turned (snap_flushed_rows h s f tid x new r i t known is told after put) refl;
+    }

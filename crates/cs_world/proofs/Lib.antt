@@ -18,6 +18,7 @@ pub mod Named
 pub mod NewFiles
 pub mod Reading
 pub mod Received
+pub mod Refused
 pub mod Rows
 pub mod Showing
 pub mod TakenIn

@@ -6,6 +6,7 @@ ghost use Rattle.cs_theorems.specs.Recorded.{with_told};
 ghost use Rattle.cs_theorems.specs.Told.{last_told};
 
 use cs_ids::{FileMeta, Memory, Seq};
+use cs_inode::FIRST_MODE;
 use cs_laws::At;
 use std::alloc::Global;
 use std::marker::Model;
@@ -66,7 +67,7 @@ impl Told {
             None => FileMeta {
                 size: 0,
                 mtime: 0,
-                mode: 0o644,
+                mode: FIRST_MODE,
             },
         }
     }

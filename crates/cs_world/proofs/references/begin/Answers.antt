@@ -2,6 +2,7 @@ use Rattle.std.proofs.Common.{rules, ◌≡◌, ◌∙◌, refl, sym, ap, ◌+�
 use Rattle.std.proofs.lemmas.List.{length-reverse}
 use Rattle.cs_inode.specs.declared.answers.Allow.TheVariants as allow
 use Rattle.cs_inode.specs.Answers.{allowance}
+use Rattle.cs_laws.specs.declared.answers.Answer.TheVariants as answers
 use Rattle.cs_laws.specs.declared.answers.Why.TheVariants as why
 use Rattle.cs_laws.specs.Events.{begun}
 use Rattle.cs_laws.specs.History.{context, live}
@@ -10,7 +11,7 @@ use Rattle.cs_theorems.proofs.Growth.{begun_small}
 use Rattle.cs_world.specs.declared.state.FileState.{FileState}
 use Rattle.cs_world.specs.Changed.{started}
 use Rattle.cs_world.specs.Tables.{Files, PutsRow, past, inode, row}
-use Rattle.cs_world.proofs.Begins.{allowed, allowed_is, begin_full, begin_waits, beginning, begun_next, fewer, full_is, not_writing, others_begun, ref_is, started_is}
+use Rattle.cs_world.proofs.Begins.{allowed, allowed_is, begin_refused, beginning, begun_next, fewer, full_is, not_writing, others_begun, ref_is, started_is}
 use Rattle.cs_world.proofs.Counting.{writers_few}
 use Rattle.cs_world.proofs.Rows.{put_rows, row_is, row_known}
 use Rattle.cs_world.proofs.references.begin.Goals as goal
@@ -26,17 +27,13 @@ returns-in-NoCaps-clause-ok c =
     let t = c.requires.tables in
     let f = c.args.file in
     let r = c.in-Some.row.now in
-    let is : r ≡ row (past s) f = row_is (past s) s f r t (sym c.in-Some.ensures.value) in
-    let known = row_known (past s) s f r t (sym c.in-Some.ensures.value) in
+    let has = sym c.in-Some.ensures.value in
+    let is : r ≡ row (past s) f = row_is (past s) s f r t has in
     let new : Files = c.get_mut.follows.lender r in
     let put : PutsRow s.files new f r = λ g. search rules in
     let a : allow.NoCaps ≡ allowance c.args.bits c.args.end (inode (past s) f) = rw is at (sym c.in-NoCaps.is ∙ c.allow.ensures) in
-    record {
-      answer = allowed_is s.pages (past s) c.args.caller f c.args.bits c.args.end allow.NoCaps c.requires.run known a;
-      entries = refl;
-      pages = refl;
-      tables = begin_waits (past s) s new c.args.caller f c.args.bits c.args.end why.Caps r t known is put;
-    }
+    let said = allowed_is s.pages (past s) c.args.caller f c.args.bits c.args.end allow.NoCaps c.requires.run (row_known (past s) s f r t has) a in
+    begin_refused s new s.refs c.args.caller f c.args.bits c.args.end (answers.Again why.Caps) r c.requires has said refl (λ g. refl) put refl
 
 pub returns-in-Snap-clause-ok : goal.returns-in-Snap-clause-ok
 returns-in-Snap-clause-ok c =
@@ -44,17 +41,13 @@ returns-in-Snap-clause-ok c =
     let t = c.requires.tables in
     let f = c.args.file in
     let r = c.in-Some.row.now in
-    let is : r ≡ row (past s) f = row_is (past s) s f r t (sym c.in-Some.ensures.value) in
-    let known = row_known (past s) s f r t (sym c.in-Some.ensures.value) in
+    let has = sym c.in-Some.ensures.value in
+    let is : r ≡ row (past s) f = row_is (past s) s f r t has in
     let new : Files = c.get_mut.follows.lender r in
     let put : PutsRow s.files new f r = λ g. search rules in
     let a : allow.Snap ≡ allowance c.args.bits c.args.end (inode (past s) f) = rw is at (sym c.in-Snap.is ∙ c.allow.ensures) in
-    record {
-      answer = allowed_is s.pages (past s) c.args.caller f c.args.bits c.args.end allow.Snap c.requires.run known a;
-      entries = refl;
-      pages = refl;
-      tables = begin_waits (past s) s new c.args.caller f c.args.bits c.args.end why.Snap r t known is put;
-    }
+    let said = allowed_is s.pages (past s) c.args.caller f c.args.bits c.args.end allow.Snap c.requires.run (row_known (past s) s f r t has) a in
+    begin_refused s new s.refs c.args.caller f c.args.bits c.args.end (answers.Again why.Snap) r c.requires has said refl (λ g. refl) put refl
 
 pub returns-in-Max-clause-ok : goal.returns-in-Max-clause-ok
 returns-in-Max-clause-ok c =
@@ -62,17 +55,13 @@ returns-in-Max-clause-ok c =
     let t = c.requires.tables in
     let f = c.args.file in
     let r = c.in-Some.row.now in
-    let is : r ≡ row (past s) f = row_is (past s) s f r t (sym c.in-Some.ensures.value) in
-    let known = row_known (past s) s f r t (sym c.in-Some.ensures.value) in
+    let has = sym c.in-Some.ensures.value in
+    let is : r ≡ row (past s) f = row_is (past s) s f r t has in
     let new : Files = c.get_mut.follows.lender r in
     let put : PutsRow s.files new f r = λ g. search rules in
     let a : allow.Max ≡ allowance c.args.bits c.args.end (inode (past s) f) = rw is at (sym c.in-Max.is ∙ c.allow.ensures) in
-    record {
-      answer = allowed_is s.pages (past s) c.args.caller f c.args.bits c.args.end allow.Max c.requires.run known a;
-      entries = refl;
-      pages = refl;
-      tables = begin_waits (past s) s new c.args.caller f c.args.bits c.args.end why.Max r t known is put;
-    }
+    let said = allowed_is s.pages (past s) c.args.caller f c.args.bits c.args.end allow.Max c.requires.run (row_known (past s) s f r t has) a in
+    begin_refused s new s.refs c.args.caller f c.args.bits c.args.end (answers.Again why.Max) r c.requires has said refl (λ g. refl) put refl
 
 pub returns-in-Err-Full-clause-ok : goal.returns-in-Err-Full-clause-ok
 returns-in-Err-Full-clause-ok c =
@@ -80,19 +69,15 @@ returns-in-Err-Full-clause-ok c =
     let t = c.requires.tables in
     let f = c.args.file in
     let r = c.in-Some.row.now in
-    let is : r ≡ row (past s) f = row_is (past s) s f r t (sym c.in-Some.ensures.value) in
-    let known = row_known (past s) s f r t (sym c.in-Some.ensures.value) in
+    let has = sym c.in-Some.ensures.value in
+    let is : r ≡ row (past s) f = row_is (past s) s f r t has in
     let new : Files = c.get_mut.follows.lender r in
     let put : PutsRow s.files new f r = λ g. search rules in
     let a : allow.Yes c.in-Yes.tag ≡ allowance c.args.bits c.args.end (inode (past s) f) = rw is at (sym c.in-Yes.is ∙ c.allow.ensures) in
     let cause = rw c.in-Err-Full.field-0-is at c.in-Err-Full.ensures.cause in
     let count : length (live (past s)) ≡ 256 = rw t.live at cause.1 in
-    record {
-      answer = full_is (past s) c.args.caller count ∙ allowed_is s.pages (past s) c.args.caller f c.args.bits c.args.end (allow.Yes c.in-Yes.tag) c.requires.run known a;
-      entries = refl;
-      pages = refl;
-      tables = begin_full (past s) s new c.begin.new.self c.args.caller f c.args.bits c.args.end r t known is put c.in-Err-Full.ensures.err;
-    }
+    let said = full_is (past s) c.args.caller count ∙ allowed_is s.pages (past s) c.args.caller f c.args.bits c.args.end (allow.Yes c.in-Yes.tag) c.requires.run (row_known (past s) s f r t has) a in
+    begin_refused s new c.begin.new.self c.args.caller f c.args.bits c.args.end answers.Full r c.requires has said refl (λ g. refl) put c.in-Err-Full.ensures.err
 
 pub start-requires-clause-free : goal.start-requires-clause-free
 start-requires-clause-free c may =

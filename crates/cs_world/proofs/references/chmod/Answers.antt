@@ -3,6 +3,9 @@ use Rattle.cs_capsnap.specs.CapSnaps.{is_writing}
 use Rattle.cs_inode.specs.declared.answers.ChmodStep.TheVariants as chmod
 use Rattle.cs_inode.specs.Answers.{chmod_answer}
 use Rattle.cs_inode.specs.Inodes.{after_chmod, with_mode}
+use Rattle.cs_laws.specs.declared.answers.Answer.TheVariants as answers
+use Rattle.cs_laws.specs.declared.answers.Why.TheVariants as why
+use Rattle.cs_laws.specs.declared.events.Event.TheVariants as events
 use Rattle.cs_laws.specs.Answers.{may_change_mode}
 use Rattle.cs_laws.specs.History.{live}
 use Rattle.cs_laws.specs.References.{named}
@@ -11,6 +14,7 @@ use Rattle.cs_world.specs.Tables.{Files, PutsRow, past, inode, row}
 use Rattle.cs_world.proofs.Chmods.{changed_is, changing, is_writing_now, not_writing, others_changed, step_is}
 use Rattle.cs_world.proofs.Delivered.{never_absent}
 use Rattle.cs_world.proofs.Named.{named_known}
+use Rattle.cs_world.proofs.Refused.{refused}
 use Rattle.cs_world.proofs.Rows.{put_rows, row_is}
 use Rattle.cs_world.proofs.references.chmod.Goals as goal
 
@@ -90,19 +94,6 @@ returns-in-Snap-clause-ok c =
       answer = step_is s.pages h c.args.caller c.args.name r chmod.Snap c.requires.run here may a;
       entries = refl;
       pages = refl;
-      tables = record {
-        rows = λ g. put_rows h h s.files new f state t.rows (λ k. refl) known after (λ k other. refl) put g;
-        made = t.made;
-        sent_to_client = t.sent_to_client;
-        sent_to_server = t.sent_to_server;
-        clock = t.clock;
-        tree = t.tree;
-        realms = t.realms;
-        live = t.live;
-        operations = t.operations;
-        begun = t.begun;
-        flushes = t.flushes;
-        durable = t.durable;
-        fresh = t.fresh;
-      };
+      tables = refused h (record { event = events.Chmod c.args.caller c.args.name c.args.mode; answer = answers.Again why.Snap }) s new s.refs t refl
+          (put_rows h h s.files new f state t.rows (λ k. refl) known after (λ k other. refl) put) refl;
     }

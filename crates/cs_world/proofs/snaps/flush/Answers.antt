@@ -7,7 +7,7 @@ use Rattle.cs_laws.specs.declared.messages.Message.TheVariants as messages
 use Rattle.cs_laws.specs.History.{sent, to_server}
 use Rattle.cs_theorems.proofs.Counts.{sent_few}
 use Rattle.cs_world.specs.Tables.{Files, PutsRow, past, row}
-use Rattle.cs_world.proofs.Flushed.{flush_is, flush_told, flushed_rows, one_longer, sent_behind, tids_drawn}
+use Rattle.cs_world.proofs.Flushed.{flush_is, flush_refused, flush_told, flushed_rows, one_longer, sent_behind, tids_drawn}
 use Rattle.cs_world.proofs.Rows.{row_is, row_known}
 use Rattle.cs_world.proofs.snaps.flush.Goals as goal
 
@@ -27,72 +27,22 @@ flush-requires c =
 pub returns-in-Snap-clause-ok : goal.returns-in-Snap-clause-ok
 returns-in-Snap-clause-ok c =
     let s = c.args.state.now in
-    let h = past s in
     let f = c.args.file in
-    let t = c.requires.tables in
     let r = c.in-Some.row.now in
-    let has = sym c.in-Some.ensures.value in
-    let known = row_known h s f r t has in
-    let is : r ≡ row h f = row_is h s f r t has in
-    let tid = c.following.result in
-    let told : flush.Snap ≡ flush_answer tid r.inode = sym c.in-Snap.is ∙ c.in_ok-flush.ensures.answer in
     let new : Files = c.get_mut.follows.lender (record r { inode = c.flush.new.self }) in
     let put : PutsRow s.files new f (record r { inode = c.flush.new.self }) = λ g. search rules in
-    record {
-      answer = flush_is s.pages h f tid flush.Snap c.requires.run known (c.following.ensures ∙ ap (λ n. n + 1) t.flushes) (rw is at told);
-      entries = refl;
-      pages = refl;
-      tables = record {
-        rows = flushed_rows h s f tid flush.Snap new r c.flush.new.self t known is told c.in_ok-flush.ensures.after put;
-        made = t.made;
-        sent_to_client = t.sent_to_client;
-        sent_to_server = t.sent_to_server;
-        clock = t.clock;
-        tree = t.tree;
-        realms = t.realms;
-        live = t.live;
-        operations = t.operations;
-        begun = t.begun;
-        flushes = t.flushes;
-        durable = t.durable;
-        fresh = t.fresh;
-      };
-    }
+    flush_refused s f c.following.result flush.Snap new r c.flush.new.self c.requires (sym c.in-Some.ensures.value) c.following.ensures
+    (sym c.in-Snap.is ∙ c.in_ok-flush.ensures.answer) c.in_ok-flush.ensures.after put refl
 
 pub returns-in-Clean-clause-ok : goal.returns-in-Clean-clause-ok
 returns-in-Clean-clause-ok c =
     let s = c.args.state.now in
-    let h = past s in
     let f = c.args.file in
-    let t = c.requires.tables in
     let r = c.in-Some.row.now in
-    let has = sym c.in-Some.ensures.value in
-    let known = row_known h s f r t has in
-    let is : r ≡ row h f = row_is h s f r t has in
-    let tid = c.following.result in
-    let told : flush.Clean ≡ flush_answer tid r.inode = sym c.in-Clean.is ∙ c.in_ok-flush.ensures.answer in
     let new : Files = c.get_mut.follows.lender (record r { inode = c.flush.new.self }) in
     let put : PutsRow s.files new f (record r { inode = c.flush.new.self }) = λ g. search rules in
-    record {
-      answer = flush_is s.pages h f tid flush.Clean c.requires.run known (c.following.ensures ∙ ap (λ n. n + 1) t.flushes) (rw is at told);
-      entries = refl;
-      pages = refl;
-      tables = record {
-        rows = flushed_rows h s f tid flush.Clean new r c.flush.new.self t known is told c.in_ok-flush.ensures.after put;
-        made = t.made;
-        sent_to_client = t.sent_to_client;
-        sent_to_server = t.sent_to_server;
-        clock = t.clock;
-        tree = t.tree;
-        realms = t.realms;
-        live = t.live;
-        operations = t.operations;
-        begun = t.begun;
-        flushes = t.flushes;
-        durable = t.durable;
-        fresh = t.fresh;
-      };
-    }
+    flush_refused s f c.following.result flush.Clean new r c.flush.new.self c.requires (sym c.in-Some.ensures.value) c.following.ensures
+    (sym c.in-Clean.is ∙ c.in_ok-flush.ensures.answer) c.in_ok-flush.ensures.after put refl
 
 pub returns-in_ok-push_back-in-Sent-clause-ok : goal.returns-in_ok-push_back-in-Sent-clause-ok
 returns-in_ok-push_back-in-Sent-clause-ok c =

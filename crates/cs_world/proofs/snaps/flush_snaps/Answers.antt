@@ -7,7 +7,7 @@ use Rattle.cs_laws.specs.declared.messages.Message.TheVariants as messages
 use Rattle.cs_laws.specs.History.{sent, to_server}
 use Rattle.cs_theorems.proofs.Counts.{sent_few}
 use Rattle.cs_world.specs.Tables.{Files, PutsRow, past, row}
-use Rattle.cs_world.proofs.Flushed.{flush_snap_told, flush_snaps_is, one_longer, sent_behind, snap_flushed_rows, tids_drawn}
+use Rattle.cs_world.proofs.Flushed.{flush_snap_told, flush_snaps_is, flush_snaps_refused, one_longer, sent_behind, snap_flushed_rows, tids_drawn}
 use Rattle.cs_world.proofs.Rows.{row_is, row_known}
 use Rattle.cs_world.proofs.snaps.flush_snaps.Goals as goal
 
@@ -27,72 +27,22 @@ flush_snaps-requires c =
 pub returns-in-None-clause-ok : goal.returns-in-None-clause-ok
 returns-in-None-clause-ok c =
     let s = c.args.state.now in
-    let h = past s in
     let f = c.args.file in
-    let t = c.requires.tables in
     let r = c.in-Some.row.now in
-    let has = sym c.in-Some.ensures.value in
-    let known = row_known h s f r t has in
-    let is : r ≡ row h f = row_is h s f r t has in
-    let tid = c.following.result in
-    let told : snap.None ≡ flush_snaps_answer tid r.inode = sym c.in-None.is ∙ c.flush_snaps.ensures.answer in
     let new : Files = c.get_mut.follows.lender (record r { inode = c.flush_snaps.new.self }) in
     let put : PutsRow s.files new f (record r { inode = c.flush_snaps.new.self }) = λ g. search rules in
-    record {
-      answer = flush_snaps_is s.pages h f tid snap.None c.requires.run known (c.following.ensures ∙ ap (λ n. n + 1) t.flushes) (rw is at told);
-      entries = refl;
-      pages = refl;
-      tables = record {
-        rows = snap_flushed_rows h s f tid snap.None new r c.flush_snaps.new.self t known is told c.flush_snaps.ensures.after put;
-        made = t.made;
-        sent_to_client = t.sent_to_client;
-        sent_to_server = t.sent_to_server;
-        clock = t.clock;
-        tree = t.tree;
-        realms = t.realms;
-        live = t.live;
-        operations = t.operations;
-        begun = t.begun;
-        flushes = t.flushes;
-        durable = t.durable;
-        fresh = t.fresh;
-      };
-    }
+    flush_snaps_refused s f c.following.result snap.None new r c.flush_snaps.new.self c.requires (sym c.in-Some.ensures.value) c.following.ensures
+    (sym c.in-None.is ∙ c.flush_snaps.ensures.answer) c.flush_snaps.ensures.after put refl
 
 pub returns-in-Writing-clause-ok : goal.returns-in-Writing-clause-ok
 returns-in-Writing-clause-ok c =
     let s = c.args.state.now in
-    let h = past s in
     let f = c.args.file in
-    let t = c.requires.tables in
     let r = c.in-Some.row.now in
-    let has = sym c.in-Some.ensures.value in
-    let known = row_known h s f r t has in
-    let is : r ≡ row h f = row_is h s f r t has in
-    let tid = c.following.result in
-    let told : snap.Writing ≡ flush_snaps_answer tid r.inode = sym c.in-Writing.is ∙ c.flush_snaps.ensures.answer in
     let new : Files = c.get_mut.follows.lender (record r { inode = c.flush_snaps.new.self }) in
     let put : PutsRow s.files new f (record r { inode = c.flush_snaps.new.self }) = λ g. search rules in
-    record {
-      answer = flush_snaps_is s.pages h f tid snap.Writing c.requires.run known (c.following.ensures ∙ ap (λ n. n + 1) t.flushes) (rw is at told);
-      entries = refl;
-      pages = refl;
-      tables = record {
-        rows = snap_flushed_rows h s f tid snap.Writing new r c.flush_snaps.new.self t known is told c.flush_snaps.ensures.after put;
-        made = t.made;
-        sent_to_client = t.sent_to_client;
-        sent_to_server = t.sent_to_server;
-        clock = t.clock;
-        tree = t.tree;
-        realms = t.realms;
-        live = t.live;
-        operations = t.operations;
-        begun = t.begun;
-        flushes = t.flushes;
-        durable = t.durable;
-        fresh = t.fresh;
-      };
-    }
+    flush_snaps_refused s f c.following.result snap.Writing new r c.flush_snaps.new.self c.requires (sym c.in-Some.ensures.value) c.following.ensures
+    (sym c.in-Writing.is ∙ c.flush_snaps.ensures.answer) c.flush_snaps.ensures.after put refl
 
 pub returns-in_ok-push_back-in-Sent-clause-ok : goal.returns-in_ok-push_back-in-Sent-clause-ok
 returns-in_ok-push_back-in-Sent-clause-ok c =
