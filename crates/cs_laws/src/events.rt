@@ -29,7 +29,8 @@ pub enum Event {
         file: Ino,
         parent: Ino,
     },
-    /// The script's time becomes this one, 0 to 4,294,967,295, which isn't before the present one.
+    /// The script's time becomes this one, unless that is before the present one: 0 to 4,294,967,295, in
+    /// seconds.
     Clock {
         time: u64,
     },
