@@ -112,7 +112,8 @@ impl Caps {
         end: usize,
     ) -> usize
         requires { end + 1 + length letters.now ≤ 24 }
-        ensures text { take result out.new ≡ take end out.old ++ group_text self.now (capital ∷ []) letters.now }
+        ensures text { take result out.new
+            ≡ take end out.old ++ group_text self.now (capital ∷ []) letters.now }
         ensures len { result ≡ end + length (group_text self.now (capital ∷ []) letters.now) }
         ensures within { result ≤ end + 1 + length letters.now }
         ensures rest { drop result out.new ≡ drop result out.old }
