@@ -7,8 +7,6 @@
 mod laws;
 mod queue;
 mod snap;
-#[cfg(test)]
-mod tests;
 
 pub use laws::{
     acked_takes_out_one_alone, finish_changes_the_last_alone,

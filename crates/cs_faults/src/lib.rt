@@ -5,8 +5,6 @@
 mod count;
 mod laws;
 mod plan;
-#[cfg(test)]
-mod tests;
 
 pub use count::FaultCount;
 pub use laws::values_may_cross_threads;

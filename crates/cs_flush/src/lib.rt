@@ -8,8 +8,6 @@ mod flushes;
 mod laws;
 mod report;
 mod sent;
-#[cfg(test)]
-mod tests;
 
 pub use flushes::Flushes;
 pub use laws::{

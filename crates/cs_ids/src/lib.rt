@@ -9,8 +9,6 @@ mod memory;
 mod names;
 mod numbers;
 mod objects;
-#[cfg(test)]
-mod tests;
 
 pub use bytes::Bytes;
 pub use devices::Failed;

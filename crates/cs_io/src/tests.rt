@@ -1,4 +1,5 @@
-// Each call that takes memory, with ample memory, and the edge over std's readers and writers.
+// Each call that takes memory, with ample memory, also the plan of a faulty form; and the edge over std's
+// readers and writers.
 use crate::{FaultySink, FaultySource, ReadAll, StdSink, StdSource, read_all, write_all};
 use cs_ids::Failed;
 use std::test::Fail;

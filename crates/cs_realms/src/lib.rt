@@ -11,8 +11,6 @@ mod laws;
 mod realms;
 mod record;
 mod renewal;
-#[cfg(test)]
-mod tests;
 
 pub use changed::{Change, Changed};
 pub use fault::RealmFault;

@@ -6,8 +6,6 @@
 mod fault;
 mod laws;
 mod table;
-#[cfg(test)]
-mod tests;
 mod used;
 
 pub use fault::RefFault;

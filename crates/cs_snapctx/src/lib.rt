@@ -6,8 +6,6 @@ mod context;
 mod laws;
 mod list;
 mod realm;
-#[cfg(test)]
-mod tests;
 
 pub use context::SnapContext;
 pub use laws::{

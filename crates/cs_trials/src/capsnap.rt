@@ -1,5 +1,5 @@
 // The call that takes memory, with ample memory.
-use crate::{CapSnaps, Ready};
+use cs_capsnap::{CapSnaps, Ready};
 use cs_ids::{FileMeta, Seq};
 use cs_snapctx::SnapContext;
 use std::test::Fail;

@@ -1,5 +1,5 @@
 // Each call that takes memory, with ample memory.
-use crate::{FlushReport, FlushReportList, Flushes, Sent};
+use cs_flush::{FlushReport, FlushReportList, Flushes, Sent};
 use cs_ids::{FileMeta, Ino, Seq, Tid};
 use std::test::Fail;
 

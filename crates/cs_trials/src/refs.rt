@@ -1,7 +1,7 @@
 // The call that takes memory, with ample memory.
-use crate::Refs;
 use cs_bits::Caps;
 use cs_ids::{Caller, Ino, Seq};
+use cs_refs::Refs;
 use std::test::Fail;
 
 #[test]
