@@ -1,10 +1,8 @@
 -- The form of each event: its first word, its fields, and the event of their values.
-use Rattle.std.proofs.Common.{◌≡◌, refl, ℕ, suc, ◌+◌, ◌≤◌, ◌<◌, Bool, true, false, ◌&&◌, not, nat_lt, nat_le, List, [], ◌∷◌, ◌++◌, length, codes, decimal, arith, append_assoc}
+use Rattle.std.proofs.Common.{◌≡◌, refl, ℕ, ◌+◌, ◌≤◌, ◌<◌, Bool, true, false, ◌&&◌, not, nat_lt, nat_le, List, [], ◌∷◌, ◌++◌, length, codes, decimal, arith, append_assoc}
 use Rattle.std.specs.List.{join_with_byte, list_all}
 use Rattle.std.proofs.lemmas.Bool.{and_parts, leb-true, ltb-true}
 use Rattle.std.proofs.lemmas.Bool.Decides.{nat_tests}
-use Rattle.cs_bits.specs.Bits.{caps_text}
-use Rattle.cs_text.specs.Hex.{hex_text}
 use Rattle.cs_laws.specs.declared.events.Event.{Event}
 use Rattle.cs_laws.specs.declared.events.Event.TheVariants as events
 use Rattle.cs_laws.specs.Fits.{fits, is_built, is_shown, is_state, greatest_end, greatest_time, most_written, most_shown}
@@ -98,8 +96,11 @@ spelling (events.RemoveSnap s) = (remove_form, (s, tt))
 spelling events.Commit = (commit_form, tt)
 spelling (events.Show f a off len) = (show_form, (f, (a, (off, (len, tt)))))
 
+abbrev pub words_by : (F : Form) → Values F.fields → Words
+words_by F v = F.word ∷ texts_of F.fields v
+
 abbrev pub words_of : Event → Words
-words_of e = (spelling e).0.word ∷ texts_of (spelling e).0.fields (spelling e).1
+words_of e = words_by (spelling e).0 (spelling e).1
 
 -- what no field says alone
 abbrev pub is_whole : Event → Bool
@@ -218,10 +219,15 @@ joined events.Commit = refl
 joined (events.Show f a off len) = simp append_assoc
 
 -- the first word is above the space throughout, the line isn't too long, and isn't passed over
-abbrev pub is_plain : Form → Bool
+pub record IsPlain (F : Form) : Type 0 where
+  pub visible : list_all (λ b. nat_lt 32 b) F.word ≡ true
+  pub short : length F.word + most_of_all F.fields ≤ 4096
+  pub read : is_skipped F.word ≡ false
+
+abbrev is_plain : Form → Bool
 is_plain F = list_all (λ b. nat_lt 32 b) F.word && (nat_le (length F.word + most_of_all F.fields) 4096 && not (is_skipped F.word))
 
-pub forms_plain : (e : Event) → is_plain (spelling e).0 ≡ true
+forms_plain : (e : Event) → is_plain (spelling e).0 ≡ true
 forms_plain (events.Dir d p) = refl
 forms_plain (events.File f p) = refl
 forms_plain (events.Clock t) = refl
@@ -241,3 +247,15 @@ forms_plain (events.Snap d name) = refl
 forms_plain (events.RemoveSnap s) = refl
 forms_plain events.Commit = refl
 forms_plain (events.Show f a off len) = refl
+
+plain_by : (visible short skipped : Bool) → (visible && (short && not skipped)) ≡ true → (visible ≡ true) × (short ≡ true) × (skipped ≡ false)
+plain_by true true false h = (refl, refl, refl)
+plain_by true true true h = cc h
+plain_by true false skipped h = cc h
+plain_by false short skipped h = cc h
+
+pub form_plain : (e : Event) → IsPlain (spelling e).0
+form_plain e =
+    let F = (spelling e).0 in
+    let p = plain_by (list_all (λ b. nat_lt 32 b) F.word) (nat_le (length F.word + most_of_all F.fields) 4096) (is_skipped F.word) (forms_plain e) in
+    record { visible = p.0; short = leb-true (length F.word + most_of_all F.fields) 4096 p.1; read = p.2 }

@@ -1,5 +1,5 @@
 -- The kinds of fields: what each is read from, and its value's one text.
-use Rattle.std.proofs.Common.{◌≡◌, refl, ℕ, ◌+◌, ◌^◌, ◌≤◌, ◌<◌, true, ◌&&◌, nat_le, List, length, decimal, arith, Result, Ok}
+use Rattle.std.proofs.Common.{◌≡◌, refl, ℕ, ◌^◌, ◌≤◌, ◌<◌, true, ◌&&◌, nat_le, List, length, decimal, arith, Result, Ok}
 use Rattle.std.proofs.lemmas.Bool.{and_parts, leb-true}
 use Rattle.cs_ids.specs.Names.{is_name}
 use Rattle.cs_ids.specs.Ranges.{IsIn}

@@ -1,5 +1,5 @@
 -- The fields of a line behind its first word, read and printed.
-use Rattle.std.proofs.Common.{◌≡◌, ◌∙◌, sym, ap, refl, ℕ, suc, ◌+◌, ◌≤◌, ◌<◌, true, false, List, [], ◌∷◌, ◌++◌, length, arith, Option, Some, Result, Ok, slice_get, length-append}
+use Rattle.std.proofs.Common.{◌≡◌, ◌∙◌, sym, ap, refl, ℕ, suc, ◌+◌, ◌≤◌, false, List, [], ◌∷◌, length, arith, Some, Result, Ok, slice_get, length-append}
 use Rattle.std.specs.List.{join_with_byte}
 use Rattle.cs_laws.specs.declared.events.Event.{Event}
 use Rattle.cs_laws.specs.declared.faults.Kind.{Kind}

@@ -86,4 +86,3 @@ spelled_few c =
 pub caps_few : (c : Caps) → length (caps_text c) ≤ 20
 unfolding caps_text
 caps_few c = omega (arith, dash_few (spelled c), spelled_few c)
-

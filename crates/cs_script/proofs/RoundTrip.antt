@@ -1,35 +1,40 @@
 -- An event is read back from the line that it prints as, and a line that is read prints as it was.
-use Rattle.std.proofs.Common.{◌≡◌, ◌∙◌, sym, ap, refl, ℕ, suc, ◌+◌, ◌≤◌, ◌==◌, Bool, true, false, ◌&&◌, not, nat_lt, nat_le, List, [], ◌∷◌, length, codes, arith, Some, Result, Ok, Err, slice_get, if◌then◌else◌}
+use Rattle.std.proofs.Common.{◌≡◌, ◌∙◌, sym, ap, refl, ℕ, suc, ◌≤◌, ◌==◌, Bool, true, false, ◌&&◌, not, nat_le, List, length, codes, arith, Some, Result, Ok, Err, slice_get, if◌then◌else◌}
 use Rattle.std.specs.Prelude.{All, ◌↔◌}
-use Rattle.std.specs.List.{join_with_byte, list_all}
+use Rattle.std.specs.List.{join_with_byte}
 use Rattle.std.specs.Str.{bytes_eq}
-use Rattle.std.proofs.lemmas.Bool.{and_parts, leb-true}
+use Rattle.std.proofs.lemmas.Bool.{leb-true}
 use Rattle.std.proofs.lemmas.List.Splits.{join_with_byte-slice_split}
 use Rattle.std.proofs.lemmas.Slice.Eq.{bytes_eq-Decides}
 use Rattle.cs_laws.specs.declared.events.Event.{Event}
 use Rattle.cs_laws.specs.declared.events.Event.TheVariants as events
 use Rattle.cs_laws.specs.declared.faults.Kind.{Kind}
 use Rattle.cs_laws.specs.declared.faults.Kind.TheVariants as kinds
-use Rattle.cs_laws.specs.Fits.{fits, greatest_end}
+use Rattle.cs_laws.specs.Fits.{fits}
 use Rattle.cs_laws.specs.Grammar.{Words, ◌>>=◌, words_in, only, ends_in_file, dir_of, file_of, clock_of, begin_of, end_of, write_of, read_of, chmod_of, check_of, flush_of, flush_snaps_of, grant_of, revoke_of, snap_of, remove_of, show_of, is_later_word, event_by, event_of, in_time, is_setup, is_skipped, line_event}
 use Rattle.cs_laws.specs.Texts.{event_text}
 use Rattle.cs_script.specs.Spelling.{IsEvent}
-use Rattle.cs_script.proofs.EventForms.{Form, dir_form, file_form, clock_form, begin_form, end_form, write_form, read_form, chmod_form, check_form, flush_form, flush_snaps_form, to_client_form, to_mds_form, grant_form, revoke_form, snap_form, remove_form, commit_form, show_form, spelling, words_of, is_whole, IsSpelled, spelled_fits, fits_spelled, joined, is_plain, forms_plain}
+use Rattle.cs_script.proofs.EventForms.{Form, dir_form, file_form, clock_form, begin_form, end_form, write_form, read_form, chmod_form, check_form, flush_form, flush_snaps_form, to_client_form, to_mds_form, grant_form, revoke_form, snap_form, remove_form, commit_form, show_form, spelling, words_by, words_of, IsSpelled, spelled_fits, fits_spelled, joined, form_plain}
 use Rattle.cs_script.proofs.FieldFacts.{binds, word_is, only_is, ends_is}
-use Rattle.cs_script.proofs.FieldLists.{Values, texts_of, AreGood, read_fields, Begins, with_first, begin_themselves, same_words, length-texts, texts_are_read, words_are_texts, texts_visible, most_of_all, line_few, line_skipped}
+use Rattle.cs_script.proofs.FieldLists.{Values, texts_of, AreGood, read_fields, Begins, with_first, begin_themselves, same_words, length-texts, texts_are_read, words_are_texts, texts_visible, line_few, line_skipped}
 use Rattle.cs_script.proofs.Visible.{AreVisible, text_visible, words_joined, one_line}
 
 -- ---- an event's words are read as the event
 
-pub words_read : (F : Form) (next : Words → Values F.fields → Result Event Kind) (v : Values F.fields) → AreGood F.fields v
-    → read_fields F.fields 1 (next (F.word ∷ texts_of F.fields v)) (F.word ∷ texts_of F.fields v) ≡ next (F.word ∷ texts_of F.fields v) v
+-- a form's words, which are read with what follows the fields
+words_read : (F : Form) (next : Words → Values F.fields → Result Event Kind) (v : Values F.fields) → AreGood F.fields v
+    → read_fields F.fields 1 (next (words_by F v)) (words_by F v) ≡ next (words_by F v) v
 words_read F next v good =
-    texts_are_read F.fields 1 (next (F.word ∷ texts_of F.fields v)) (F.word ∷ texts_of F.fields v) v good
+    texts_are_read F.fields 1 (next (words_by F v)) (words_by F v) v good
     (with_first 0 F.word (texts_of F.fields v) (texts_of F.fields v) (begin_themselves (texts_of F.fields v)))
 
 -- the fields are read, and no word follows
 abbrev plainly : (F : Form) → Words → Values F.fields → Result Event Kind
 plainly F ws v = only (suc (length F.fields)) (F.make v) ws
+
+-- and the bytes of a write end where a file may end
+abbrev and_ends : Words → Values write_form.fields → Result Event Kind
+and_ends ws v = plainly write_form ws v >>= ends_in_file v.1.1.0 (length v.1.1.1.0)
 
 event_read : (e : Event) → IsSpelled e → event_of (words_of e) ≡ Ok e
 unfolding event_of event_by dir_of file_of clock_of begin_of end_of write_of read_of chmod_of check_of flush_of flush_snaps_of grant_of revoke_of snap_of remove_of show_of
@@ -39,7 +44,7 @@ event_read (events.Clock t) s = words_read clock_form (plainly clock_form) (t, t
 event_read (events.Begin c f bits end) s = words_read begin_form (plainly begin_form) (c, (f, (bits, (end, tt)))) s.0
 event_read (events.End c name) s = words_read end_form (plainly end_form) (c, (name, tt)) s.0
 event_read (events.Write c name off bytes) s =
-    words_read write_form (λ ws v. plainly write_form ws v >>= λ e. ends_in_file v.1.1.0 (length v.1.1.1.0) e) (c, (name, (off, (bytes, tt)))) s.0 ∙ rw s.1 refl
+    words_read write_form and_ends (c, (name, (off, (bytes, tt)))) s.0 ∙ rw s.1 refl
 event_read (events.Read c name off len) s = words_read read_form (plainly read_form) (c, (name, (off, (len, tt)))) s.0
 event_read (events.Chmod c name mode) s = words_read chmod_form (plainly chmod_form) (c, (name, (mode, tt))) s.0
 event_read (events.Check f) s = words_read check_form (plainly check_form) (f, tt) s.0
@@ -54,11 +59,8 @@ event_read (events.RemoveSnap n) s = words_read remove_form (plainly remove_form
 event_read events.Commit s = refl
 event_read (events.Show f a off len) s = words_read show_form (plainly show_form) (f, (a, (off, (len, tt)))) s.0
 
-word_visible : (F : Form) → is_plain F ≡ true → list_all (λ b. nat_lt 32 b) F.word ≡ true
-word_visible F plain = (and_parts (list_all (λ b. nat_lt 32 b) F.word) (nat_le (length F.word + most_of_all F.fields) 4096 && not (is_skipped F.word)) plain).0
-
 words_visible : (e : Event) → IsSpelled e → AreVisible (words_of e)
-words_visible e s = (text_visible (spelling e).0.word (word_visible (spelling e).0 (forms_plain e)), texts_visible (spelling e).0.fields (spelling e).1 s.0)
+words_visible e s = (text_visible (spelling e).0.word (form_plain e).visible, texts_visible (spelling e).0.fields (spelling e).1 s.0)
 
 words_are : (e : Event) → IsSpelled e → words_in (event_text e) ≡ words_of e
 words_are e s = ap words_in (joined e) ∙ words_joined (spelling e).0.word (texts_of (spelling e).0.fields (spelling e).1) (words_visible e s)
@@ -71,26 +73,17 @@ text_read e is fit =
 
 -- an event's text has no newline
 pub no_newline : (e : Event) → IsEvent e → fits e ≡ true → All (λ b. (b == 10) ≡ false) (event_text e)
-no_newline e is fit = rw (joined e) (one_line (spelling e).0.word (texts_of (spelling e).0.fields (spelling e).1) (words_visible e (fits_spelled e is fit)))
-
-not_true : (b : Bool) → not b ≡ true → b ≡ false
-not_true true h = cc h
-not_true false h = refl
+no_newline e is fit =
+    rw (joined e) (one_line (spelling e).0.word (texts_of (spelling e).0.fields (spelling e).1) (words_visible e (fits_spelled e is fit)))
 
 -- an event's line isn't too long, and isn't passed over
 pub text_few : (e : Event) → IsEvent e → fits e ≡ true → length (event_text e) ≤ 4096
 text_few e is fit =
-    let F = (spelling e).0 in
-    let parts = and_parts (list_all (λ b. nat_lt 32 b) F.word) (nat_le (length F.word + most_of_all F.fields) 4096 && not (is_skipped F.word)) (forms_plain e) in
-    let few = leb-true (length F.word + most_of_all F.fields) 4096 (and_parts (nat_le (length F.word + most_of_all F.fields) 4096) (not (is_skipped F.word)) parts.1).0 in
-    rw (joined e) (omega (arith, few, line_few F.word F.fields (spelling e).1 (fits_spelled e is fit).0))
+    let few = line_few (spelling e).0.word (spelling e).0.fields (spelling e).1 (fits_spelled e is fit).0 in
+    rw (joined e) (omega (arith, few, (form_plain e).short))
 
 pub not_skipped : (e : Event) → is_skipped (event_text e) ≡ false
-not_skipped e =
-    let F = (spelling e).0 in
-    let parts = and_parts (list_all (λ b. nat_lt 32 b) F.word) (nat_le (length F.word + most_of_all F.fields) 4096 && not (is_skipped F.word)) (forms_plain e) in
-    let told = (and_parts (nat_le (length F.word + most_of_all F.fields) 4096) (not (is_skipped F.word)) parts.1).1 in
-    rw (joined e) (line_skipped F.word (texts_of F.fields (spelling e).1) (not_true (is_skipped F.word) told))
+not_skipped e = rw (joined e) (line_skipped (spelling e).0.word (texts_of (spelling e).0.fields (spelling e).1) (form_plain e).read)
 
 -- ---- words that are read are an event's
 
@@ -105,34 +98,33 @@ Spelling ws r = (e : Event) → r ≡ Ok e → Spells ws e
 
 -- the values' event has the values' words
 abbrev Makes : Form → Type 0
-Makes F = (v : Values F.fields) → AreGood F.fields v → Spells (F.word ∷ texts_of F.fields v) (F.make v)
+Makes F = (v : Values F.fields) → AreGood F.fields v → Spells (words_by F v) (F.make v)
 
 moved : (ws vs : Words) (e d : Event) → e ≡ d → ws ≡ vs → Spells vs d → Spells ws e
 moved ws vs e d same_event same s = rw (same_event, same) s
 
 -- as many words as the form has, the first of them its own, and the others its fields' texts
 all_words : (F : Form) (ws : Words) (v : Values F.fields) → slice_get ws 0 ≡ Some F.word → Begins 1 ws (texts_of F.fields v)
-    → nat_le (length ws) (suc (length F.fields)) ≡ true → ws ≡ F.word ∷ texts_of F.fields v
+    → nat_le (length ws) (suc (length F.fields)) ≡ true → ws ≡ words_by F v
 all_words F ws v first others few =
     let most = leb-true (length ws) (suc (length F.fields)) few in
-    same_words (F.word ∷ texts_of F.fields v) ws (omega (arith, length-texts F.fields v)) (first, others)
+    same_words (words_by F v) ws (omega (arith, length-texts F.fields v)) (first, others)
 
 plainly_spells : (F : Form) → Makes F → (ws : Words) → slice_get ws 0 ≡ Some F.word → Spelling ws (read_fields F.fields 1 (plainly F ws) ws)
 plainly_spells F makes ws first e h =
     let t = words_are_texts F.fields 1 (plainly F ws) ws e h in
     let o = only_is (suc (length F.fields)) (F.make t.values) e ws t.rest in
-    moved ws (F.word ∷ texts_of F.fields t.values) e (F.make t.values) o.same (all_words F ws t.values first t.words o.test) (makes t.values t.good)
+    moved ws (words_by F t.values) e (F.make t.values) o.same (all_words F ws t.values first t.words o.test) (makes t.values t.good)
 
 write_spells : (ws : Words) → slice_get ws 0 ≡ Some (codes "write") → Spelling ws (write_of ws)
 unfolding write_of
 write_spells ws first e h =
     let F = write_form in
-    let ends : Values F.fields → Event → Result Event Kind = λ v d. ends_in_file v.1.1.0 (length v.1.1.1.0) d in
-    let t = words_are_texts F.fields 1 (λ v. plainly F ws v >>= ends v) ws e h in
-    let d = binds (plainly F ws t.values) (ends t.values) e t.rest in
+    let t = words_are_texts F.fields 1 (and_ends ws) ws e h in
+    let d = binds (plainly F ws t.values) (ends_in_file t.values.1.1.0 (length t.values.1.1.1.0)) e t.rest in
     let o = only_is 5 (F.make t.values) d.value ws d.is in
     let w = ends_is t.values.1.1.0 (length t.values.1.1.1.0) d.value e d.rest in
-    moved ws (F.word ∷ texts_of F.fields t.values) e (F.make t.values) (w.same ∙ o.same) (all_words F ws t.values first t.words o.test)
+    moved ws (words_by F t.values) e (F.make t.values) (w.same ∙ o.same) (all_words F ws t.values first t.words o.test)
     (record { spelled = (t.good, w.test); words = refl })
 
 -- by whether the first word is this one

@@ -30,14 +30,17 @@ one_more : (n : ℕ) (setup : Bool) (t : List ℕ) (ls : Words) (e : Event) (es 
     → line_event setup t ≡ Ok e → events_from (n + 1) (setup && is_setup e) ls ≡ Ok es → events_from n setup (t ∷ ls) ≡ Ok (e ∷ es)
 one_more n setup t ls e es long skipped read rest = rw (long, skipped, read, rest) refl
 
-events_read : (n : ℕ) (setup : Bool) (es : List Event) → All IsEvent es → AllPass fits es → InTime setup es → events_from n setup (lines_in (lines_of es)) ≡ Ok es
+events_read : (n : ℕ) (setup : Bool) (es : List Event) → All IsEvent es → AllPass fits es → InTime setup es
+    → events_from n setup (lines_in (lines_of es)) ≡ Ok es
 events_read n setup [] are fit early = refl
 events_read n setup (e ∷ es) are fit early =
     let is = All-head IsEvent e es are in
     let this = All-head (λ e. fits e ≡ true) e es fit in
-    ap (events_from n setup) (first_line (event_text e) (lines_of es) (no_newline e is this))
-    ∙ one_more n setup (event_text e) (lines_in (lines_of es)) e es (not_long (event_text e) (text_few e is this)) (not_skipped e) (line_read setup e is this early.0)
-    (events_read (n + 1) (setup && is_setup e) es (All-tail IsEvent e es are) (All-tail (λ e. fits e ≡ true) e es fit) early.1)
+    let t = event_text e in
+    let long = not_long t (text_few e is this) in
+    let rest = events_read (n + 1) (setup && is_setup e) es (All-tail IsEvent e es are) (All-tail (λ e. fits e ≡ true) e es fit) early.1 in
+    ap (events_from n setup) (first_line t (lines_of es) (no_newline e is this))
+    ∙ one_more n setup t (lines_in (lines_of es)) e es long (not_skipped e) (line_read setup e is this early.0) rest
 
 pub script_read : (es : List Event) → All IsEvent es → AllPass fits es → InTime true es → script_of (script_text es) ≡ Ok es
 unfolding script_of

@@ -69,4 +69,3 @@ snap_read (c ∷ cs) s digits h =
 pub at_read : (a : At) → IsAt a → is_state a ≡ true → at_in (at_text a) ≡ Ok a
 at_read at.Head h state = refl
 at_read (at.Snap s) h state = snap_read (decimal s) s (digits_decimal own s (omega arith)) (number_read 1 99999 s (omega arith) (leb-true 1 s state) h.1)
-
