@@ -1,11 +1,14 @@
--- The form of each event: its first word, its fields, and the event of their values.
-use Rattle.std.proofs.Common.{◌≡◌, refl, ℕ, ◌+◌, ◌≤◌, ◌<◌, Bool, true, false, ◌&&◌, not, nat_lt, nat_le, List, [], ◌∷◌, ◌++◌, length, codes, decimal, arith, append_assoc}
+-- The form of each event: its first word, its fields, and the event of their values. An event has a form here,
+-- a clause in each function by cases below, and one in event_read and event_by_spells of RoundTrip.
+use Rattle.std.proofs.Common.{◌≡◌, refl, ℕ, ◌+◌, ◌≤◌, Bool, true, false, ◌&&◌, not, nat_lt, nat_le, List, [], ◌∷◌, ◌++◌, length, codes, decimal, arith, append_assoc}
 use Rattle.std.specs.List.{join_with_byte, list_all}
 use Rattle.std.proofs.lemmas.Bool.{and_parts, leb-true, ltb-true}
 use Rattle.std.proofs.lemmas.Bool.Decides.{nat_tests}
+use Rattle.cs_ids.specs.Ranges.{IsIn}
+use Rattle.cs_bits.specs.declared.Caps.{Caps}
 use Rattle.cs_laws.specs.declared.events.Event.{Event}
 use Rattle.cs_laws.specs.declared.events.Event.TheVariants as events
-use Rattle.cs_laws.specs.Fits.{fits, is_built, is_shown, is_state, greatest_end, greatest_time, most_written, most_shown}
+use Rattle.cs_laws.specs.Fits.{fits, is_built, is_write, is_shown, is_state, greatest_end, greatest_time, most_written, most_shown}
 use Rattle.cs_laws.specs.Grammar.{Words, is_skipped}
 use Rattle.cs_laws.specs.Texts.{event_text, name_text, mode_text}
 use Rattle.cs_script.specs.Spelling.{IsEvent}
@@ -126,12 +129,6 @@ both false b p q = p
 shown : (off len : ℕ) → off ≤ 1048575 → 1 ≤ len → len ≤ most_shown → is_shown off len ≡ true
 shown off len o l h = grind (arith, nat_tests)
 
-shown_range : (off len : ℕ) → is_shown off len ≡ true → (off < greatest_end) × (1 ≤ len) × (len ≤ most_shown)
-shown_range off len fit =
-    let parts = and_parts (nat_lt off greatest_end) (nat_le 1 len && nat_le len most_shown) fit in
-    let range = and_parts (nat_le 1 len) (nat_le len most_shown) parts.1 in
-    (ltb-true off greatest_end parts.0, leb-true 1 len range.0, leb-true len most_shown range.1)
-
 pub spelled_fits : (e : Event) → IsSpelled e → IsEvent e × (fits e ≡ true)
 spelled_fits (events.Dir d p) s = (((omega arith, omega arith), s.0.1.0), within 2 9999 d s.0.0.0 s.0.0.1)
 spelled_fits (events.File f p) s = (((omega arith, omega arith), s.0.1.0), within 2 9999 f s.0.0.0 s.0.0.1)
@@ -153,26 +150,49 @@ spelled_fits (events.RemoveSnap n) s = ((omega arith, s.0.0.1), grind (arith, na
 spelled_fits events.Commit s = (tt, refl)
 spelled_fits (events.Show f a off len) s = ((s.0.0, s.0.1.0.0), both _ _ s.0.1.0.1 (shown off len (omega arith) (omega arith) (omega arith)))
 
+-- ---- and an event that fits is spelled
+
+in_range : (low high n : ℕ) → (nat_le low n && nat_le n high) ≡ true → IsIn low high n
+in_range low high n fit =
+    let parts = and_parts (nat_le low n) (nat_le n high) fit in
+    (leb-true low n parts.0, leb-true n high parts.1)
+
+up_to : (high n : ℕ) → nat_le n high ≡ true → IsIn 0 high n
+up_to high n fit = (omega arith, leb-true n high fit)
+
+built_up_to : (bits : Caps) (size : ℕ) → (is_built bits && nat_le size greatest_end) ≡ true → (is_built bits ≡ true) × IsIn 0 greatest_end size
+built_up_to bits size fit =
+    let parts = and_parts (is_built bits) (nat_le size greatest_end) fit in
+    (parts.0, up_to greatest_end size parts.1)
+
+shown_range : (off len : ℕ) → is_shown off len ≡ true → IsIn 0 1048575 off × IsIn 1 most_shown len
+shown_range off len fit =
+    let parts = and_parts (nat_lt off greatest_end) (nat_le 1 len && nat_le len most_shown) fit in
+    let below = ltb-true off greatest_end parts.0 in
+    ((omega arith, omega arith), in_range 1 most_shown len parts.1)
+
+written_range : (off : ℕ) (bytes : List ℕ) → is_write off bytes ≡ true
+    → IsIn 0 1048575 off × ((nat_le 1 (length bytes) && nat_le (length bytes) most_written) ≡ true) × (nat_le (off + length bytes) greatest_end ≡ true)
+written_range off bytes fit =
+    let parts = and_parts (nat_le 1 (length bytes) && nat_le (length bytes) most_written) (nat_le (off + length bytes) greatest_end) fit in
+    let some = (in_range 1 most_written (length bytes) parts.0).0 in
+    let ends = leb-true (off + length bytes) greatest_end parts.1 in
+    ((omega arith, omega arith), parts.0, parts.1)
+
 pub fits_spelled : (e : Event) → IsEvent e → fits e ≡ true → IsSpelled e
-fits_spelled (events.Dir d p) is fit =
-    let range = and_parts (nat_le 2 d) (nat_le d 9999) fit in
-    (((leb-true 2 d range.0, leb-true d 9999 range.1), (is.1, tt)), refl)
-fits_spelled (events.File f p) is fit =
-    let range = and_parts (nat_le 2 f) (nat_le f 9999) fit in
-    (((leb-true 2 f range.0, leb-true f 9999 range.1), (is.1, tt)), refl)
-fits_spelled (events.Clock t) is fit = (((omega arith, leb-true t greatest_time fit), tt), refl)
+fits_spelled (events.Dir d p) is fit = ((in_range 2 9999 d fit, (is.1, tt)), refl)
+fits_spelled (events.File f p) is fit = ((in_range 2 9999 f fit, (is.1, tt)), refl)
+fits_spelled (events.Clock t) is fit = ((up_to greatest_time t fit, tt), refl)
 fits_spelled (events.Begin c f bits end) is fit =
-    let parts = and_parts (is_built bits) (nat_le end greatest_end) fit in
-    ((is.0, (is.1, (parts.0, ((omega arith, leb-true end greatest_end parts.1), tt)))), refl)
+    let set = built_up_to bits end fit in
+    ((is.0, (is.1, (set.0, (set.1, tt)))), refl)
 fits_spelled (events.End c name) is fit = ((is.0, (is.1, tt)), refl)
 fits_spelled (events.Write c name off bytes) is fit =
-    let parts = and_parts (nat_le 1 (length bytes) && nat_le (length bytes) most_written) (nat_le (off + length bytes) greatest_end) fit in
-    let some = leb-true 1 (length bytes) (and_parts (nat_le 1 (length bytes)) (nat_le (length bytes) most_written) parts.0).0 in
-    let ends = leb-true (off + length bytes) greatest_end parts.1 in
-    ((is.0, (is.1, ((omega arith, omega arith), ((is.2, parts.0), tt)))), parts.1)
+    let range = written_range off bytes fit in
+    ((is.0, (is.1, (range.0, ((is.2, range.1), tt)))), range.2)
 fits_spelled (events.Read c name off len) is fit =
     let range = shown_range off len fit in
-    ((is.0, (is.1, ((omega arith, omega arith), ((range.1, range.2), tt)))), refl)
+    ((is.0, (is.1, (range.0, (range.1, tt)))), refl)
 fits_spelled (events.Chmod c name mode) is fit = ((is.0, (is.1, (fit, tt))), refl)
 fits_spelled (events.Check f) is fit = ((is, tt), refl)
 fits_spelled (events.Flush f) is fit = ((is, tt), refl)
@@ -180,8 +200,8 @@ fits_spelled (events.FlushSnaps f) is fit = ((is, tt), refl)
 fits_spelled events.ToClient is fit = (tt, refl)
 fits_spelled events.ToMds is fit = (tt, refl)
 fits_spelled (events.Grant f bits max) is fit =
-    let parts = and_parts (is_built bits) (nat_le max greatest_end) fit in
-    ((is, (parts.0, ((omega arith, leb-true max greatest_end parts.1), tt))), refl)
+    let set = built_up_to bits max fit in
+    ((is, (set.0, (set.1, tt))), refl)
 fits_spelled (events.Revoke f bits) is fit = ((is, (fit, tt)), refl)
 fits_spelled (events.Snap d name) is fit = ((is.0, (is.1, tt)), refl)
 fits_spelled (events.RemoveSnap s) is fit = (((leb-true 1 s fit, is.1), tt), refl)
@@ -189,7 +209,7 @@ fits_spelled events.Commit is fit = (tt, refl)
 fits_spelled (events.Show f a off len) is fit =
     let parts = and_parts (is_state a) (is_shown off len) fit in
     let range = shown_range off len parts.1 in
-    ((is.0, ((is.1, parts.0), ((omega arith, omega arith), ((range.1, range.2), tt)))), refl)
+    ((is.0, ((is.1, parts.0), (range.0, (range.1, tt)))), refl)
 
 -- ---- an event's text is its words with spaces between them
 

@@ -32,32 +32,35 @@ words_read F next v good =
 abbrev plainly : (F : Form) → Words → Values F.fields → Result Event Kind
 plainly F ws v = only (suc (length F.fields)) (F.make v) ws
 
+plainly_read : (F : Form) (v : Values F.fields) → AreGood F.fields v
+    → read_fields F.fields 1 (plainly F (words_by F v)) (words_by F v) ≡ plainly F (words_by F v) v
+plainly_read F v good = words_read F (plainly F) v good
+
 -- and the bytes of a write end where a file may end
 abbrev and_ends : Words → Values write_form.fields → Result Event Kind
 and_ends ws v = plainly write_form ws v >>= ends_in_file v.1.1.0 (length v.1.1.1.0)
 
 event_read : (e : Event) → IsSpelled e → event_of (words_of e) ≡ Ok e
 unfolding event_of event_by dir_of file_of clock_of begin_of end_of write_of read_of chmod_of check_of flush_of flush_snaps_of grant_of revoke_of snap_of remove_of show_of
-event_read (events.Dir d p) s = words_read dir_form (plainly dir_form) (d, (p, tt)) s.0
-event_read (events.File f p) s = words_read file_form (plainly file_form) (f, (p, tt)) s.0
-event_read (events.Clock t) s = words_read clock_form (plainly clock_form) (t, tt) s.0
-event_read (events.Begin c f bits end) s = words_read begin_form (plainly begin_form) (c, (f, (bits, (end, tt)))) s.0
-event_read (events.End c name) s = words_read end_form (plainly end_form) (c, (name, tt)) s.0
-event_read (events.Write c name off bytes) s =
-    words_read write_form and_ends (c, (name, (off, (bytes, tt)))) s.0 ∙ rw s.1 refl
-event_read (events.Read c name off len) s = words_read read_form (plainly read_form) (c, (name, (off, (len, tt)))) s.0
-event_read (events.Chmod c name mode) s = words_read chmod_form (plainly chmod_form) (c, (name, (mode, tt))) s.0
-event_read (events.Check f) s = words_read check_form (plainly check_form) (f, tt) s.0
-event_read (events.Flush f) s = words_read flush_form (plainly flush_form) (f, tt) s.0
-event_read (events.FlushSnaps f) s = words_read flush_snaps_form (plainly flush_snaps_form) (f, tt) s.0
+event_read (events.Dir d p) s = plainly_read dir_form (d, (p, tt)) s.0
+event_read (events.File f p) s = plainly_read file_form (f, (p, tt)) s.0
+event_read (events.Clock t) s = plainly_read clock_form (t, tt) s.0
+event_read (events.Begin c f bits end) s = plainly_read begin_form (c, (f, (bits, (end, tt)))) s.0
+event_read (events.End c name) s = plainly_read end_form (c, (name, tt)) s.0
+event_read (events.Write c name off bytes) s = words_read write_form and_ends (c, (name, (off, (bytes, tt)))) s.0 ∙ rw s.1 refl
+event_read (events.Read c name off len) s = plainly_read read_form (c, (name, (off, (len, tt)))) s.0
+event_read (events.Chmod c name mode) s = plainly_read chmod_form (c, (name, (mode, tt))) s.0
+event_read (events.Check f) s = plainly_read check_form (f, tt) s.0
+event_read (events.Flush f) s = plainly_read flush_form (f, tt) s.0
+event_read (events.FlushSnaps f) s = plainly_read flush_snaps_form (f, tt) s.0
 event_read events.ToClient s = refl
 event_read events.ToMds s = refl
-event_read (events.Grant f bits max) s = words_read grant_form (plainly grant_form) (f, (bits, (max, tt))) s.0
-event_read (events.Revoke f bits) s = words_read revoke_form (plainly revoke_form) (f, (bits, tt)) s.0
-event_read (events.Snap d name) s = words_read snap_form (plainly snap_form) (d, (name, tt)) s.0
-event_read (events.RemoveSnap n) s = words_read remove_form (plainly remove_form) (n, tt) s.0
+event_read (events.Grant f bits max) s = plainly_read grant_form (f, (bits, (max, tt))) s.0
+event_read (events.Revoke f bits) s = plainly_read revoke_form (f, (bits, tt)) s.0
+event_read (events.Snap d name) s = plainly_read snap_form (d, (name, tt)) s.0
+event_read (events.RemoveSnap n) s = plainly_read remove_form (n, tt) s.0
 event_read events.Commit s = refl
-event_read (events.Show f a off len) s = words_read show_form (plainly show_form) (f, (a, (off, (len, tt)))) s.0
+event_read (events.Show f a off len) s = plainly_read show_form (f, (a, (off, (len, tt)))) s.0
 
 words_visible : (e : Event) → IsSpelled e → AreVisible (words_of e)
 words_visible e s = (text_visible (spelling e).0.word (form_plain e).visible, texts_visible (spelling e).0.fields (spelling e).1 s.0)
