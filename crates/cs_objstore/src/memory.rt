@@ -1,34 +1,62 @@
 // A store in memory.
-ghost use Rattle.std.specs.Prelude.{◌≡◌, ◌+◌, ◌≤◌, [], length, reverse, IsOk, IfOk, IsErrOf};
+ghost use Rattle.std.specs.Prelude.{◌≡◌, ◌+◌, ◌≤◌, ◌++◌, [], ◌∷◌, length, reverse, slice_index, unwrap_or, EachIndex, IsOk, IfOk, OnOk, OnErr, IsErrOf};
+ghost use Rattle.std.specs.Option.{option_copied};
+ghost use Rattle.cs_objstore.specs.Blocks.{byte_in};
+ghost use Rattle.cs_objstore.specs.Clones.{clones_of};
 ghost use Rattle.cs_objstore.specs.Stores.{has_tid, Applies, ReadsObject};
+ghost use Rattle.cs_objstore.specs.Versions.{image_at};
 
-use crate::image::read_object;
+use crate::object::Object;
 use crate::{Applied, ObjStore, StoreFault};
-use cs_ids::{Failed, Obj, Tid};
+use cs_ids::{Failed, Ino, Memory, Obj, Tid};
 use cs_laws::{At, ObjOp, ObjOps};
 use std::alloc::Global;
+use std::collections::HashMap;
 use std::marker::Model;
+
+// By what an object is found.
+#[derive(Clone, Copy, PartialEq, Eq, Hash)]
+struct Key {
+    ino: Ino,
+    index: u32,
+}
+
+impl Key {
+    fn of(obj: Obj) -> Self
+        ensures ino { result.ino ≡ obj.ino }
+        ensures index { result.index ≡ obj.index }
+    {
+        Key {
+            ino: obj.ino,
+            index: obj.index,
+        }
+    }
+}
 
 /// A store in memory. It never fails. Contracts see the operations that were applied, the oldest
 /// first.
 #[derive(Drop)]
 pub struct MemStore {
+    // A record of what was applied. Bytes are read from the objects alone.
     ops: ObjOps,
+    objects: HashMap<Key, Object>,
     // The greatest number of an operation so far, or 0: they count from 1.
     greatest: u64,
     alloc: Global,
 }
 
 impl Model for MemStore {
-    ghost use Rattle.std.specs.Prelude.{List, ℕ, ◌≡◌, ◌≤◌, true};
+    ghost use Rattle.std.specs.Prelude.{List, ℕ, ◌≡◌, ◌≤◌, true, reverse};
+    ghost use Rattle.cs_ids.specs.declared.objects.Obj.{Obj};
     ghost use Rattle.cs_laws.specs.declared.objects.ObjOp.{ObjOp};
     ghost use Rattle.cs_objstore.specs.Stores.{has_tid};
+    ghost use Rattle.cs_objstore.specs.Found.{Stands};
 
     ghost Value = { List ObjOp };
 
     ghost view = { λ s. s.ops };
 
-    ghost invariant = { λ s. (tid : ℕ) → has_tid tid s.ops ≡ true → tid ≤ s.greatest };
+    ghost invariant = { λ s. Stands s.ops s.objects s.greatest };
 }
 
 impl MemStore {
@@ -38,6 +66,7 @@ impl MemStore {
     {
         MemStore {
             ops: ObjOps::new(alloc),
+            objects: HashMap::new(alloc),
             greatest: 0,
             alloc,
         }
@@ -50,12 +79,37 @@ impl MemStore {
         &self.ops
     }
 
+    /// How often the object was cloned: the number of operations on it that were applied, each with
+    /// an earlier one on the object, whose context's number is greater than those of all earlier
+    /// ones. It takes no memory.
+    pub fn clones(&self, obj: Obj) -> u32
+        ensures { result ≡ clones_of obj (reverse self.now) }
+    {
+        match self.objects.get(&Key::of(obj)) {
+            Some(object) => object.clones(),
+            None => 0,
+        }
+    }
+
     // Whether an operation of this number was applied.
     #[tactic(auto, using(crate::proofs::Tids::above_is_new))]
     fn has(&self, tid: &Tid) -> bool
         ensures { result ≡ has_tid tid.now self.now }
     {
         tid.get() <= self.greatest && contains(self.ops.as_slice(), tid)
+    }
+
+    // Applies an operation whose number is new. After `Memory` all is as before.
+    fn write(&mut self, op: &ObjOp) -> Result<(), Memory>
+        requires { op.now.off + length op.now.bytes ≤ 65536 }
+        ensures ok { OnOk result (self.new ≡ self.old ++ op.now ∷ []) }
+        ensures err { OnErr result (self.new ≡ self.old) }
+    {
+        let entry = self.objects.entry(Key::of(op.obj))?;
+        let object = entry.or_insert(Object::new(self.alloc));
+        object.write(self.alloc, op, &mut self.ops)?;
+        self.greatest = self.greatest.max(op.tid.get());
+        Ok(())
     }
 }
 
@@ -71,7 +125,7 @@ impl ObjStore for MemStore {
     ghost faults = { λ _. 0 };
 
     /// Applies the operation where none of its number was applied before, or finds no memory for it.
-    #[tactic(auto, using(crate::proofs::Tids::has_tid_reverse, crate::proofs::Tids::reverse_pushed, crate::proofs::Tids::within_more))]
+    #[tactic(auto, using(crate::proofs::Tids::has_tid_reverse, crate::proofs::Tids::reverse_pushed))]
     fn apply(&mut self, op: &ObjOp) -> Result<Applied, StoreFault>
         requires { op.now.off + length op.now.bytes ≤ 65536 }
         ensures list { Applies (reverse self.old) (reverse self.new) op.now result }
@@ -80,8 +134,7 @@ impl ObjStore for MemStore {
         if self.has(&op.tid) {
             return Ok(Applied::Dup);
         }
-        self.ops.push(op.copy(self.alloc)?)?;
-        self.greatest = self.greatest.max(op.tid.get());
+        self.write(op)?;
         Ok(Applied::New)
     }
 
@@ -92,7 +145,17 @@ impl ObjStore for MemStore {
         ensures bytes { IfOk result (λ _. ReadsObject (reverse self.old) obj at off out.new) }
         ensures unfailing { IsOk result }
     {
-        read_object(self.ops.as_slice(), &obj, &at, off, out);
+        read_from(self.objects.get(&Key::of(obj)), &at, off, out);
         Ok(())
+    }
+}
+
+// Fills `out` with a state of the object, all zero where there is none.
+fn read_from(object: Option<&Object>, at: &At, off: u32, out: &mut [u8])
+    ensures { EachIndex out.new (λ k. slice_index out.new k ≡ byte_in (unwrap_or (image_at at.now (unwrap_or (option_copied object) [])) []) (off + k)) }
+{
+    match object.and_then(|object| object.state(at)) {
+        Some(image) => image.read(off, out),
+        None => out.fill(0),
     }
 }

@@ -1,0 +1,36 @@
+-- The versions of an object that a store keeps, the newest first.
+use Rattle.std.specs.Prelude.{◌≡◌, ℕ, ◌<◌, Bool, true, List, [], ◌∷◌, Option, Some, None, nat_lt, if◌then◌else◌}
+use Rattle.cs_laws.specs.declared.objects.At.{At}
+use Rattle.cs_laws.specs.declared.objects.At.TheVariants as at
+use Rattle.cs_objstore.specs.declared.object.Version.{Version}
+
+-- each began with a greater number than the one before it
+abbrev pub Falls : List Version → Type 0
+Falls [] = Unit {0}
+Falls (v ∷ []) = Unit {0}
+Falls (v ∷ w ∷ vs) = (w.since < v.since) × Falls (w ∷ vs)
+
+-- the number is above those of all versions
+abbrev pub is_newer : ℕ → List Version → Bool
+is_newer seq [] = true
+is_newer seq (v ∷ vs) = nat_lt v.since seq
+
+-- the head's blocks, and the number that it began with
+abbrev pub image_of : List Version → List (List ℕ)
+image_of [] = []
+image_of (v ∷ vs) = v.image
+
+abbrev pub since_of : List Version → ℕ
+since_of [] = 0
+since_of (v ∷ vs) = v.since
+
+-- the newest version that began below a number
+abbrev pub below : ℕ → List Version → Option (List (List ℕ))
+below s [] = None
+below s (v ∷ vs) = if nat_lt v.since s then Some v.image else below s vs
+
+-- the version that has a state
+abbrev pub image_at : At → List Version → Option (List (List ℕ))
+image_at at.Head [] = None
+image_at at.Head (v ∷ vs) = Some v.image
+image_at (at.Snap s) vs = below s vs
