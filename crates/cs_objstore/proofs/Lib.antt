@@ -1,2 +1,6 @@
+pub mod Blocks
 pub mod Bytes
+pub mod Falling
+pub mod Kept
+pub mod Spans
 pub mod Tids

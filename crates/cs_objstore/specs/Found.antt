@@ -1,7 +1,6 @@
 -- The objects of a store in memory. The operations stand the oldest first.
 use Rattle.std.specs.Prelude.{◌≡◌, ℕ, ◌==◌, ◌&&◌, ◌≤◌, true, List, [], reverse, unwrap_or}
-use Rattle.std.specs.HashMap.{get_by}
-use Rattle.std.specs.declared.collections.hash_map.HashMap.{HashMap}
+use Rattle.std.specs.HashMap.{HashMap, get_by}
 use Rattle.cs_ids.specs.declared.objects.Obj.{Obj}
 use Rattle.cs_laws.specs.declared.objects.ObjOp.{ObjOp}
 use Rattle.cs_laws.specs.Objects.{object}

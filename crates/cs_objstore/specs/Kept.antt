@@ -1,9 +1,7 @@
 -- What the versions of an object have in them, by the operations on it. All lists have the newest first.
-use Rattle.std.specs.Prelude.{◌≡◌, ℕ, List, [], ◌∷◌, unwrap_or, ◌==◌, ◌&&◌, if◌then◌else◌}
-use Rattle.std.specs.HashMap.{get_by}
-use Rattle.cs_ids.specs.declared.objects.Obj.{Obj}
+use Rattle.std.specs.Prelude.{◌≡◌, ℕ, List, [], ◌∷◌, if◌then◌else◌}
 use Rattle.cs_laws.specs.declared.objects.ObjOp.{ObjOp}
-use Rattle.cs_laws.specs.Objects.{all_below, byte_of, object}
+use Rattle.cs_laws.specs.Objects.{all_below, byte_of}
 use Rattle.cs_objstore.specs.Blocks.{byte_in}
 use Rattle.cs_objstore.specs.declared.object.Version.{Version}
 

@@ -1,5 +1,5 @@
 -- The versions of an object that a store keeps, the newest first.
-use Rattle.std.specs.Prelude.{◌≡◌, ℕ, ◌<◌, Bool, true, List, [], ◌∷◌, Option, Some, None, nat_lt, if◌then◌else◌}
+use Rattle.std.specs.Prelude.{ℕ, suc, ◌<◌, Bool, true, List, [], ◌∷◌, drop, nat_lt, if◌then◌else◌}
 use Rattle.cs_laws.specs.declared.objects.At.{At}
 use Rattle.cs_laws.specs.declared.objects.At.TheVariants as at
 use Rattle.cs_objstore.specs.declared.object.Version.{Version}
@@ -24,13 +24,16 @@ abbrev pub since_of : List Version → ℕ
 since_of [] = 0
 since_of (v ∷ vs) = v.since
 
--- the newest version that began below a number
-abbrev pub below : ℕ → List Version → Option (List (List ℕ))
-below s [] = None
-below s (v ∷ vs) = if nat_lt v.since s then Some v.image else below s vs
+-- how many of the newest versions didn't begin below a number
+abbrev pub newer : ℕ → List Version → ℕ
+newer s [] = 0
+newer s (v ∷ vs) = if nat_lt v.since s then 0 else suc (newer s vs)
 
--- the version that has a state
-abbrev pub image_at : At → List Version → Option (List (List ℕ))
-image_at at.Head [] = None
-image_at at.Head (v ∷ vs) = Some v.image
-image_at (at.Snap s) vs = below s vs
+-- where the version of a state stands
+abbrev pub place : At → List Version → ℕ
+place at.Head vs = 0
+place (at.Snap s) vs = newer s vs
+
+-- its blocks: none where the object wasn't written by then
+abbrev pub image_at : At → List Version → List (List ℕ)
+image_at a vs = image_of (drop (place a vs) vs)

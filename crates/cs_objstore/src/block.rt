@@ -20,7 +20,7 @@ pub struct Block {
 
 impl Model for Block {
     ghost use Rattle.std.specs.Prelude.{List, ℕ, ◌≤◌, length};
-    ghost use Rattle.cs_objstore.specs.Shared.{shared_bytes};
+    ghost use Rattle.cs_objstore.specs.Blocks.{shared_bytes};
 
     ghost Value = { List ℕ };
 

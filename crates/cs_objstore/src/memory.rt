@@ -1,10 +1,7 @@
 // A store in memory.
-ghost use Rattle.std.specs.Prelude.{◌≡◌, ◌+◌, ◌≤◌, ◌++◌, [], ◌∷◌, length, reverse, slice_index, unwrap_or, EachIndex, IsOk, IfOk, OnOk, OnErr, IsErrOf};
-ghost use Rattle.std.specs.Option.{option_copied};
-ghost use Rattle.cs_objstore.specs.Blocks.{byte_in};
+ghost use Rattle.std.specs.Prelude.{◌≡◌, ◌+◌, ◌≤◌, ◌++◌, [], ◌∷◌, length, reverse, IsOk, IfOk, OnOk, OnErr, IsErrOf};
 ghost use Rattle.cs_objstore.specs.Clones.{clones_of};
 ghost use Rattle.cs_objstore.specs.Stores.{has_tid, Applies, ReadsObject};
-ghost use Rattle.cs_objstore.specs.Versions.{image_at};
 
 use crate::object::Object;
 use crate::{Applied, ObjStore, StoreFault};
@@ -145,17 +142,10 @@ impl ObjStore for MemStore {
         ensures bytes { IfOk result (λ _. ReadsObject (reverse self.old) obj at off out.new) }
         ensures unfailing { IsOk result }
     {
-        read_from(self.objects.get(&Key::of(obj)), &at, off, out);
+        match self.objects.get(&Key::of(obj)) {
+            Some(object) => object.read(&at, off, out),
+            None => out.fill(0),
+        }
         Ok(())
-    }
-}
-
-// Fills `out` with a state of the object, all zero where there is none.
-fn read_from(object: Option<&Object>, at: &At, off: u32, out: &mut [u8])
-    ensures { EachIndex out.new (λ k. slice_index out.new k ≡ byte_in (unwrap_or (image_at at.now (unwrap_or (option_copied object) [])) []) (off + k)) }
-{
-    match object.and_then(|object| object.state(at)) {
-        Some(image) => image.read(off, out),
-        None => out.fill(0),
     }
 }

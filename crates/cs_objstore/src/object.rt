@@ -1,12 +1,11 @@
 // An object: its head, and the clones that serve its snapshots.
-ghost use Rattle.std.specs.Prelude.{◌≡◌, ℕ, ◌+◌, ◌-◌, ◌<◌, ◌≤◌, ◌++◌, [], ◌∷◌, length, drop, slice_index, EachIndex, if◌then◌else◌, OnOk, OnErr};
-ghost use Rattle.std.specs.Option.{option_copied};
+ghost use Rattle.std.specs.Prelude.{◌≡◌, ℕ, ◌+◌, ◌-◌, ◌<◌, ◌≤◌, ◌++◌, [], ◌∷◌, length, drop, slice_index, EachIndex, if◌then◌else◌, IfOk, OnOk, OnErr};
 ghost use Rattle.cs_laws.specs.Image.{byte_over};
 ghost use Rattle.cs_objstore.specs.Blocks.{byte_in};
-ghost use Rattle.cs_objstore.specs.Versions.{image_at, image_of, is_newer, since_of};
+ghost use Rattle.cs_objstore.specs.Versions.{image_at, image_of, is_newer, newer, place, since_of};
 
 use crate::image::Image;
-use cs_ids::{Memory, Seq};
+use cs_ids::{Memory, Seq, Snap};
 use cs_laws::{At, ObjOp, ObjOps};
 use std::alloc::Global;
 use std::collections::VecDeque;
@@ -31,7 +30,7 @@ pub struct Object {
 impl Model for Object {
     ghost use Rattle.std.specs.Prelude.{List};
     ghost use Rattle.cs_objstore.specs.declared.object.Version.{Version};
-    ghost use Rattle.cs_objstore.specs.Falling.{Falls};
+    ghost use Rattle.cs_objstore.specs.Versions.{Falls};
 
     ghost Value = { List Version };
 
@@ -54,18 +53,40 @@ impl Object {
     pub fn clones(&self) -> u32
         ensures { result ≡ length self.now - 1 }
     {
-        self.versions.len().saturating_sub(1) as u32
+        let Some(head) = self.versions.front() else {
+            return 0;
+        };
+        let clones = self.versions.len() - 1;
+        let greatest = head.since.get();
+        prove!(clones as u64 <= greatest);
+        clones as u32
     }
 
-    /// The image of a state, or None where the object wasn't written by then.
-    pub fn state(&self, at: &At) -> Option<&Image>
-        ensures { option_copied result ≡ image_at at.now self.now }
+    /// Fills `out` with the bytes of a state from `off` on.
+    pub fn read(&self, at: &At, off: u32, out: &mut [u8])
+        ensures { EachIndex out.new (λ k. slice_index out.new k ≡ byte_in (image_at at.now self.now) (off + k)) }
     {
-        let newer = match at {
+        match self.versions.get(self.place(at)) {
+            Some(version) => version.image.read(off, out),
+            None => out.fill(0),
+        }
+    }
+
+    // Where the version of a state stands: behind those that began at the snapshot or later.
+    fn place(&self, at: &At) -> usize
+        ensures { result ≡ place at.now self.now }
+    {
+        match at {
             At::Head => 0,
-            At::Snap(snap) => self.versions.partition_point(|v| v.since.get() >= snap.get()),
-        };
-        self.versions.get(newer).map(|version| &version.image)
+            At::Snap(snap) => self.newer(snap),
+        }
+    }
+
+    fn newer(&self, snap: &Snap) -> usize
+        ensures { result ≡ newer snap.now self.now }
+    {
+        let number = snap.get();
+        self.versions.partition_point(|version| version.since.get() >= number)
     }
 
     // Whether the number is above those of all contexts so far.
