@@ -1,5 +1,5 @@
 -- Blocks that are written, and read.
-use Rattle.std.proofs.Common.{◌≡◌, ◌∙◌, sym, refl, ap, ℕ, ◌+◌, ◌-◌, ◌*◌, ◌/◌, ◌%◌, ◌<◌, ◌≤◌, nat_lt, Bool, true, false, cond, List, [], ◌∷◌, length, get_or, max, min, arith, inl, inr}
+use Rattle.std.proofs.Common.{◌≡◌, ◌∙◌, sym, refl, ap, ℕ, ◌+◌, ◌-◌, ◌*◌, ◌/◌, ◌%◌, ◌<◌, ◌≤◌, nat_lt, Bool, true, false, cond, List, [], ◌∷◌, ◌++◌, length, get_or, take, replicate, max, min, arith, inl, inr}
 use Rattle.std.proofs.lemmas.Bool.{cases_lt}
 use Rattle.std.proofs.lemmas.Grind.{common_steps}
 use Rattle.std.proofs.lemmas.List.{get_or_past}
@@ -15,6 +15,15 @@ not_yet off i below bytes front = grind (arith, common_steps)
 
 -- ---- one block
 
+pub filled_up_same : (n : ℕ) (old new : List ℕ) → length old ≤ n → new ≡ take n old ++ replicate (n - length old) 0 → (k : ℕ) → get_or new k 0 ≡ get_or old k 0
+filled_up_same n old new few is k = elim (cases_lt k (length old)) [
+  | inl within ↦ grind (arith, common_steps, is)
+  | inr past ↦ elim (cases_lt k n) [
+    | inl room ↦ grind (arith, common_steps, is, get_or_past old k 0 past)
+    | inr out ↦ grind (arith, common_steps, is, get_or_past old k 0 past)
+  ]
+]
+
 pub block_before : (start off : ℕ) (bytes block : List ℕ) → off + length bytes ≤ start → IsWrittenOver start off bytes block block
 block_before start off bytes block h k few = sym (not_there off (start + k) (get_or block k 0) bytes (omega arith))
 
@@ -22,11 +31,11 @@ pub block_behind : (start off : ℕ) (bytes block : List ℕ) → start + 4096 �
 block_behind start off bytes block h k few = sym (not_yet off (start + k) (get_or block k 0) bytes (omega arith))
 
 pub block_written : (start off end : ℕ) (bytes old mid new : List ℕ) → end ≡ min (off + length bytes - start) 4096 → length mid ≡ max (length old) end
-    → ((k : ℕ) → k < length mid → get_or mid k 0 ≡ get_or old k 0) → length new ≡ length mid
+    → ((k : ℕ) → get_or mid k 0 ≡ get_or old k 0) → length new ≡ length mid
     → ((k : ℕ) → k < length new → get_or new k 0 ≡ byte_over off bytes (start + k) (get_or mid k 0))
     → IsWrittenOver start off bytes old new
 block_written start off end bytes old mid new is long same len over k few = elim (cases_lt k (length new)) [
-  | inl within ↦ over k within ∙ ap (byte_over off bytes (start + k)) (same k (omega arith))
+  | inl within ↦ over k within ∙ ap (byte_over off bytes (start + k)) (same k)
   | inr past ↦
       get_or_past new k 0 past
       ∙ sym (not_there off (start + k) (get_or old k 0) bytes (omega arith) ∙ get_or_past old k 0 (omega arith))

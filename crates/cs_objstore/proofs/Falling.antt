@@ -43,3 +43,7 @@ newer_found s zero (v ∷ vs) few front back = rw (is_below v.since s (back zero
 newer_found s (suc p) (v ∷ vs) few front back =
     rw (not_below v.since s (front zero v (omega arith)))
     (ap suc (newer_found s p vs (omega arith) (λ k d h. front (suc k) d (omega arith)) (λ k d from to. back (suc k) d (omega arith) (omega arith))))
+
+pub falls_fewer : (vs : List Version) (d : Version) → 0 < length vs → Falls vs → length vs - 1 ≤ (get_or vs 0 d).since
+falls_fewer [] d some f = absurd (omega arith)
+falls_fewer (v ∷ vs) d some f = omega (arith, falls_count v vs f)

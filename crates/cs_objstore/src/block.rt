@@ -79,14 +79,24 @@ impl Block {
             return self.share();
         }
         let old = self.as_slice();
-        let mut new = Vec::with_capacity(alloc, old.len().max(end))?;
-        new.extend_from_slice(old)?;
-        new.resize(old.len().max(end), 0)?;
+        let mut new = filled_up(alloc, old, old.len().max(end))?;
         lay_over(bytes, off, start, new.as_mut_slice());
         Ok(Block {
             bytes: Some(Arc::new(alloc, new)?),
         })
     }
+}
+
+// A copy that is filled up with zeros to `len` bytes.
+fn filled_up(alloc: Global, bytes: &[u8], len: usize) -> Result<Vec<u8>, Memory>
+    requires { length bytes.now ≤ len }
+    ensures len { IfOk result (λ v. length v.items ≡ len) }
+    ensures bytes { IfOk result (λ v. (k : ℕ) → slice_index v.items k ≡ slice_index bytes.now k) }
+{
+    let mut copy = Vec::with_capacity(alloc, len)?;
+    copy.extend_from_slice(bytes)?;
+    copy.resize(len, 0)?;
+    Ok(copy)
 }
 
 /// Puts the bytes, which lie from `start` on, over those of `out`, which lie from `off` on.
