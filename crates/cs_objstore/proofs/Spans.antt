@@ -119,7 +119,7 @@ below_by n o os false is so =
     let some = exists_above o.ctx.seq os is in
     let t = top (spans os) in
     let all : (nat_lt o.ctx.seq n && all_below n os) ≡ nat_lt t n =
-      ap (λ x. nat_lt o.ctx.seq n && x) (above_top os n some) ∙ and_of_greater o.ctx.seq t n false (sym (above_top os o.ctx.seq some) ∙ is)
+    ap (λ x. nat_lt o.ctx.seq n && x) (above_top os n some) ∙ and_of_greater o.ctx.seq t n false (sym (above_top os o.ctx.seq some) ∙ is)
     in below_grown n (o ∷ os) (spans os) (any_spans os ∙ some)
     ∙ (ap (λ x. cond (nat_lt t n) (o ∷ os) x) so ∙ ap (λ b. cond b (o ∷ os) (before n os)) (sym all))
 

@@ -1,6 +1,7 @@
 -- The objects of a store in memory. The operations stand the oldest first.
-use Rattle.std.specs.Prelude.{◌≡◌, ℕ, ◌==◌, ◌&&◌, ◌≤◌, true, List, [], reverse, unwrap_or}
+use Rattle.std.specs.Prelude.{◌≡◌, ℕ, ◌==◌, ◌&&◌, nat_eq, List, [], reverse, unwrap_or}
 use Rattle.std.specs.HashMap.{HashMap, get_by}
+use Rattle.std.specs.HashSet.{HashSet, contains}
 use Rattle.cs_ids.specs.declared.objects.Obj.{Obj}
 use Rattle.cs_laws.specs.declared.objects.ObjOp.{ObjOp}
 use Rattle.cs_laws.specs.Objects.{object}
@@ -13,7 +14,7 @@ use Rattle.cs_objstore.specs.declared.object.Version.{Version}
 abbrev pub versions_of : {S : Type 0} → Obj → HashMap Key (List Version) S → List Version
 versions_of obj objects = unwrap_or (get_by (λ k. (obj.ino == k.ino) && (obj.index == k.index)) objects) []
 
--- each object's versions have the bytes that its operations made, and no operation's number is above the greatest
-pub record Stands {S : Type 0} (ops : List ObjOp) (objects : HashMap Key (List Version) S) (greatest : ℕ) : Type 0 where
+-- each object's versions have the bytes that its operations made, and the numbers are those of the operations
+pub record Stands {S T : Type 0} (ops : List ObjOp) (objects : HashMap Key (List Version) S) (tids : HashSet ℕ T) : Type 0 where
   pub kept : (obj : Obj) → Keeps (versions_of obj objects) (spans (object obj (reverse ops)))
-  pub within : (tid : ℕ) → has_tid tid ops ≡ true → tid ≤ greatest
+  pub numbers : (tid : ℕ) → contains nat_eq tids tid ≡ has_tid tid ops

@@ -8,7 +8,7 @@ use crate::{Applied, ObjStore, StoreFault};
 use cs_ids::{Failed, Ino, Memory, Obj, Tid};
 use cs_laws::{At, ObjOp, ObjOps};
 use std::alloc::Global;
-use std::collections::HashMap;
+use std::collections::{HashMap, HashSet};
 use std::marker::Model;
 
 // By what an object is found.
@@ -37,23 +37,21 @@ pub struct MemStore {
     // A record of what was applied. Bytes are read from the objects alone.
     ops: ObjOps,
     objects: HashMap<Key, Object>,
-    // The greatest number of an operation so far, or 0: they count from 1.
-    greatest: u64,
+    // The numbers of the operations.
+    tids: HashSet<Tid>,
     alloc: Global,
 }
 
 impl Model for MemStore {
-    ghost use Rattle.std.specs.Prelude.{List, ℕ, ◌≡◌, ◌≤◌, true, reverse};
-    ghost use Rattle.cs_ids.specs.declared.objects.Obj.{Obj};
+    ghost use Rattle.std.specs.Prelude.{List};
     ghost use Rattle.cs_laws.specs.declared.objects.ObjOp.{ObjOp};
-    ghost use Rattle.cs_objstore.specs.Stores.{has_tid};
     ghost use Rattle.cs_objstore.specs.Found.{Stands};
 
     ghost Value = { List ObjOp };
 
     ghost view = { λ s. s.ops };
 
-    ghost invariant = { λ s. Stands s.ops s.objects s.greatest };
+    ghost invariant = { λ s. Stands s.ops s.objects s.tids };
 }
 
 impl MemStore {
@@ -64,7 +62,7 @@ impl MemStore {
         MemStore {
             ops: ObjOps::new(alloc),
             objects: HashMap::new(alloc),
-            greatest: 0,
+            tids: HashSet::new(alloc),
             alloc,
         }
     }
@@ -89,11 +87,10 @@ impl MemStore {
     }
 
     // Whether an operation of this number was applied.
-    #[tactic(auto, using(crate::proofs::Tids::above_is_new))]
     fn has(&self, tid: &Tid) -> bool
         ensures { result ≡ has_tid tid.now self.now }
     {
-        tid.get() <= self.greatest && contains(self.ops.as_slice(), tid)
+        self.tids.contains(tid)
     }
 
     // Applies an operation whose number is new. After `Memory` all is as before.
@@ -102,18 +99,13 @@ impl MemStore {
         ensures ok { OnOk result (self.new ≡ self.old ++ op.now ∷ []) }
         ensures err { OnErr result (self.new ≡ self.old) }
     {
+        self.tids.reserve(1)?;
         let entry = self.objects.entry(Key::of(op.obj))?;
         let object = entry.or_insert(Object::new(self.alloc));
         object.write(self.alloc, op, &mut self.ops)?;
-        self.greatest = self.greatest.max(op.tid.get());
+        self.tids.insert(op.tid)?;
         Ok(())
     }
-}
-
-fn contains(ops: &[ObjOp], tid: &Tid) -> bool
-    ensures { result ≡ has_tid tid.now ops.now }
-{
-    ops.iter().any(|op| op.tid == *tid)
 }
 
 impl ObjStore for MemStore {

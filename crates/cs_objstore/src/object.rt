@@ -86,7 +86,8 @@ impl Object {
         ensures { result ≡ newer snap.now self.now }
     {
         let number = snap.get();
-        self.versions.partition_point(|version| version.since.get() >= number)
+        self.versions
+            .partition_point(|version| version.since.get() >= number)
     }
 
     // Whether the number is above those of all contexts so far.

@@ -22,13 +22,7 @@ fn context(alloc: Global, seq: u64) -> Result<SnapContext, Fail> {
 }
 
 // Two bytes from an offset on.
-fn operation(
-    alloc: Global,
-    tid: u64,
-    seq: u64,
-    off: u32,
-    bytes: &[u8; 2],
-) -> Result<ObjOp, Fail>
+fn operation(alloc: Global, tid: u64, seq: u64, off: u32, bytes: &[u8; 2]) -> Result<ObjOp, Fail>
     ensures { IfOk result (λ op. (op.off ≡ off) × (op.bytes ≡ bytes.now)) }
 {
     let tid = Tid::new(tid).ok_or("tid")?;
