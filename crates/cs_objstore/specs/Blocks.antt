@@ -17,3 +17,7 @@ byte_in blocks i = slice_index (slice_index_or blocks (i / 4096) []) (i % 4096)
 -- a block that begins at `start`, after bytes are written from `off` on
 abbrev pub IsWrittenOver : ℕ → ℕ → List ℕ → List ℕ → List ℕ → Type 0
 IsWrittenOver start off bytes old new = (k : ℕ) → k < 4096 → slice_index new k ≡ byte_over off bytes (start + k) (slice_index old k)
+
+-- all bytes, after some are written from `off` on
+abbrev pub Writes : ℕ → List ℕ → List (List ℕ) → List (List ℕ) → Type 0
+Writes off bytes old new = (i : ℕ) → byte_in new i ≡ byte_over off bytes i (byte_in old i)

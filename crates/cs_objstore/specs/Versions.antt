@@ -24,6 +24,13 @@ abbrev pub since_of : List Version → ℕ
 since_of [] = 0
 since_of (v ∷ vs) = v.since
 
+-- the head's number after an operation, and what stands behind the head then
+abbrev pub since_after : ℕ → List Version → ℕ
+since_after seq vs = if is_newer seq vs then seq else since_of vs
+
+abbrev pub clones_after : ℕ → List Version → List Version
+clones_after seq vs = if is_newer seq vs then vs else drop 1 vs
+
 -- how many of the newest versions didn't begin below a number
 abbrev pub newer : ℕ → List Version → ℕ
 newer s [] = 0

@@ -1,7 +1,6 @@
 // The bytes of an object in one of its states, in blocks that states share.
-ghost use Rattle.std.specs.Prelude.{◌≡◌, ℕ, ◌+◌, ◌≤◌, [], length, slice_index, EachIndex, IfOk};
-ghost use Rattle.cs_laws.specs.Image.{byte_over};
-ghost use Rattle.cs_objstore.specs.Blocks.{byte_in};
+ghost use Rattle.std.specs.Prelude.{◌≡◌, ◌+◌, ◌≤◌, [], length, slice_index, EachIndex, IfOk};
+ghost use Rattle.cs_objstore.specs.Blocks.{byte_in, Writes};
 
 use crate::block::{BLOCK_SIZE, Block, lay_over};
 use cs_ids::Memory;
@@ -39,7 +38,7 @@ impl Image {
     /// shares each block that they don't touch.
     pub fn written(&self, alloc: Global, off: u32, bytes: &[u8]) -> Result<Image, Memory>
         requires { off + length bytes.now ≤ 65536 }
-        ensures { IfOk result (λ image. (i : ℕ) → byte_in image i ≡ byte_over off bytes.now i (byte_in self.now i)) }
+        ensures { IfOk result (Writes off bytes.now self.now) }
     {
         let off = off as usize;
         let reached = (off + bytes.len()).div_ceil(BLOCK_SIZE);

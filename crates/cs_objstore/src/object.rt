@@ -1,8 +1,7 @@
 // An object: its head, and the clones that serve its snapshots.
-ghost use Rattle.std.specs.Prelude.{◌≡◌, ℕ, ◌+◌, ◌-◌, ◌<◌, ◌≤◌, ◌++◌, [], ◌∷◌, length, drop, slice_index, EachIndex, if◌then◌else◌, IfOk, OnOk, OnErr};
-ghost use Rattle.cs_laws.specs.Image.{byte_over};
-ghost use Rattle.cs_objstore.specs.Blocks.{byte_in};
-ghost use Rattle.cs_objstore.specs.Versions.{image_at, image_of, is_newer, newer, place, since_of};
+ghost use Rattle.std.specs.Prelude.{◌≡◌, ◌+◌, ◌-◌, ◌<◌, ◌≤◌, ◌++◌, [], ◌∷◌, length, drop, slice_index, EachIndex, IfOk, OnOk, OnErr};
+ghost use Rattle.cs_objstore.specs.Blocks.{byte_in, Writes};
+ghost use Rattle.cs_objstore.specs.Versions.{clones_after, image_at, image_of, is_newer, newer, place, since_after, since_of};
 
 use crate::image::Image;
 use cs_ids::{Memory, Seq, Snap};
@@ -11,8 +10,8 @@ use std::alloc::Global;
 use std::collections::VecDeque;
 use std::marker::Model;
 
-/// A version of an object. It serves the snapshots above `since` up to the `since` of the version
-/// behind it.
+/// A version of an object. It serves the snapshots above `since` up to the `since` of the next newer
+/// version.
 #[derive(Drop)]
 pub struct Version {
     // The number of the context of the operation that began it.
@@ -82,6 +81,7 @@ impl Object {
         }
     }
 
+    // How many of the newest versions began at the snapshot or later.
     fn newer(&self, snap: &Snap) -> usize
         ensures { result ≡ newer snap.now self.now }
     {
@@ -103,8 +103,8 @@ impl Object {
     // What the head is after an operation.
     fn next(&self, alloc: Global, op: &ObjOp) -> Result<Version, Memory>
         requires { op.now.off + length op.now.bytes ≤ 65536 }
-        ensures since { IfOk result (λ v. v.since ≡ (if is_newer op.now.ctx.seq self.now then op.now.ctx.seq else since_of self.now)) }
-        ensures bytes { IfOk result (λ v. (i : ℕ) → byte_in v.image i ≡ byte_over op.now.off op.now.bytes i (byte_in (image_of self.now) i)) }
+        ensures since { IfOk result (λ v. v.since ≡ since_after op.now.ctx.seq self.now) }
+        ensures bytes { IfOk result (λ v. Writes op.now.off op.now.bytes (image_of self.now) v.image) }
     {
         let bytes = op.bytes.as_slice();
         match self.versions.front() {
@@ -124,9 +124,9 @@ impl Object {
     pub fn write(&mut self, alloc: Global, op: &ObjOp, ops: &mut ObjOps) -> Result<(), Memory>
         requires { op.now.off + length op.now.bytes ≤ 65536 }
         ensures listed { OnOk result (ops.new ≡ ops.old ++ op.now ∷ []) }
-        ensures written { OnOk result ((i : ℕ) → byte_in (image_of self.new) i ≡ byte_over op.now.off op.now.bytes i (byte_in (image_of self.old) i)) }
-        ensures since { OnOk result (since_of self.new ≡ (if is_newer op.now.ctx.seq self.old then op.now.ctx.seq else since_of self.old)) }
-        ensures clones { OnOk result (drop 1 self.new ≡ (if is_newer op.now.ctx.seq self.old then self.old else drop 1 self.old)) }
+        ensures written { OnOk result (Writes op.now.off op.now.bytes (image_of self.old) (image_of self.new)) }
+        ensures since { OnOk result (since_of self.new ≡ since_after op.now.ctx.seq self.old) }
+        ensures clones { OnOk result (drop 1 self.new ≡ clones_after op.now.ctx.seq self.old) }
         ensures some { OnOk result (0 < length self.new) }
         ensures err { OnErr result ((ops.new ≡ ops.old) × (self.new ≡ self.old)) }
     {
