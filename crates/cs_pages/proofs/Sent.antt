@@ -44,22 +44,3 @@ none_in t (e ∷ es) q is =
     (λ here. ap (λ x. is_in t (state_of x)) (at_head e es q here) ∙ both.0)
     (λ there. ap (λ x. is_in t (state_of x)) (at_tail e es q there) ∙ none_in t es q both.1)
     (cases_eq q e.0)
-
--- An acknowledgement, page by page
-
-pub stays : (keep : Bool) (t : ℕ) (x : Option Page) → is_in t (state_of x) ≡ false → x ≡ after_ack keep t x
-stays keep t None is = refl
-stays keep t (Some x) is = sym (cond-false (is_in t (page_state x)) (cond keep (Some (cleaned x)) None) (Some x) is)
-
-goes : (keep : Bool) (t : ℕ) (x : Option Page) → is_in t (state_of x) ≡ true → cond keep (option_map cleaned x) None ≡ after_ack keep t x
-goes keep t None is = cc
-goes keep t (Some x) is = sym (cond-true (is_in t (page_state x)) (cond keep (Some (cleaned x)) None) (Some x) is)
-
--- the one page of the operation is changed, and no other
-pub done_each : (keep : Bool) (t p q : ℕ) (es : List (ℕ × Page)) → is_in t (state_at es p) ≡ true → ((r : ℕ) → is_in t (state_at es r) ≡ true → r ≡ p) → changed es p (cond keep (option_map cleaned (page_at es p)) None) q ≡ after_ack keep t (page_at es q)
-done_each keep t p q es here alone = ⊎_elim
-    (λ same. cond-true (q == p) (cond keep (option_map cleaned (page_at es p)) None) (page_at es q) (eq-eqb q p same)
-    ∙ (goes keep t (page_at es p) here ∙ ap (λ v. after_ack keep t (page_at es v)) (sym same)))
-    (λ other. cond-false (q == p) (cond keep (option_map cleaned (page_at es p)) None) (page_at es q) (ne_eqb q p other)
-    ∙ stays keep t (page_at es q) (elim (is_in t (state_at es q)) as (λ v. is_in t (state_at es q) ≡ v → v ≡ false) [ true ↦ λ e. absurd (other (alone q e)) | false ↦ λ e. refl ] refl))
-    (cases_eq q p)

@@ -4,9 +4,16 @@
 #![tactic(auto)]
 
 mod block;
+mod laws;
 mod page;
 mod pages;
+#[cfg(test)]
+mod tests;
 
 pub use block::{Block, PAGE_SIZE};
+pub use laws::{
+    pages_may_cross_threads, reads_give_the_last_bytes_put, states_follow_the_steps,
+    two_contexts_by_example,
+};
 pub use page::{Filled, Owed, Page};
 pub use pages::Pages;
