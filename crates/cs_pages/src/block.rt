@@ -6,8 +6,8 @@ use cs_ids::Memory;
 use std::alloc::Global;
 use std::marker::Model;
 
-/// How many bytes a page has.
-pub const PAGE_SIZE: usize = 4096;
+// How many bytes a page has.
+pub(crate) const PAGE_SIZE: usize = 4096;
 
 /// The 4,096 bytes of a page. Contracts see them as a list.
 #[derive(Drop)]

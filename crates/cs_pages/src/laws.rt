@@ -7,7 +7,7 @@ ghost use Rattle.cs_states.specs.declared.page.PageState.TheVariants as page_sta
 ghost use Rattle.cs_states.specs.declared.page.PageWrite.TheVariants as writes;
 ghost use Rattle.cs_states.specs.declared.page.Pick.TheVariants as picks;
 ghost use Rattle.cs_states.specs.PageLists.{owed_to, pick};
-ghost use Rattle.cs_states.specs.PageState.{after_ack, after_drop, after_send, write_answer};
+ghost use Rattle.cs_states.specs.PageState.{after_ack, after_drop, after_send, is_in, owed_seq, write_answer};
 ghost use Rattle.cs_pages.specs.contracts.pages.Pages as pages_row;
 ghost use Rattle.cs_pages.specs.declared.page.Page.{Page};
 ghost use Rattle.cs_pages.specs.Example.{newer, two_pages};
@@ -28,6 +28,17 @@ pub fn states_follow_the_steps()
     ensures sent { (tid : ℕ) (x : Option Page) → page.state_of (option_map (page.sent_as tid) x) ≡ after_send tid (page.state_of x) }
     ensures acked { (keep : Bool) (tid : ℕ) (x : Option Page) → page.state_of (page.after_ack keep tid x) ≡ after_ack keep tid (page.state_of x) }
     ensures dropped { (x : Option Page) → page.state_of (page.after_drop x) ≡ after_drop (page.state_of x) }
+{}
+
+/// A page is owed under the context of its last write until its operation is acknowledged, and by the
+/// number of that context.
+pub fn contexts_are_of_the_last_write()
+    ensures number { (x : Option Page) → option_map (λ c. c.seq) (page.context_of x) ≡ owed_seq (page.state_of x) }
+    ensures written { (ctx : Context) (at : ℕ) (bytes : List ℕ) (x : Option Page) → page.context_of (Some (page.dirtied ctx at bytes x)) ≡ Some ctx }
+    ensures sent { (tid : ℕ) (x : Option Page) → page.context_of (option_map (page.sent_as tid) x) ≡ page.context_of x }
+    ensures acked { (keep : Bool) (tid : ℕ) (x : Option Page) → is_in tid (page.state_of x) ≡ true → page.context_of (page.after_ack keep tid x) ≡ None }
+    ensures other { (keep : Bool) (tid : ℕ) (x : Option Page) → is_in tid (page.state_of x) ≡ false → page.after_ack keep tid x ≡ x }
+    ensures dropped { (x : Option Page) → page.context_of (page.after_drop x) ≡ page.context_of x }
 {}
 
 /// An example, of two pages owed under context 4, one of them in flight. A write under context 5 waits

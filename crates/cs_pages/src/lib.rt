@@ -10,10 +10,11 @@ mod pages;
 #[cfg(test)]
 mod tests;
 
-pub use block::{Block, PAGE_SIZE};
+pub use block::Block;
+pub use cs_states::{PageState, PageWrite, Pick};
 pub use laws::{
-    pages_may_cross_threads, reads_give_the_last_bytes_put, states_follow_the_steps,
-    two_contexts_by_example,
+    contexts_are_of_the_last_write, pages_may_cross_threads, reads_give_the_last_bytes_put,
+    states_follow_the_steps, two_contexts_by_example,
 };
 pub use page::{Filled, Owed, Page};
 pub use pages::Pages;

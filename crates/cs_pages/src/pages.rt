@@ -65,6 +65,7 @@ impl Pages {
     /// The 4,096 bytes of a page, or None exactly where it isn't cached.
     pub fn read(&self, page: u32) -> Option<&[u8]>
         ensures bytes { option_copied result ≡ option_map (λ x. x.bytes) (page_at self.now page) }
+        ensures size { IfSome result (λ b. length b.now ≡ 4096) }
         ensures none { IsNone result ↔ (state_at self.now page ≡ page_states.Absent) }
     {
         let held = self.pages.get(&page)?;
@@ -273,7 +274,8 @@ impl Pages {
     }
 
     /// The operation of this number is acknowledged. The page that is sent in it is clean from then on,
-    /// or dropped where it isn't to be kept. False exactly where no page is; then nothing changes.
+    /// or dropped where it isn't to be kept. False exactly where no page is; then nothing changes. Like
+    /// `pick`, it looks at the cached pages in turn.
     pub fn mark_done(&mut self, tid: Tid, keep: bool) -> bool
         ensures found { IsTrue result ↔ (p : ℕ) × (is_in tid (state_at self.old p) ≡ true) }
         ensures pages { (q : ℕ) → page_at self.new q ≡ after_ack keep tid (page_at self.old q) }

@@ -2,7 +2,6 @@
 use super::*;
 use cs_ids::{Seq, Snap, Tid};
 use cs_snapctx::{SnapContext, SnapList};
-use cs_states::{PageState, PageWrite, Pick};
 use std::alloc::Global;
 use std::test::Fail;
 

@@ -32,11 +32,19 @@ no_least None b is = (refl, is)
 no_least (Some a) None is = cc
 no_least (Some a) (Some b) is = cc
 
-none_owed : (es : Pages) → oldest es ≡ None → AllByRecursion (λ e. owed_seq e.1 ≡ None) es
+pub none_owed : (es : Pages) → oldest es ≡ None → AllByRecursion (λ e. owed_seq e.1 ≡ None) es
 none_owed [] is = tt
 none_owed (e ∷ es) is =
     let both = no_least (owed_seq e.1) (oldest es) is in
     (both.0, none_owed es both.1)
+
+none_least : (a b : Option ℕ) → a ≡ None → b ≡ None → least a b ≡ None
+none_least None b here there = there
+none_least (Some a) b here there = cc
+
+pub nothing_oldest : (es : Pages) → AllByRecursion (λ e. owed_seq e.1 ≡ None) es → oldest es ≡ None
+nothing_oldest [] a = refl
+nothing_oldest (e ∷ es) a = none_least (owed_seq e.1) (oldest es) a.0 (nothing_oldest es a.1)
 
 -- some page is owed under the oldest context
 
@@ -61,7 +69,7 @@ either_is (Some a) (Some b) q is =
     let m : min a b ≡ q = cc in
     ⊎_elim (λ l. inl (ap Some (omega arith))) (λ g. inr (ap Some (omega arith))) (cases_lt a b)
 
-some_under : (q : ℕ) (es : Pages) → oldest es ≡ Some q → 0 < owed_under q es
+pub some_under : (q : ℕ) (es : Pages) → oldest es ≡ Some q → 0 < owed_under q es
 some_under q [] is = cc
 some_under q (e ∷ es) is = subst (λ n. 0 < n) (sym (sum_by-cons (λ x. cond (is_under q x.1) 1 0) e es)) (⊎_elim
     (λ here. one_more (is_under q e.1) (owed_under q es) (under_of q e.1 here))

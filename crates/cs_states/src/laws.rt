@@ -1,5 +1,5 @@
 // Laws of pages and of operations in flight. Each is the contract of a function that does nothing.
-ghost use Rattle.std.specs.Prelude.{◌≡◌, ◌≢◌, ℕ, ◌+◌, ◌<◌, ◌≤◌, ◌↔◌, ◌⊎◌, Bool, true, false, nat_lt, List, None, Some, IsTrue};
+ghost use Rattle.std.specs.Prelude.{◌≡◌, ℕ, ◌+◌, ◌<◌, ◌≤◌, ◌↔◌, Bool, true, false, nat_lt, List, None, Some};
 ghost use Rattle.std.specs.List.{AllByRecursion};
 ghost use Rattle.cs_states.specs.declared.page.PageState.{PageState};
 ghost use Rattle.cs_states.specs.declared.page.PageState.TheVariants as states;
@@ -7,8 +7,8 @@ ghost use Rattle.cs_states.specs.declared.page.PageWrite.TheVariants as writes;
 ghost use Rattle.cs_states.specs.declared.page.Pick.TheVariants as picks;
 ghost use Rattle.cs_states.specs.Deliveries.{IsLife, Step, after, arrivals, lost_copies, lost_replies, replies, sends};
 ghost use Rattle.cs_states.specs.Example.{oldest_sent, three_pages};
-ghost use Rattle.cs_states.specs.PageLists.{Ascend, IsLowestOfOldest, OldestIsSent, Pages, clean_count, listed, owed_to, pick};
-ghost use Rattle.cs_states.specs.PageState.{after_ack, after_drop, is_in, owed_seq, write_answer};
+ghost use Rattle.cs_states.specs.PageLists.{Ascend, IsLowestOfOldest, IsOldest, OldestIsSent, Pages, clean_count, listed, oldest, owed_to, owed_under, pick};
+ghost use Rattle.cs_states.specs.PageState.{after_ack, is_in, owed_seq, write_answer};
 
 /// Where the numbers of the pages ascend, `pick` names the lowest page that isn't sent, of those owed
 /// under the oldest context. It names none yet exactly where all of these are sent, one or more, and
@@ -16,7 +16,15 @@ ghost use Rattle.cs_states.specs.PageState.{after_ack, after_drop, is_in, owed_s
 pub fn pick_names_the_lowest_page_of_the_oldest_context()
     ensures page { (low high p : ℕ) (es : Pages) → Ascend low high es → pick es ≡ picks.Page p → IsLowestOfOldest p es }
     ensures waiting { (n : ℕ) (es : Pages) → pick es ≡ picks.Waiting n → OldestIsSent n es }
-    ensures clean { (es : Pages) → pick es ≡ picks.Clean → AllByRecursion (λ e. owed_seq e.1 ≡ None) es }
+    ensures clean { (es : Pages) → (pick es ≡ picks.Clean) ↔ AllByRecursion (λ e. owed_seq e.1 ≡ None) es }
+{}
+
+/// The oldest context is that of some page, and no page is owed under an older one. There is none
+/// exactly where no page is owed.
+pub fn the_oldest_context_is_the_least()
+    ensures some { (q : ℕ) (es : Pages) → oldest es ≡ Some q → 0 < owed_under q es }
+    ensures least { (q : ℕ) (es : Pages) → oldest es ≡ Some q → IsOldest q es }
+    ensures none { (es : Pages) → (oldest es ≡ None) ↔ AllByRecursion (λ e. owed_seq e.1 ≡ None) es }
 {}
 
 /// A list of pages whose numbers ascend is that of the states of the numbers.

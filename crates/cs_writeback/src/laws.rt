@@ -1,10 +1,20 @@
 // Laws of the operations. Each is the contract of a function that does nothing.
-ghost use Rattle.std.specs.Prelude.{◌≡◌, true, false, Some};
+ghost use Rattle.std.specs.Prelude.{◌≡◌, ◌==◌, ℕ, List, true, false, Some, if◌then◌else◌};
+ghost use Rattle.std.specs.Option.{option_map};
 ghost use denote.Param.Send.{IsSend};
+ghost use Rattle.cs_states.specs.declared.delivery.Delivery.{Delivery};
 ghost use Rattle.cs_states.specs.declared.delivery.Reply.TheVariants as replies;
 ghost use Rattle.cs_states.specs.declared.delivery.Resend.TheVariants as resends;
 ghost use Rattle.cs_states.specs.Delivery.{after_arrival, after_loss, after_reply, after_resend, reply_to, resend_answer, sent_once};
 ghost use Rattle.cs_writeback.specs.contracts.operations.OpsInFlight as operations_row;
+ghost use Rattle.cs_writeback.specs.declared.operations.SentOp.{SentOp};
+ghost use Rattle.cs_writeback.specs.Operations.{changed, delivery_at, operation_at};
+
+/// Where an operation goes a step, its delivery does, and no other.
+pub fn a_step_is_of_one_operation()
+    ensures { (old new : List (ℕ × SentOp)) (t : ℕ) (step : Delivery → Delivery) → ((u : ℕ) → operation_at new u ≡ changed old t step u)
+        → (u : ℕ) → delivery_at new u ≡ (if u == t then option_map step (delivery_at old t) else delivery_at old u) }
+{}
 
 /// An example: the only copy of an operation is lost, and it is sent again. That copy comes to the
 /// store, and the reply acknowledges it. Then it is too late to send it once more.

@@ -8,5 +8,6 @@ mod operations;
 #[cfg(test)]
 mod tests;
 
-pub use laws::{a_lost_copy_by_example, operations_may_cross_threads};
+pub use cs_states::{Delivery, Reply, Resend};
+pub use laws::{a_lost_copy_by_example, a_step_is_of_one_operation, operations_may_cross_threads};
 pub use operations::{OpsInFlight, SentOp};

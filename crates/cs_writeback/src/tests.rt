@@ -3,7 +3,6 @@ use super::*;
 use cs_ids::{Bytes, Ino, Obj, Tid};
 use cs_laws::ObjOp;
 use cs_snapctx::SnapContext;
-use cs_states::{Reply, Resend};
 use std::test::Fail;
 
 #[test]
