@@ -8,10 +8,7 @@ use Rattle.cs_snapctx.specs.Context.{Context}
 use Rattle.cs_states.specs.PageState.{is_in}
 use Rattle.cs_pages.specs.declared.page.Page.{Page}
 use Rattle.cs_pages.specs.Page.{after_ack, after_drop, bytes_after, cleaned, dirtied, overwritten, page_state, sent_as}
-use Rattle.cs_pages.specs.Life.{Step, filled, written, sent, acked, dropped, invalidated, after, IsLife, last_put}
-
-abbrev pub covers : ℕ → List ℕ → ℕ → Bool
-covers at bytes i = nat_le at i && nat_lt i (at + length bytes)
+use Rattle.cs_pages.specs.Life.{Step, filled, written, sent, acked, dropped, invalidated, after, IsLife, covers, last_put}
 
 -- One write
 

@@ -29,18 +29,23 @@ after (invalidated ∷ h) q = after_drop (after h q)
 abbrev pub IsLife : List Step → Type 0
 IsLife [] = Unit {0}
 IsLife (filled p bytes ∷ h) = (length bytes ≡ 4096) × IsLife h
-IsLife (written p at bytes ctx ∷ h) = (at + length bytes ≤ 4096) × (after h p ≡ None → length bytes ≡ 4096) × IsLife h
+IsLife (written p at bytes ctx ∷ h) =
+    (at + length bytes ≤ 4096) × (after h p ≡ None → length bytes ≡ 4096) × IsLife h
 IsLife (sent p tid ∷ h) = IsLife h
 IsLife (acked tid keep ∷ h) = IsLife h
 IsLife (dropped p ∷ h) = IsLife h
 IsLife (invalidated ∷ h) = IsLife h
+
+-- bytes from a place on cover place i
+abbrev pub covers : ℕ → List ℕ → ℕ → Bool
+covers at bytes i = nat_le at i && nat_lt i (at + length bytes)
 
 -- the byte that was put last at place i of page q
 abbrev pub last_put : List Step → ℕ → ℕ → ℕ
 last_put [] q i = 0
 last_put (filled p bytes ∷ h) q i = if q == p then slice_index bytes i else last_put h q i
 last_put (written p at bytes ctx ∷ h) q i =
-    if (q == p) && (nat_le at i && nat_lt i (at + length bytes)) then slice_index bytes (i - at) else last_put h q i
+    if (q == p) && covers at bytes i then slice_index bytes (i - at) else last_put h q i
 last_put (sent p tid ∷ h) q i = last_put h q i
 last_put (acked tid keep ∷ h) q i = last_put h q i
 last_put (dropped p ∷ h) q i = last_put h q i

@@ -49,7 +49,8 @@ bytes_after at bytes None = bytes
 bytes_after at bytes (Some x) = overwritten at bytes x.bytes
 
 abbrev pub dirtied : Context → ℕ → List ℕ → Option Page → Page
-dirtied ctx at bytes x = record { bytes = bytes_after at bytes x; owed = Some (record { context = ctx; tid = None }) }
+dirtied ctx at bytes x =
+    record { bytes = bytes_after at bytes x; owed = Some (record { context = ctx; tid = None }) }
 
 -- it is sent in an operation
 abbrev pub sent_as : ℕ → Page → Page
@@ -61,7 +62,8 @@ cleaned x = record x { owed = None }
 
 abbrev pub after_ack : Bool → ℕ → Option Page → Option Page
 after_ack keep tid None = None
-after_ack keep tid (Some x) = if is_in tid (page_state x) then (if keep then Some (cleaned x) else None) else Some x
+after_ack keep tid (Some x) =
+    if is_in tid (page_state x) then (if keep then Some (cleaned x) else None) else Some x
 
 -- it is dropped where it is clean
 abbrev pub after_drop : Option Page → Option Page

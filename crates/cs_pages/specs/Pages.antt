@@ -20,9 +20,17 @@ state_at es p = state_of (page_at es p)
 abbrev pub states : List (ℕ × Page) → List (ℕ × PageState)
 states es = map (λ e. (e.0, page_state e.1)) es
 
--- the page of number q, where page p is changed to x and no other is
+-- the page of number q, where page p is changed to x
 abbrev pub changed : List (ℕ × Page) → ℕ → Option Page → ℕ → Option Page
 changed es p x q = if q == p then x else page_at es q
+
+-- page p is changed to x, and no other is changed
+abbrev pub ChangesPage : List (ℕ × Page) → List (ℕ × Page) → ℕ → Option Page → Type 0
+ChangesPage old new p x = (q : ℕ) → page_at new q ≡ changed old p x q
+
+-- each page is changed by f
+abbrev pub ChangesEach : List (ℕ × Page) → List (ℕ × Page) → (Option Page → Option Page) → Type 0
+ChangesEach old new f = (q : ℕ) → page_at new q ≡ f (page_at old q)
 
 -- the first that is sent in an operation
 abbrev pub page_in : ℕ → List (ℕ × Page) → Option ℕ

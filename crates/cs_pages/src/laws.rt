@@ -18,26 +18,35 @@ ghost use Rattle.cs_pages.specs.Pages.{page_at, state_at, states};
 /// Over the life of a file's pages, a page that is cached has at each place the byte that was put there
 /// last, by a write or from the store.
 pub fn reads_give_the_last_bytes_put()
-    ensures { (h : List Step) (q i : ℕ) (x : Page) → IsLife h → after h q ≡ Some x → i < 4096 → slice_index x.bytes i ≡ last_put h q i }
+    ensures { (h : List Step) (q i : ℕ) (x : Page)
+        → IsLife h → after h q ≡ Some x → i < 4096 → slice_index x.bytes i ≡ last_put h q i }
 {}
 
 /// What a page is to the client changes as the steps of its states say.
 pub fn states_follow_the_steps()
     ensures filled { (bytes : List ℕ) → page.state_of (Some (page.filled bytes)) ≡ page_states.Clean }
-    ensures written { (ctx : Context) (at : ℕ) (bytes : List ℕ) (x : Option Page) → page.state_of (Some (page.dirtied ctx at bytes x)) ≡ page_states.Dirty ctx.seq }
-    ensures sent { (tid : ℕ) (x : Option Page) → page.state_of (option_map (page.sent_as tid) x) ≡ after_send tid (page.state_of x) }
-    ensures acked { (keep : Bool) (tid : ℕ) (x : Option Page) → page.state_of (page.after_ack keep tid x) ≡ after_ack keep tid (page.state_of x) }
+    ensures written { (ctx : Context) (at : ℕ) (bytes : List ℕ) (x : Option Page)
+        → page.state_of (Some (page.dirtied ctx at bytes x)) ≡ page_states.Dirty ctx.seq }
+    ensures sent { (tid : ℕ) (x : Option Page)
+        → page.state_of (option_map (page.sent_as tid) x) ≡ after_send tid (page.state_of x) }
+    ensures acked { (keep : Bool) (tid : ℕ) (x : Option Page)
+        → page.state_of (page.after_ack keep tid x) ≡ after_ack keep tid (page.state_of x) }
     ensures dropped { (x : Option Page) → page.state_of (page.after_drop x) ≡ after_drop (page.state_of x) }
 {}
 
 /// A page is owed under the context of its last write until its operation is acknowledged, and by the
 /// number of that context.
 pub fn contexts_are_of_the_last_write()
-    ensures number { (x : Option Page) → option_map (λ c. c.seq) (page.context_of x) ≡ owed_seq (page.state_of x) }
-    ensures written { (ctx : Context) (at : ℕ) (bytes : List ℕ) (x : Option Page) → page.context_of (Some (page.dirtied ctx at bytes x)) ≡ Some ctx }
-    ensures sent { (tid : ℕ) (x : Option Page) → page.context_of (option_map (page.sent_as tid) x) ≡ page.context_of x }
-    ensures acked { (keep : Bool) (tid : ℕ) (x : Option Page) → is_in tid (page.state_of x) ≡ true → page.context_of (page.after_ack keep tid x) ≡ None }
-    ensures other { (keep : Bool) (tid : ℕ) (x : Option Page) → is_in tid (page.state_of x) ≡ false → page.after_ack keep tid x ≡ x }
+    ensures number { (x : Option Page)
+        → option_map (λ c. c.seq) (page.context_of x) ≡ owed_seq (page.state_of x) }
+    ensures written { (ctx : Context) (at : ℕ) (bytes : List ℕ) (x : Option Page)
+        → page.context_of (Some (page.dirtied ctx at bytes x)) ≡ Some ctx }
+    ensures sent { (tid : ℕ) (x : Option Page)
+        → page.context_of (option_map (page.sent_as tid) x) ≡ page.context_of x }
+    ensures acked { (keep : Bool) (tid : ℕ) (x : Option Page)
+        → is_in tid (page.state_of x) ≡ true → page.context_of (page.after_ack keep tid x) ≡ None }
+    ensures other { (keep : Bool) (tid : ℕ) (x : Option Page)
+        → is_in tid (page.state_of x) ≡ false → page.after_ack keep tid x ≡ x }
     ensures dropped { (x : Option Page) → page.context_of (page.after_drop x) ≡ page.context_of x }
 {}
 

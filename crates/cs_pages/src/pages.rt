@@ -9,7 +9,7 @@ ghost use Rattle.cs_states.specs.PageLists.{clean_count, first_waiting, least, l
 ghost use Rattle.cs_states.specs.PageState.{is_in, write_answer};
 ghost use Rattle.cs_pages.specs.declared.page.Filled.TheVariants as fills;
 ghost use Rattle.cs_pages.specs.Page.{after_ack, after_drop, cleaned, context_of, dirtied, fill_answer, filled, sent_as};
-ghost use Rattle.cs_pages.specs.Pages.{changed, page_at, page_in, state_at, states};
+ghost use Rattle.cs_pages.specs.Pages.{ChangesEach, ChangesPage, page_at, page_in, state_at, states};
 
 use crate::block::PAGE_SIZE;
 use crate::{Block, Filled, Owed, Page};
@@ -97,7 +97,7 @@ impl Pages {
         requires absent { state_at self.old page ≡ page_states.Absent }
         requires number { page < 256 }
         ensures answer { IfOk result (λ a. a ≡ fill_answer free) }
-        ensures filled { result ≡ Ok fills.Filled → (q : ℕ) → page_at self.new q ≡ changed self.old page (Some (filled bytes.now)) q }
+        ensures filled { result ≡ Ok fills.Filled → ChangesPage self.old self.new page (Some (filled bytes.now)) }
         ensures refused { result ≡ Ok fills.Room → self.new ≡ self.old }
         ensures err { OnErr result (self.new ≡ self.old) }
     {
@@ -156,8 +156,10 @@ impl Pages {
         requires some { 0 < length bytes.now }
         requires within { at + length bytes.now ≤ 4096 }
         requires number { page < 256 }
-        ensures answer { IfOk result (λ a. a ≡ write_answer ctx.now.seq (length bytes.now == 4096) free (state_at self.old page)) }
-        ensures written { result ≡ Ok writes.Written → (q : ℕ) → page_at self.new q ≡ changed self.old page (Some (dirtied ctx.now at bytes.now (page_at self.old page))) q }
+        ensures answer { let whole = length bytes.now == 4096 in
+            IfOk result (λ a. a ≡ write_answer ctx.now.seq whole free (state_at self.old page)) }
+        ensures written { let page_after = dirtied ctx.now at bytes.now (page_at self.old page) in
+            result ≡ Ok writes.Written → ChangesPage self.old self.new page (Some page_after) }
         ensures refused { IfOk result (λ a. a ≢ writes.Written → self.new ≡ self.old) }
         ensures err { OnErr result (self.new ≡ self.old) }
     {
@@ -176,7 +178,8 @@ impl Pages {
         requires number { page < 256 }
         requires whole { IsNone (page_at self.old page) → length bytes.now ≡ 4096 }
         requires unsent { owed.tid ≡ None }
-        ensures ok { OnOk result ((q : ℕ) → page_at self.new q ≡ changed self.old page (Some (dirtied owed.context at bytes.now (page_at self.old page))) q) }
+        ensures ok { let page_after = dirtied owed.context at bytes.now (page_at self.old page) in
+            OnOk result (ChangesPage self.old self.new page (Some page_after)) }
         ensures err { OnErr result (self.new ≡ self.old) }
     {
         if let Some(held) = self.pages.get_mut(&page) {
@@ -264,7 +267,7 @@ impl Pages {
     pub fn mark_sent(&mut self, page: u32, tid: Tid)
         requires picked { pick (states self.old) ≡ picks.Page page }
         requires new { (p : ℕ) → is_in tid (state_at self.old p) ≡ false }
-        ensures { (q : ℕ) → page_at self.new q ≡ changed self.old page (option_map (sent_as tid) (page_at self.old page)) q }
+        ensures { ChangesPage self.old self.new page (option_map (sent_as tid) (page_at self.old page)) }
     {
         if let Some(held) = self.pages.get_mut(&page) {
             if let Some(owed) = &mut held.owed {
@@ -278,7 +281,7 @@ impl Pages {
     /// `pick`, it looks at the cached pages in turn.
     pub fn mark_done(&mut self, tid: Tid, keep: bool) -> bool
         ensures found { IsTrue result ↔ (p : ℕ) × (is_in tid (state_at self.old p) ≡ true) }
-        ensures pages { (q : ℕ) → page_at self.new q ≡ after_ack keep tid (page_at self.old q) }
+        ensures pages { ChangesEach self.old self.new (after_ack keep tid) }
         ensures none { result ≡ false → self.new ≡ self.old }
     {
         let Some(page) = self.page_in(tid) else {
@@ -309,7 +312,7 @@ impl Pages {
 
     // Nothing of the page is owed from then on.
     fn clean(&mut self, page: u32)
-        ensures { (q : ℕ) → page_at self.new q ≡ changed self.old page (option_map cleaned (page_at self.old page)) q }
+        ensures { ChangesPage self.old self.new page (option_map cleaned (page_at self.old page)) }
     {
         if let Some(held) = self.pages.get_mut(&page) {
             held.owed = None;
@@ -318,14 +321,14 @@ impl Pages {
 
     // The page isn't cached from then on.
     fn remove(&mut self, page: u32)
-        ensures { (q : ℕ) → page_at self.new q ≡ changed self.old page None q }
+        ensures { ChangesPage self.old self.new page None }
     {
         let _ = self.pages.remove(&page);
     }
 
     /// Drops the page where it is clean.
     pub fn drop_clean(&mut self, page: u32)
-        ensures { (q : ℕ) → page_at self.new q ≡ changed self.old page (after_drop (page_at self.old page)) q }
+        ensures { ChangesPage self.old self.new page (after_drop (page_at self.old page)) }
     {
         if let Some(held) = self.pages.get(&page) {
             if held.owed.is_none() {
@@ -338,7 +341,7 @@ impl Pages {
     pub fn invalidate(&mut self) -> u32
         ensures count { result ≡ clean_count (states self.old) }
         ensures fewer { result + length self.new ≡ length self.old }
-        ensures pages { (q : ℕ) → page_at self.new q ≡ after_drop (page_at self.old q) }
+        ensures pages { ChangesEach self.old self.new after_drop }
     {
         let before = self.cached();
         self.pages.retain(|_, page| page.owed.is_some());

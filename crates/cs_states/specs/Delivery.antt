@@ -25,7 +25,8 @@ after_arrival x = if x.copies == 0 then x else record x { copies = x.copies - 1;
 -- a reply comes to the client
 abbrev pub reply_to : Option Delivery → Reply
 reply_to None = replies.Unknown
-reply_to (Some x) = if x.replies == 0 then replies.Unknown else if x.acked then replies.Late else replies.First
+reply_to (Some x) =
+    if x.replies == 0 then replies.Unknown else if x.acked then replies.Late else replies.First
 
 abbrev pub after_reply : Delivery → Delivery
 after_reply x = if x.replies == 0 then x else record x { replies = x.replies - 1; acked = true }
@@ -35,12 +36,14 @@ abbrev pub on_the_way : Bool → Option Delivery → ℕ
 on_the_way reply d = if reply then replies_of d else copies_of d
 
 abbrev pub after_loss : Bool → Delivery → Delivery
-after_loss reply x = if reply then record x { replies = x.replies - 1 } else record x { copies = x.copies - 1 }
+after_loss reply x =
+    if reply then record x { replies = x.replies - 1 } else record x { copies = x.copies - 1 }
 
 -- it is sent again
 abbrev pub resend_answer : Option Delivery → Resend
 resend_answer None = resends.Unknown
-resend_answer (Some x) = if x.acked then resends.Late else if nat_le 8 x.copies then resends.Copies else resends.Sent
+resend_answer (Some x) =
+    if x.acked then resends.Late else if nat_le 8 x.copies then resends.Copies else resends.Sent
 
 abbrev pub after_resend : Delivery → Delivery
 after_resend x = if x.acked then x else if nat_le 8 x.copies then x else record x { copies = x.copies + 1 }

@@ -43,7 +43,8 @@ is_clean (states.Sent r t) = false
 -- what becomes of a write under the context of number q, of the whole page or of a part, where so many
 -- pages are free
 abbrev pub write_answer : ℕ → Bool → ℕ → PageState → PageWrite
-write_answer q whole free states.Absent = if free == 0 then writes.Room else if whole then writes.Written else writes.NeedFill
+write_answer q whole free states.Absent =
+    if free == 0 then writes.Room else if whole then writes.Written else writes.NeedFill
 write_answer q whole free states.Clean = writes.Written
 write_answer q whole free (states.Dirty r) = if nat_lt r q then writes.Older r else writes.Written
 write_answer q whole free (states.Sent r t) = if nat_lt r q then writes.Older r else writes.InFlight t

@@ -14,7 +14,8 @@ ghost use Rattle.cs_states.specs.PageState.{after_ack, is_in, owed_seq, write_an
 /// under the oldest context. It names none yet exactly where all of these are sent, one or more, and
 /// none exactly where no page is owed.
 pub fn pick_names_the_lowest_page_of_the_oldest_context()
-    ensures page { (low high p : ℕ) (es : Pages) → Ascend low high es → pick es ≡ picks.Page p → IsLowestOfOldest p es }
+    ensures page { (low high p : ℕ) (es : Pages)
+        → Ascend low high es → pick es ≡ picks.Page p → IsLowestOfOldest p es }
     ensures waiting { (n : ℕ) (es : Pages) → pick es ≡ picks.Waiting n → OldestIsSent n es }
     ensures clean { (es : Pages) → (pick es ≡ picks.Clean) ↔ AllByRecursion (λ e. owed_seq e.1 ≡ None) es }
 {}
@@ -27,28 +28,32 @@ pub fn the_oldest_context_is_the_least()
     ensures none { (es : Pages) → (oldest es ≡ None) ↔ AllByRecursion (λ e. owed_seq e.1 ≡ None) es }
 {}
 
-/// A list of pages whose numbers ascend is that of the states of the numbers.
+/// The list of cached pages is fixed by the states of their numbers, and these ascend in it.
 pub fn listed_pages_are_those_of_their_numbers()
-    ensures same { (n p : ℕ) (f g : ℕ → PageState) → ((q : ℕ) → p ≤ q → f q ≡ g q) → listed n p f ≡ listed n p g }
+    ensures same { (n p : ℕ) (f g : ℕ → PageState)
+        → ((q : ℕ) → p ≤ q → f q ≡ g q) → listed n p f ≡ listed n p g }
     ensures order { (n p : ℕ) (f : ℕ → PageState) → Ascend p (p + n) (listed n p f) }
 {}
 
-/// When a buffered write into a page waits: exactly where the page is owed under an older context;
-/// else, where it is in flight.
+/// What a buffered write into a page waits for, in the order of the causes. With none it is done.
 pub fn writes_wait_for_their_causes()
-    ensures older { (q r free : ℕ) (whole : Bool) (s : PageState) → owed_seq s ≡ Some r → r < q → write_answer q whole free s ≡ writes.Older r }
-    ensures flight { (q r t free : ℕ) (whole : Bool) → q ≤ r → write_answer q whole free (states.Sent r t) ≡ writes.InFlight t }
+    ensures older { (q r free : ℕ) (whole : Bool) (s : PageState)
+        → owed_seq s ≡ Some r → r < q → write_answer q whole free s ≡ writes.Older r }
+    ensures flight { (q r t free : ℕ) (whole : Bool)
+        → q ≤ r → write_answer q whole free (states.Sent r t) ≡ writes.InFlight t }
     ensures room { (q : ℕ) (whole : Bool) → write_answer q whole 0 states.Absent ≡ writes.Room }
     ensures fill { (q free : ℕ) → 0 < free → write_answer q false free states.Absent ≡ writes.NeedFill }
     ensures whole { (q free : ℕ) → 0 < free → write_answer q true free states.Absent ≡ writes.Written }
     ensures clean { (q free : ℕ) (whole : Bool) → write_answer q whole free states.Clean ≡ writes.Written }
-    ensures dirty { (q r free : ℕ) (whole : Bool) → q ≤ r → write_answer q whole free (states.Dirty r) ≡ writes.Written }
+    ensures dirty { (q r free : ℕ) (whole : Bool)
+        → q ≤ r → write_answer q whole free (states.Dirty r) ≡ writes.Written }
 {}
 
 /// An acknowledgement changes the page that its operation carries, and no other.
 pub fn an_acknowledgement_leaves_other_operations()
     ensures same { (keep : Bool) (t : ℕ) (s : PageState) → is_in t s ≡ false → after_ack keep t s ≡ s }
-    ensures owed { (keep : Bool) (t : ℕ) (s : PageState) → is_in t s ≡ true → owed_seq (after_ack keep t s) ≡ None }
+    ensures owed { (keep : Bool) (t : ℕ) (s : PageState)
+        → is_in t s ≡ true → owed_seq (after_ack keep t s) ≡ None }
 {}
 
 /// Over the life of an operation: it was sent as often as copies came to the store, were lost or are
@@ -56,7 +61,8 @@ pub fn an_acknowledgement_leaves_other_operations()
 /// is acknowledged exactly where a reply came.
 pub fn copies_and_replies_are_counted()
     ensures copies { (h : List Step) → IsLife h → (after h).copies + arrivals h + lost_copies h ≡ sends h }
-    ensures replies { (h : List Step) → IsLife h → (after h).replies + replies h + lost_replies h ≡ arrivals h }
+    ensures replies { (h : List Step)
+        → IsLife h → (after h).replies + replies h + lost_replies h ≡ arrivals h }
     ensures acked { (h : List Step) → IsLife h → (after h).acked ≡ nat_lt 0 (replies h) }
 {}
 

@@ -1,5 +1,5 @@
 -- The operations that write-back has sent, in the order of their numbers.
-use Rattle.std.specs.Prelude.{ℕ, ◌==◌, List, Option, Some, if◌then◌else◌}
+use Rattle.std.specs.Prelude.{◌≡◌, ℕ, ◌==◌, List, Option, Some, if◌then◌else◌}
 use Rattle.std.specs.Option.{option_map}
 use Rattle.std.specs.Ordering.{nat_cmp}
 use Rattle.std.specs.Map.{lookup}
@@ -20,13 +20,14 @@ delivery_at os t = option_map (λ x. x.delivery) (operation_at os t)
 abbrev pub first_sent : ObjOp → SentOp
 first_sent op = record { op = op; delivery = sent_once }
 
--- the operation of number u, where one more stands under its own number
-abbrev pub with_operation : List (ℕ × SentOp) → SentOp → ℕ → Option SentOp
-with_operation os x u = if u == x.op.tid then Some x else operation_at os u
+-- one more stands under its number
+abbrev pub AddsOperation : List (ℕ × SentOp) → List (ℕ × SentOp) → SentOp → Type 0
+AddsOperation old new x = (u : ℕ) → operation_at new u ≡ (if u == x.op.tid then Some x else operation_at old u)
 
--- the operation of number u, where that of number t goes a step
+-- the operation of a number, where there is one, goes a step, and no other does
 abbrev pub stepped : (Delivery → Delivery) → SentOp → SentOp
 stepped step x = record x { delivery = step x.delivery }
 
-abbrev pub changed : List (ℕ × SentOp) → ℕ → (Delivery → Delivery) → ℕ → Option SentOp
-changed os t step u = if u == t then option_map (stepped step) (operation_at os t) else operation_at os u
+abbrev pub TakesStep : List (ℕ × SentOp) → List (ℕ × SentOp) → ℕ → (Delivery → Delivery) → Type 0
+TakesStep old new t step =
+    (u : ℕ) → operation_at new u ≡ (if u == t then option_map (stepped step) (operation_at old t) else operation_at old u)

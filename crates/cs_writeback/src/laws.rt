@@ -8,11 +8,11 @@ ghost use Rattle.cs_states.specs.declared.delivery.Resend.TheVariants as resends
 ghost use Rattle.cs_states.specs.Delivery.{after_arrival, after_loss, after_reply, after_resend, reply_to, resend_answer, sent_once};
 ghost use Rattle.cs_writeback.specs.contracts.operations.OpsInFlight as operations_row;
 ghost use Rattle.cs_writeback.specs.declared.operations.SentOp.{SentOp};
-ghost use Rattle.cs_writeback.specs.Operations.{changed, delivery_at, operation_at};
+ghost use Rattle.cs_writeback.specs.Operations.{TakesStep, delivery_at};
 
 /// Where an operation goes a step, its delivery does, and no other.
 pub fn a_step_is_of_one_operation()
-    ensures { (old new : List (ℕ × SentOp)) (t : ℕ) (step : Delivery → Delivery) → ((u : ℕ) → operation_at new u ≡ changed old t step u)
+    ensures { (old new : List (ℕ × SentOp)) (t : ℕ) (step : Delivery → Delivery) → TakesStep old new t step
         → (u : ℕ) → delivery_at new u ≡ (if u == t then option_map step (delivery_at old t) else delivery_at old u) }
 {}
 

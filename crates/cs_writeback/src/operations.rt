@@ -3,7 +3,7 @@ ghost use Rattle.std.specs.Prelude.{◌≡◌, ℕ, ◌==◌, ◌<◌, ◌↔◌
 ghost use Rattle.std.specs.Option.{option_map, option_copied};
 ghost use Rattle.cs_states.specs.declared.delivery.Resend.TheVariants as resends;
 ghost use Rattle.cs_states.specs.Delivery.{after_arrival, after_loss, after_reply, after_resend, copies_of, on_the_way, replies_of, reply_to, resend_answer};
-ghost use Rattle.cs_writeback.specs.Operations.{changed, delivery_at, first_sent, operation_at, with_operation};
+ghost use Rattle.cs_writeback.specs.Operations.{AddsOperation, TakesStep, delivery_at, first_sent, operation_at};
 
 use cs_ids::{Memory, Tid};
 use cs_laws::ObjOp;
@@ -53,7 +53,7 @@ impl OpsInFlight {
     /// `Memory` the operations are as before.
     pub fn send(&mut self, op: ObjOp) -> Result<(), Memory>
         requires { operation_at self.old op.tid ≡ None }
-        ensures ok { OnOk result ((u : ℕ) → operation_at self.new u ≡ with_operation self.old (first_sent op) u) }
+        ensures ok { OnOk result (AddsOperation self.old self.new (first_sent op)) }
         ensures err { OnErr result (self.new ≡ self.old) }
     {
         let tid = op.tid.get();
@@ -79,7 +79,7 @@ impl OpsInFlight {
     pub fn deliver(&mut self, t: Tid) -> bool
         requires { replies_of (delivery_at self.old t) < 4294967295 }
         ensures found { result ≡ not (copies_of (delivery_at self.old t) == 0) }
-        ensures operations { (u : ℕ) → operation_at self.new u ≡ changed self.old t after_arrival u }
+        ensures operations { TakesStep self.old self.new t after_arrival }
     {
         let Some(sent) = self.operations.get_mut(&t.get()) else {
             return false;
@@ -96,7 +96,7 @@ impl OpsInFlight {
     /// then nothing changes; else `Late` exactly where one came before.
     pub fn reply(&mut self, t: Tid) -> Reply
         ensures answer { result ≡ reply_to (delivery_at self.old t) }
-        ensures operations { (u : ℕ) → operation_at self.new u ≡ changed self.old t after_reply u }
+        ensures operations { TakesStep self.old self.new t after_reply }
     {
         let Some(sent) = self.operations.get_mut(&t.get()) else {
             return Reply::Unknown;
@@ -114,7 +114,7 @@ impl OpsInFlight {
     /// nothing changes.
     pub fn lose(&mut self, t: Tid, reply: bool) -> bool
         ensures found { result ≡ not (on_the_way reply (delivery_at self.old t) == 0) }
-        ensures operations { (u : ℕ) → operation_at self.new u ≡ changed self.old t (after_loss reply) u }
+        ensures operations { TakesStep self.old self.new t (after_loss reply) }
     {
         let Some(sent) = self.operations.get_mut(&t.get()) else {
             return false;
@@ -138,7 +138,7 @@ impl OpsInFlight {
     /// nothing.
     pub fn resend(&mut self, t: Tid) -> Resend
         ensures answer { result ≡ resend_answer (delivery_at self.old t) }
-        ensures operations { (u : ℕ) → operation_at self.new u ≡ changed self.old t after_resend u }
+        ensures operations { TakesStep self.old self.new t after_resend }
     {
         let Some(sent) = self.operations.get_mut(&t.get()) else {
             return Resend::Unknown;
