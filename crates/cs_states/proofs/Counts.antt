@@ -1,5 +1,5 @@
 -- Copies, replies and their steps are counted.
-use Rattle.std.proofs.Common.{◌≡◌, refl, ℕ, ◌+◌, ◌-◌, ◌<◌, nat_lt, Bool, true, false, [], ◌∷◌, List, arith}
+use Rattle.std.proofs.Common.{◌≡◌, refl, ℕ, ◌+◌, ◌<◌, nat_lt, true, false, [], ◌∷◌, List, arith}
 use Rattle.std.proofs.lemmas.Bool.Decides.{nat_tests}
 use Rattle.cs_states.specs.declared.delivery.Delivery.{Delivery}
 use Rattle.cs_states.specs.Delivery.{after_arrival, after_reply}

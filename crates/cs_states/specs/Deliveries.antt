@@ -1,5 +1,5 @@
 -- The life of an operation that was sent: the steps that it took, the newest first.
-use Rattle.std.specs.Prelude.{◌≡◌, ℕ, ◌+◌, ◌<◌, Bool, true, false, List, [], ◌∷◌, if◌then◌else◌}
+use Rattle.std.specs.Prelude.{ℕ, ◌+◌, ◌<◌, Bool, List, [], ◌∷◌, if◌then◌else◌}
 use Rattle.cs_states.specs.declared.delivery.Delivery.{Delivery}
 use Rattle.cs_states.specs.Delivery.{sent_once, after_arrival, after_reply, after_loss}
 

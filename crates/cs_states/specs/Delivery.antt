@@ -1,6 +1,6 @@
 -- How far an operation of write-back has come, and the steps that change it. One that was never sent
 -- has no delivery.
-use Rattle.std.specs.Prelude.{ℕ, ◌+◌, ◌-◌, ◌==◌, Bool, true, false, not, nat_le, Option, Some, None, if◌then◌else◌}
+use Rattle.std.specs.Prelude.{ℕ, ◌+◌, ◌-◌, ◌==◌, Bool, true, false, nat_le, Option, Some, None, if◌then◌else◌}
 use Rattle.std.specs.Option.{option_map_or}
 use Rattle.cs_states.specs.declared.delivery.Delivery.{Delivery}
 use Rattle.cs_states.specs.declared.delivery.Reply.{Reply}

@@ -1,5 +1,5 @@
 -- Three cached pages: page 0 is owed under context 5, page 2 is clean, page 7 is owed under context 4.
-use Rattle.std.specs.Prelude.{ℕ, [], ◌∷◌}
+use Rattle.std.specs.Prelude.{[], ◌∷◌}
 use Rattle.cs_states.specs.declared.page.PageState.TheVariants as states
 use Rattle.cs_states.specs.PageLists.{Pages}
 
