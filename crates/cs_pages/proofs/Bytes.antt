@@ -1,13 +1,13 @@
 -- The bytes of a page are those put last.
-use Rattle.std.proofs.Common.{◌≡◌, refl, sym, ap, ◌∙◌, ℕ, ◌+◌, ◌-◌, ◌<◌, ◌≤◌, ◌==◌, ◌&&◌, nat_lt, nat_le, Bool, true, false, cond, List, [], ◌∷◌, ◌++◌, Option, Some, None, IfSome, arith, subst, ⊎_elim, take, drop, length, min, slice_index, length-append, length-drop, is_some}
+use Rattle.std.proofs.Common.{◌≡◌, refl, sym, ap, ◌∙◌, ℕ, ◌+◌, ◌-◌, ◌<◌, ◌≤◌, ◌==◌, ◌&&◌, Bool, true, false, cond, List, [], ◌∷◌, ◌++◌, Option, Some, None, IfSome, arith, subst, ⊎_elim, take, drop, length, slice_index, length-append, length-drop, is_some}
 use Rattle.std.specs.Option.{option_map}
 use Rattle.std.proofs.lemmas.List.{get_or_append_left, get_or-append_right, get_or-drop, get_or-take, length-take-le}
-use Rattle.std.proofs.lemmas.Bool.{cases_eq, cases_lt, cond-true, cond-false}
+use Rattle.std.proofs.lemmas.Bool.{cases_lt, cond-true, cond-false}
 use Rattle.std.proofs.lemmas.Bool.Decides.{nat_tests}
 use Rattle.cs_snapctx.specs.Context.{Context}
 use Rattle.cs_states.specs.PageState.{is_in}
 use Rattle.cs_pages.specs.declared.page.Page.{Page}
-use Rattle.cs_pages.specs.Page.{after_ack, after_drop, bytes_after, cleaned, dirtied, overwritten, page_state, sent_as}
+use Rattle.cs_pages.specs.Page.{after_ack, after_drop, cleaned, dirtied, overwritten, page_state, sent_as}
 use Rattle.cs_pages.specs.Life.{Step, filled, written, sent, acked, dropped, invalidated, after, IsLife, covers, last_put}
 
 -- One write

@@ -12,7 +12,6 @@ use Rattle.std.proofs.lemmas.List.Elements.{recursion_from_All}
 use Rattle.std.proofs.lemmas.Cmp.{nat_cmp_total}
 use Rattle.std.proofs.lemmas.Bool.{cases_eq, cases_lt, cond-true, cond-false}
 use Rattle.std.proofs.lemmas.Bool.Decides.{nat_tests}
-use Rattle.cs_states.specs.declared.page.PageState.{PageState}
 use Rattle.cs_states.specs.PageLists.{Pages, Ascend, listed, with_cached}
 use Rattle.cs_states.proofs.Listed.{listed_same}
 use Rattle.cs_pages.specs.declared.page.Owed.{Owed}

@@ -1,13 +1,13 @@
 -- The page that is sent in an operation.
-use Rattle.std.proofs.Common.{◌≡◌, ◌≢◌, refl, sym, ap, ◌∙◌, ℕ, ◌+◌, ◌<◌, ◌==◌, Bool, true, false, cond, List, [], ◌∷◌, Option, Some, None, arith, ◌⊎◌, ⊎_elim, inl, inr, find, nat_cmp}
+use Rattle.std.proofs.Common.{◌≡◌, ◌≢◌, refl, sym, ap, ◌∙◌, ℕ, ◌+◌, Bool, true, false, cond, List, [], ◌∷◌, Option, Some, None, arith, ◌⊎◌, ⊎_elim, inl, inr, find, nat_cmp}
 use Rattle.std.specs.Option.{option_map}
 use Rattle.std.specs.BTreeMap.{BTreeMap, IsOrdered}
-use Rattle.std.proofs.lemmas.Bool.{cases_eq, cond-true, cond-false, eq-eqb, ne_eqb}
+use Rattle.std.proofs.lemmas.Bool.{cases_eq}
 use Rattle.cs_states.specs.PageState.{is_in}
 use Rattle.cs_states.specs.PageLists.{Ascend}
 use Rattle.cs_pages.specs.declared.page.Page.{Page}
-use Rattle.cs_pages.specs.Page.{page_state, state_of, cleaned, after_ack}
-use Rattle.cs_pages.specs.Pages.{page_at, state_at, states, changed, page_in, IsKept}
+use Rattle.cs_pages.specs.Page.{page_state, state_of}
+use Rattle.cs_pages.specs.Pages.{state_at, states, page_in, IsKept}
 use Rattle.cs_pages.proofs.Ordered.{at_head, at_tail, none_below, ascending}
 
 found_cons : (b : Bool) (e : ℕ × Page) (o : Option (ℕ × Page)) (p : ℕ) → option_map (λ x. x.0) (cond b (Some e) o) ≡ Some p → ((b ≡ true) × (e.0 ≡ p)) ⊎ ((b ≡ false) × (option_map (λ x. x.0) o ≡ Some p))

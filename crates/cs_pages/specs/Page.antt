@@ -1,6 +1,6 @@
 -- One page: its bytes, what is owed of it, and the steps that change it. None is a page that isn't
 -- cached.
-use Rattle.std.specs.Prelude.{ℕ, ◌+◌, ◌==◌, Bool, true, false, List, ◌++◌, Option, Some, None, is_some, take, drop, length, if◌then◌else◌}
+use Rattle.std.specs.Prelude.{ℕ, ◌+◌, ◌==◌, Bool, List, ◌++◌, Option, Some, None, is_some, take, drop, length, if◌then◌else◌}
 use Rattle.std.specs.Option.{option_map}
 use Rattle.cs_snapctx.specs.Context.{Context}
 use Rattle.cs_states.specs.declared.page.PageState.{PageState}

@@ -1,9 +1,8 @@
 use Rattle.std.proofs.Common.{◌≡◌, ◌∙◌, ap, arith, length, rules, subst, sym}
 use Rattle.std.specs.Prelude.{is_some}
 use Rattle.std.proofs.lemmas.Map.Made.{filter_same_pairs}
-use Rattle.cs_states.specs.PageLists.{clean_count}
 use Rattle.cs_pages.specs.Page.{after_drop}
-use Rattle.cs_pages.specs.Pages.{IsKept, page_at, states}
+use Rattle.cs_pages.specs.Pages.{IsKept, page_at}
 use Rattle.cs_pages.proofs.Kept.{kept_owed, owed_at, owed_or_clean, owed_pages}
 use Rattle.cs_pages.proofs.Ordered.{ascending}
 use Rattle.cs_pages.proofs.pages.Pages.invalidate.Goals as goal
