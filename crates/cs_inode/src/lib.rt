@@ -9,9 +9,7 @@ mod inode;
 mod laws;
 mod operations;
 mod reports;
-#[cfg(test)]
-mod tests;
 
 pub use answers::{Allow, ChmodStep, FlushStep, SnapStep, WriteStep};
 pub use inode::{FIRST_MODE, Inode};
-pub use laws::operations_fit_their_objects;
+pub use laws::{operations_fit_their_objects, values_may_cross_threads};

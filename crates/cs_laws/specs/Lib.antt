@@ -1,8 +1,10 @@
 pub mod Agreement
 pub mod Answers
 pub mod CapSnaps
+pub mod Carried
 pub mod Capabilities
 pub mod Context
+pub mod Devices
 pub mod Events
 pub mod Fits
 pub mod Flight
@@ -12,6 +14,7 @@ pub mod History
 pub mod Image
 pub mod Journal
 pub mod Laws
+pub mod Lists
 pub mod Metadata
 pub mod Objects
 pub mod Operations
@@ -19,6 +22,8 @@ pub mod Owed
 pub mod Realms
 pub mod References
 pub mod Refusals
+pub mod Runs
+pub mod Sessions
 pub mod Shown
 pub mod Standing
 pub mod Texts

@@ -7,16 +7,16 @@
 mod answers;
 mod events;
 mod faults;
+mod laws;
 mod messages;
 mod objects;
 mod printing;
 mod records;
-#[cfg(test)]
-mod tests;
 
 pub use answers::{Answer, Entry, Why, not_yet};
 pub use events::{Event, RefName, is_built};
 pub use faults::{Kind, ScriptFault, StepFault};
+pub use laws::values_may_cross_threads;
 pub use messages::Message;
 pub use objects::{At, ObjOp, ObjOps};
 pub use records::{RealmRecordList, Record, RecordBody};

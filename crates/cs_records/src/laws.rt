@@ -3,11 +3,14 @@ ghost use Rattle.std.specs.Prelude.{◌≡◌, ◌<◌, ℕ, List, [], ◌∷◌
 ghost use Rattle.std.specs.List.{filter_map};
 ghost use Rattle.cs_laws.specs.declared.records.Record.{Record};
 ghost use Rattle.cs_laws.specs.declared.records.RecordBody.TheVariants as bodies;
-ghost use Rattle.cs_laws.specs.Realms.{changed_records, is_realm};
-ghost use Rattle.cs_laws.specs.Standing.{dir_of, greatest_number, has_snap_named, told};
+ghost use Rattle.cs_laws.specs.Realms.{is_realm};
+ghost use Rattle.cs_laws.specs.Standing.{dir_of, greatest_number, has_snap_named};
+ghost use Rattle.cs_records.specs.Commits.{changed_records, told};
 ghost use Rattle.cs_records.specs.Example.{directories, first, names_after_removal, path, removal, root, second, told_first, told_removal, told_root, told_second};
 ghost use Rattle.cs_records.specs.Log.{IsLog, IsNextRemoval};
 ghost use Rattle.cs_records.specs.Below.{snapped_record, removed_record};
+ghost use denote.Param.Send.{IsSend};
+ghost use Rattle.cs_records.specs.contracts.records.Records as records_row;
 
 /// After a snapshot the client is told of the realm of its directory and, where that is a realm only
 /// from this snapshot on, of each realm that has it now as the nearest realm above, and of no other;
@@ -30,4 +33,9 @@ pub fn told_by_example()
     ensures root { told path directories (first ∷ second ∷ []) (root ∷ []) ≡ told_root }
     ensures removal { told path directories (first ∷ second ∷ root ∷ []) (removal ∷ []) ≡ told_removal }
     ensures name { names_after_removal ≡ true ∷ false ∷ [] }
+{}
+
+/// Values of this crate's types may go to other threads.
+pub fn values_may_cross_threads()
+    ensures { IsSend records_row.the_row }
 {}

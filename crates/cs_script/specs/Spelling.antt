@@ -1,5 +1,5 @@
 -- Which events there are, and the scripts that are written of them.
-use Rattle.std.specs.Prelude.{◌≡◌, ℕ, ◌<◌, ◌&&◌, Bool, true, All, List, [], ◌∷◌, ◌++◌, Ok}
+use Rattle.std.specs.Prelude.{◌≡◌, ℕ, ◌<◌, true, All, List, [], ◌∷◌, ◌++◌}
 use Rattle.cs_ids.specs.Names.{is_name}
 use Rattle.cs_ids.specs.Ranges.{IsIn}
 use Rattle.cs_laws.specs.declared.events.Event.{Event}
@@ -8,7 +8,7 @@ use Rattle.cs_laws.specs.declared.events.RefName.{RefName}
 use Rattle.cs_laws.specs.declared.events.RefName.TheVariants as names
 use Rattle.cs_laws.specs.declared.objects.At.{At}
 use Rattle.cs_laws.specs.declared.objects.At.TheVariants as at
-use Rattle.cs_laws.specs.Grammar.{in_time, is_setup, script_header}
+use Rattle.cs_laws.specs.Grammar.{script_header}
 use Rattle.cs_laws.specs.Texts.{event_text}
 
 abbrev pub IsIno : ℕ → Type 0
@@ -49,7 +49,7 @@ IsEvent events.ToMds = Unit {0}
 IsEvent (events.Grant f bits max) = IsIno f
 IsEvent (events.Revoke f bits) = IsIno f
 IsEvent (events.Snap d name) = IsIno d × (is_name name ≡ true)
-IsEvent (events.RemoveSnap s) = IsSnap s
+IsEvent (events.RmSnap s) = IsSnap s
 IsEvent events.Commit = Unit {0}
 IsEvent (events.Show f a off len) = IsIno f × IsAt a
 
@@ -60,8 +60,3 @@ lines_of (e ∷ es) = event_text e ++ 10 ∷ lines_of es
 
 abbrev pub script_text : List Event → List ℕ
 script_text es = script_header ++ 10 ∷ lines_of es
-
--- no event stands too late, where setup says whether events that begin a script may still come
-abbrev pub InTime : Bool → List Event → Type 0
-InTime setup [] = Unit {0}
-InTime setup (e ∷ es) = (in_time setup e ≡ Ok e) × InTime (setup && is_setup e) es

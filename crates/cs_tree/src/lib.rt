@@ -3,9 +3,9 @@
 #![tactic(auto)]
 
 mod directories;
+mod laws;
 mod path;
-#[cfg(test)]
-mod tests;
 
 pub use directories::{Directories, Directory};
+pub use laws::values_may_cross_threads;
 pub use path::DirPath;

@@ -5,6 +5,7 @@
 mod client;
 mod contexts;
 mod objects;
+mod recorded;
 mod references;
 mod server;
 mod setup;
@@ -12,9 +13,6 @@ mod shows;
 mod snaps;
 mod state;
 mod step;
-#[cfg(test)]
-mod tests;
-mod told;
 mod world;
 mod writes;
 

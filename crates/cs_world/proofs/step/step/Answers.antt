@@ -1,9 +1,9 @@
 use Rattle.std.proofs.Common.{◌≡◌, ap, reverse}
-use Rattle.cs_theorems.specs.Runs.{IsRun}
 use Rattle.cs_world.proofs.Kept.{after_entry, after_run}
 use Rattle.cs_world.proofs.Fronts.{front_listed}
 use Rattle.cs_world.proofs.Fronts.{any_err}
 use Rattle.cs_world.specs.Tables.{past}
+use Rattle.cs_laws.specs.Runs.{IsRun}
 use Rattle.cs_world.proofs.step.step.Goals as goal
 
 pub returns-clause-kept : goal.returns-clause-kept
@@ -19,7 +19,7 @@ returns-clause-kept g c =
           rw step.pages
           (after_run c.args.state.now.pages c.enter.new.entries.items c.reserve.new.entries.items c.args.event.now c.in_ok-entered.entered
           c.in_ok-answer.answer c.in_ok-told.told (rw entries at c.enter.ensures) c.in_ok-entered.ensures c.in_ok-told.ensures
-          c.requires.fits step.answer before);
+          (rw c.reserve.ensures.entries c.requires.allowed) step.answer before);
     }
 
 pub returns-in_err-told-clause-front : goal.returns-in_err-told-clause-front
