@@ -1,5 +1,6 @@
 -- When the object store and the server's records hold what a history says.
 use Rattle.std.specs.Prelude.{◌≡◌, ℕ, ◌<◌, ◌/◌, ◌%◌, List, true, false}
+use Rattle.cs_geom.specs.declared.places.TheConstants.{OBJECT_SIZE}
 use Rattle.cs_ids.specs.declared.objects.FileMeta.{FileMeta}
 use Rattle.cs_laws.specs.declared.answers.Entry.{Entry}
 use Rattle.cs_laws.specs.declared.objects.At.{At}
@@ -20,9 +21,10 @@ pub record ReadsBack (f : ℕ) (a : At) (ops : List ObjOp) (meta : FileMeta) (ws
   pub size : meta.size ≡ images.size ws
   pub mtime : meta.mtime ≡ images.mtime ws
   pub mode : meta.mode ≡ bits
-  pub bytes : (i : ℕ) → i < meta.size → object_byte a (record { ino = f; index = i / 65536 }) ops (i % 65536) ≡ image ws i
+  pub bytes : (i : ℕ) → i < meta.size → object_byte a (record { ino = f; index = i / OBJECT_SIZE }) ops (i % OBJECT_SIZE) ≡ image ws i
 
--- each file that the server knows, at each state that stands, isn't removed, covers it and isn't owed, reads back as exactly the writes of before
+-- each file that the server knows, at each state that stands, isn't removed, covers it and isn't owed, reads back as exactly
+-- its writes
 abbrev pub StatesReadBack : List ObjOp → List Entry → Type 0
 StatesReadBack ops h =
     (f : ℕ) (a : At) → server_knows h f ≡ true → stands a (stand h) ≡ true → is_gone a (stand h) ≡ false

@@ -25,8 +25,8 @@ use Rattle.cs_snapctx.specs.Records.{with_records}
 use Rattle.cs_laws.specs.CapSnaps.{CapSnap, is_open, is_writing, makes}
 use Rattle.cs_laws.specs.Context.{path_context}
 use Rattle.cs_laws.specs.Realms.{realm_records}
-use Rattle.cs_laws.specs.Tree.{directories, file_path, is_directory, path}
-use Rattle.cs_laws.specs.Events.{setup_file, files, client_knows, server_knows, clock, begun}
+use Rattle.cs_laws.specs.Tree.{client_file_path, server_dir, server_dirs, server_file_path, server_path}
+use Rattle.cs_laws.specs.Events.{begun, client_files, client_knows, clock, server_knows}
 use Rattle.cs_laws.specs.History.{client, server, to_client, to_server, realms, context, live, writes, dirty, queued, fresh, stand, sent, used}
 use Rattle.cs_laws.specs.References.{can_end, named}
 use Rattle.cs_laws.specs.Image.{Write, image, size}
@@ -37,11 +37,11 @@ use Rattle.cs_laws.specs.Standing.{greatest_number, has_snap, has_snap_named, is
 
 -- a directory or a file has the inode
 abbrev pub is_in_use : List Entry → ℕ → Bool
-is_in_use h i = is_directory h i || setup_file h i
+is_in_use h i = server_dir h i || server_knows h i
 
 -- the answer to a line that makes a directory or a file, i, in another
 abbrev pub answer_made : List Entry → ℕ → ℕ → Answer
-answer_made h i p = if is_in_use h i then answers.Exists else if is_directory h p then answers.Made else answers.NoDir
+answer_made h i p = if is_in_use h i then answers.Exists else if server_dir h p then answers.Made else answers.NoDir
 
 abbrev pub answer_clock : List Entry → ℕ → Answer
 answer_clock h t = if nat_lt t (clock h) then answers.Back else answers.Now t
@@ -145,8 +145,8 @@ count_made h new (f ∷ fs) = (if makes f (context h f) (new f) (live h) (dirty 
 abbrev pub answer_told : List Entry → Message → Answer
 answer_told h (messages.Cap f seq bits end) = answers.Cap f seq bits end
 answer_told h (messages.FlushAck f tid) = answers.FlushAck f tid
-answer_told h (messages.Snap number realm told) =
-    answers.SnapTold number realm (count_made h (λ f. path_context (file_path h f) (with_records told (realms h))) (files h))
+answer_told h (messages.Snap number realm realms_told) =
+    answers.SnapTold number realm (count_made h (λ f. path_context (client_file_path h f) (with_records realms_told (realms h))) (client_files h))
 answer_told h _ = answers.Idle
 
 abbrev pub answer_to_client_of : List Entry → List Message → Answer
@@ -187,7 +187,7 @@ answer_revoke h f bits = if server_knows h f then sent_cap (revoked (server h f)
 -- the number of a new snapshot of a directory
 abbrev pub answer_snap : List Entry → ℕ → List ℕ → Answer
 answer_snap h d name =
-    if is_directory h d then
+    if server_dir h d then
     (if has_snap_named d name (stand h) then answers.Exists else answers.Snap (greatest_number (stand h) + 1))
     else answers.Unknown
 
@@ -210,7 +210,7 @@ is_gone (at.Snap s) rs = is_removed s rs
 
 -- the context of a file by all standing records
 abbrev pub standing_context : List Entry → ℕ → Context
-standing_context h f = path_context (file_path h f) (realm_records (λ d. path h d) (directories h) (stand h))
+standing_context h f = path_context (server_file_path h f) (realm_records (λ d. server_path h d) (server_dirs h) (stand h))
 
 -- the state is the head, or the snapshot covers the file
 abbrev pub covers_file : At → Context → Bool
@@ -250,6 +250,6 @@ answer pages h events.ToMds = answer_to_mds h
 answer pages h (events.Grant f bits end) = answer_grant h f bits end
 answer pages h (events.Revoke f bits) = answer_revoke h f bits
 answer pages h (events.Snap d name) = answer_snap h d name
-answer pages h (events.RemoveSnap s) = answer_remove h s
+answer pages h (events.RmSnap s) = answer_remove h s
 answer pages h events.Commit = answers.Commit (length (fresh h))
 answer pages h (events.Show f a off len) = answer_show h f a off len

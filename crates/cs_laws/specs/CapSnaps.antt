@@ -20,6 +20,11 @@ pub record CapSnap : Type 0 where
   -- the file's writers that lived then
   pub writers : List Live
 
+-- the mode of the first one
+abbrev pub queued_mode : List CapSnap → ℕ
+queued_mode [] = 0
+queued_mode (x ∷ xs) = x.mode
+
 abbrev pub writers : ℕ → List Live → List Live
 writers f rs = filter (is_writer_of f) rs
 

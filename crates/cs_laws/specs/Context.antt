@@ -11,20 +11,16 @@ use Rattle.cs_laws.specs.declared.events.Event.TheVariants as events
 use Rattle.cs_laws.specs.declared.answers.Answer.{Answer}
 use Rattle.cs_laws.specs.declared.answers.Answer.TheVariants as answers
 use Rattle.cs_laws.specs.declared.messages.Message.{Message}
-use Rattle.cs_laws.specs.declared.messages.Message.TheVariants as messages
-
-abbrev pub told_records : Message → List RealmRecord → List RealmRecord
-told_records (messages.Snap number realm told) rs = with_records told rs
-told_records _ rs = rs
+use Rattle.cs_laws.specs.Carried.{realms_of}
 
 -- the realms' last records once the first of these messages is delivered
-abbrev pub first_told : List Message → List RealmRecord → List RealmRecord
-first_told [] rs = rs
-first_told (m ∷ q) rs = told_records m rs
+abbrev pub with_first : List Message → List RealmRecord → List RealmRecord
+with_first [] rs = rs
+with_first (m ∷ q) rs = with_records (realms_of m) rs
 
 -- q: the messages to the client before the entry
 abbrev pub realms_then : Event → Answer → List Message → List RealmRecord → List RealmRecord
-realms_then events.ToClient (answers.SnapTold number realm made) q rs = first_told q rs
+realms_then events.ToClient (answers.SnapTold number realm made) q rs = with_first q rs
 realms_then _ _ q rs = rs
 
 -- the context of the nearest realm on the way up

@@ -8,6 +8,12 @@ use Rattle.cs_laws.specs.declared.answers.Answer.{Answer}
 use Rattle.cs_laws.specs.declared.answers.Answer.TheVariants as answers
 use Rattle.cs_laws.specs.declared.answers.Entry.{Entry}
 
+-- a line of this kind stands before all others
+abbrev pub is_setup : Event → Bool
+is_setup (events.Dir d p) = true
+is_setup (events.File f p) = true
+is_setup _ = false
+
 abbrev pub setup_file_then : Event → Answer → ℕ → Bool → Bool
 setup_file_then (events.File g p) answers.Made f was = if g == f then true else was
 setup_file_then _ _ f was = was
@@ -26,8 +32,14 @@ abbrev pub files : List Entry → List ℕ
 files [] = []
 files (x ∷ h) = files_then x.event x.answer (files h)
 
+-- What each side knows: what setup lines made
+
 abbrev pub client_knows : List Entry → ℕ → Bool
 client_knows h f = setup_file h f
+
+-- the files that the client knows, the last one first
+abbrev pub client_files : List Entry → List ℕ
+client_files h = files h
 
 abbrev pub server_knows : List Entry → ℕ → Bool
 server_knows h f = setup_file h f

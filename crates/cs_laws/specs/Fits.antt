@@ -54,6 +54,6 @@ fits (events.Read caller name off len) = is_shown off len
 fits (events.Chmod caller name mode) = is_mode mode
 fits (events.Grant f bits end) = is_built bits && nat_le end greatest_end
 fits (events.Revoke f bits) = is_built bits
-fits (events.RemoveSnap s) = nat_le 1 s
+fits (events.RmSnap s) = nat_le 1 s
 fits (events.Show f a off len) = is_state a && is_shown off len
 fits _ = true

@@ -10,7 +10,6 @@ use Rattle.cs_laws.specs.declared.messages.Message.{Message}
 use Rattle.cs_laws.specs.declared.messages.Message.TheVariants as messages
 use Rattle.cs_laws.specs.declared.records.Record.{Record}
 use Rattle.cs_laws.specs.declared.records.RecordBody.TheVariants as bodies
-use Rattle.cs_laws.specs.CapSnaps.{CapSnap}
 use Rattle.cs_laws.specs.Image.{Write, size, mtime, upto}
 
 -- a flush of a file's metadata, as it was under a context
@@ -27,11 +26,6 @@ flush_message x = if x.snap then messages.FlushSnap x.file x.tid x.follows x.met
 
 abbrev pub flush_record : Flush → Record
 flush_record x = record { body = bodies.Flush x.snap x.file x.tid x.follows x.meta }
-
--- the mode of the first cap snap
-abbrev pub first_mode : List CapSnap → ℕ
-first_mode [] = 0
-first_mode (x ∷ xs) = x.mode
 
 -- the metadata of the writes with a tag up to `follows`
 abbrev pub meta_upto : ℕ → ℕ → List Write → FileMeta

@@ -8,6 +8,7 @@ use Rattle.cs_bits.specs.Bits.{caps_of}
 use Rattle.cs_text.specs.Decimal.{is_decimal, value}
 use Rattle.cs_text.specs.Hex.{bytes_of_hex}
 use Rattle.cs_text.specs.Lines.{lines_in}
+pub use Rattle.cs_laws.specs.Events.{is_setup}
 use Rattle.cs_laws.specs.declared.events.Event.{Event}
 use Rattle.cs_laws.specs.declared.events.Event.TheVariants as events
 use Rattle.cs_laws.specs.declared.events.RefName.{RefName}
@@ -204,7 +205,7 @@ snap_of ws = do
 unfoldable pub remove_of : Words → Result Event Kind
 remove_of ws = do
   s ← number_at 1 1 99999 ws
-  only 2 (events.RemoveSnap s) ws
+  only 2 (events.RmSnap s) ws
 
 unfoldable pub show_of : Words → Result Event Kind
 show_of ws = do
@@ -260,12 +261,6 @@ unfoldable pub event_of : Words → Result Event Kind
 event_of ws = word_in (λ w. event_by w ws) (slice_get ws 0)
 
 -- Lines
-
--- a line of this kind stands before all others
-abbrev pub is_setup : Event → Bool
-is_setup (events.Dir d p) = true
-is_setup (events.File f p) = true
-is_setup _ = false
 
 -- setup: all events before this one are setup lines
 abbrev pub in_time : Bool → Event → Result Event Kind

@@ -15,15 +15,15 @@ use Rattle.cs_snapctx.specs.declared.realm.RealmRecord.{RealmRecord}
 use Rattle.cs_snapctx.specs.Context.{Context}
 use Rattle.cs_snapctx.specs.Records.{root_record}
 use Rattle.cs_laws.specs.Capabilities.{client_then, server_then}
-use Rattle.cs_laws.specs.CapSnaps.{CapSnap, queued_then}
+use Rattle.cs_laws.specs.CapSnaps.{CapSnap, queued_mode, queued_then}
 use Rattle.cs_laws.specs.Context.{path_context, realms_then}
 use Rattle.cs_laws.specs.Events.{clock}
 use Rattle.cs_laws.specs.Flight.{to_client_then, to_server_then}
-use Rattle.cs_laws.specs.Flushes.{Flush, first_mode, flush_present, flush_snap, sent_then}
+use Rattle.cs_laws.specs.Flushes.{Flush, flush_present, flush_snap, sent_then}
 use Rattle.cs_laws.specs.Image.{Write}
-use Rattle.cs_laws.specs.References.{live_then, mode_then, dirty_then}
-use Rattle.cs_laws.specs.Standing.{durable_then, fresh_then, told}
-use Rattle.cs_laws.specs.Tree.{directories, file_path, path}
+use Rattle.cs_laws.specs.References.{dirty_then, first_mode, live_then, mode_then}
+use Rattle.cs_laws.specs.Standing.{durable_then, fresh_then, last_sent_then, news}
+use Rattle.cs_laws.specs.Tree.{client_file_path, server_dirs, server_path}
 use Rattle.cs_laws.specs.Writes.{writes_then}
 
 abbrev mutual
@@ -40,18 +40,26 @@ abbrev mutual
   -- the messages on their way to the client
   pub to_client : List Entry → List Message
   to_client [] = []
-  to_client (x ∷ h) = to_client_then x.event x.answer (λ f. server h f) (told (λ d. path h d) (directories h) (durable h) (fresh h)) (to_client h)
+  to_client (x ∷ h) =
+      to_client_then x.event x.answer (λ f. server h f) (news (λ d. server_path h d) (server_dirs h) (last_sent h) (durable h) (fresh h)) (to_client h)
 
   -- the messages on their way to the server
   pub to_server : List Entry → List Message
   to_server [] = []
   to_server (x ∷ h) =
-      to_server_then x.event x.answer (λ f tid. flush_present f tid (path_context (file_path h f) (realms h)).seq (mode h f) (writes h f)) (λ f tid follows. flush_snap f tid follows (first_mode (queued h f)) (writes h f)) (to_server h)
+      to_server_then x.event x.answer (λ f tid. flush_present f tid (path_context (client_file_path h f) (realms h)).seq (mode h f) (writes h f))
+      (λ f tid follows. flush_snap f tid follows (queued_mode (queued h f)) (writes h f)) (to_server h)
 
   -- the realms' last records that were delivered to the client; it has the root's empty one from the start
   pub realms : List Entry → List RealmRecord
   realms [] = root_record ∷ []
   realms (x ∷ h) = realms_then x.event x.answer (to_client h) (realms h)
+
+  -- the realm records that the server sent last in this session, which begins with the root's empty one
+  pub last_sent : List Entry → List RealmRecord
+  last_sent [] = root_record ∷ []
+  last_sent (x ∷ h) =
+      last_sent_then x.event x.answer (news (λ d. server_path h d) (server_dirs h) (last_sent h) (durable h) (fresh h)) (last_sent h)
 
   -- the records of the server's log that are durable
   pub durable : List Entry → List Record
@@ -66,7 +74,7 @@ abbrev mutual
   -- the references begun and not ended
   pub live : List Entry → List Live
   live [] = []
-  live (x ∷ h) = live_then x.event x.answer (λ f. (path_context (file_path h f) (realms h)).seq) (live h)
+  live (x ∷ h) = live_then x.event x.answer (λ f. (path_context (client_file_path h f) (realms h)).seq) (live h)
 
   -- the writes to a file, the newest first
   pub writes : List Entry → ℕ → List Write
@@ -75,7 +83,7 @@ abbrev mutual
 
   -- the mode of a file
   pub mode : List Entry → ℕ → ℕ
-  mode [] f = 420
+  mode [] f = first_mode
   mode (x ∷ h) f = mode_then x.event x.answer (live h) f (mode h f)
 
   -- the metadata of a file that was changed and not sent in a flush
@@ -87,11 +95,12 @@ abbrev mutual
   pub queued : List Entry → ℕ → List CapSnap
   queued [] f = []
   queued (x ∷ h) f =
-      queued_then x.event x.answer f (path_context (file_path h f) (realms h)) (path_context (file_path (x ∷ h) f) (realms_then x.event x.answer (to_client h) (realms h))) (live h) (dirty h f) (mode h f) (queued h f)
+      queued_then x.event x.answer f (path_context (client_file_path h f) (realms h))
+      (path_context (client_file_path (x ∷ h) f) (realms_then x.event x.answer (to_client h) (realms h))) (live h) (dirty h f) (mode h f) (queued h f)
 
 -- the snapshot context of a file, by the realm records that the client has
 abbrev pub context : List Entry → ℕ → Context
-context h f = path_context (file_path h f) (realms h)
+context h f = path_context (client_file_path h f) (realms h)
 
 -- the bits of a file that are in use: those of its live references, and those that its dirty metadata needs
 abbrev pub used : List Entry → ℕ → Caps
@@ -107,7 +116,7 @@ present h f tid = flush_present f tid (context h f).seq (mode h f) (writes h f)
 
 -- that of its first unsent cap snap, which follows this number
 abbrev pub snap : List Entry → ℕ → ℕ → ℕ → Flush
-snap h f tid follows = flush_snap f tid follows (first_mode (queued h f)) (writes h f)
+snap h f tid follows = flush_snap f tid follows (queued_mode (queued h f)) (writes h f)
 
 -- the flushes that were sent
 abbrev pub sent : List Entry → List Flush

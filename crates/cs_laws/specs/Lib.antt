@@ -1,6 +1,7 @@
 pub mod Agreement
 pub mod Answers
 pub mod CapSnaps
+pub mod Carried
 pub mod Capabilities
 pub mod Context
 pub mod Events
@@ -12,6 +13,7 @@ pub mod History
 pub mod Image
 pub mod Journal
 pub mod Laws
+pub mod Lists
 pub mod Metadata
 pub mod Objects
 pub mod Operations
@@ -19,6 +21,8 @@ pub mod Owed
 pub mod Realms
 pub mod References
 pub mod Refusals
+pub mod Runs
+pub mod Sessions
 pub mod Shown
 pub mod Standing
 pub mod Texts

@@ -3,15 +3,10 @@ use Rattle.std.specs.Prelude.{ℕ, ◌==◌, ◌&&◌, ◌||◌, Bool, List, [],
 use Rattle.cs_ids.specs.declared.objects.FileMeta.{FileMeta}
 use Rattle.cs_laws.specs.declared.objects.At.{At}
 use Rattle.cs_laws.specs.declared.records.Record.{Record}
-use Rattle.cs_laws.specs.declared.records.RecordBody.{RecordBody}
-use Rattle.cs_laws.specs.declared.records.RecordBody.TheVariants as bodies
+use Rattle.cs_laws.specs.Carried.{flush_in}
 use Rattle.cs_laws.specs.Flushes.{Flush}
+use Rattle.cs_laws.specs.References.{first_mode}
 use Rattle.cs_laws.specs.Shown.{is_before}
-
--- the flush that a record tells of
-abbrev pub flush_in : RecordBody → Option Flush
-flush_in (bodies.Flush snap f tid follows meta) = Some (record { tid = tid; file = f; follows = follows; meta = meta; snap = snap })
-flush_in _ = None
 
 -- y follows a greater number than x does, or the same under a greater tid
 abbrev pub is_behind : Flush → Flush → Bool
@@ -32,7 +27,7 @@ last_flush f a (r ∷ rs) = with_flush f a (flush_in r.body) (last_flush f a rs)
 
 -- the metadata of a file that was never flushed
 abbrev pub no_meta : FileMeta
-no_meta = record { size = 0; mtime = 0; mode = 420 }
+no_meta = record { size = 0; mtime = 0; mode = first_mode }
 
 abbrev pub meta_of : Option Flush → FileMeta
 meta_of None = no_meta

@@ -40,14 +40,23 @@ is_acked h x = acked h x.file x.tid || (not x.snap && list_any (λ y. is_later x
 abbrev pub is_unacked : List Entry → At → ℕ → Flush → Bool
 is_unacked h a f x = ((x.file == f) && is_before a x.follows) && not (is_acked h x)
 
--- what the file is at the state may be on its way, or still with the client
-abbrev pub owed : List Entry → ℕ → At → Bool
-owed h f a =
+-- the file's metadata at the state may be on its way, or still with the client
+abbrev pub is_metadata_owed : List Entry → ℕ → At → Bool
+is_metadata_owed h f a =
     not (client_knows h f) || (is_untold a (context h f).seq || (is_written a f (live h) || (is_changed a (dirty h f)
     || (list_any (λ x. is_before a x.follows) (queued h f) || list_any (is_unacked h a f) (sent h)))))
 
--- the file's mode just before the entry at which its context's seq reached a snapshot, or the present one
+-- What the file is at the state may be: its metadata or its bytes. No page is cached yet, so that its bytes are in the store.
+abbrev pub owed : List Entry → ℕ → At → Bool
+owed h f a = is_metadata_owed h f a
+
+-- after some part of the history the seq of the file's context had reached a number
+abbrev pub had_reached : List Entry → ℕ → ℕ → Bool
+had_reached [] f s = nat_le s (context [] f).seq
+had_reached (x ∷ h) f s = nat_le s (context (x ∷ h) f).seq || had_reached h f s
+
+-- the file's mode just before the first entry at which its context's seq reached a snapshot, or the present one
 abbrev pub mode_at : List Entry → ℕ → At → ℕ
 mode_at h f at.Head = mode h f
 mode_at [] f (at.Snap s) = mode [] f
-mode_at (x ∷ h) f (at.Snap s) = if nat_le s (context h f).seq then mode_at h f (at.Snap s) else mode h f
+mode_at (x ∷ h) f (at.Snap s) = if had_reached h f s then mode_at h f (at.Snap s) else mode h f

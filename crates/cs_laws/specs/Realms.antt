@@ -2,7 +2,7 @@
 use Rattle.std.specs.Prelude.{ℕ, ◌==◌, ◌||◌, not, Bool, false, List, [], ◌∷◌, ◌++◌, Option, Some, None, drop, filter, find, if◌then◌else◌}
 use Rattle.std.specs.List.{list_any, filter_map}
 use Rattle.cs_snapctx.specs.declared.realm.RealmRecord.{RealmRecord}
-use Rattle.cs_snapctx.specs.Records.{changed_record}
+use Rattle.cs_snapctx.specs.Records.{changed_record, record_of}
 use Rattle.cs_laws.specs.declared.records.Record.{Record}
 use Rattle.cs_laws.specs.declared.records.RecordBody.{RecordBody}
 use Rattle.cs_laws.specs.declared.records.RecordBody.TheVariants as bodies
@@ -41,17 +41,22 @@ own d rs = own_after d (record { seq = 0; snaps = [] }) rs
 
 -- Realm records
 
--- the realm of a directory, whose way up is the path; each directory stood before the first snapshot
+-- A snapshot of a realm above covers a directory where its number is at least this one: one more than the greatest number that
+-- stood when the directory was made. All directories are made before the first snapshot.
+abbrev pub since_of : List Record → ℕ → ℕ
+since_of rs d = 1
+
+-- the realm of a directory, whose way up is the path
 abbrev pub realm_record : List ℕ → List Record → ℕ → Option RealmRecord
 realm_record up rs d =
     if is_realm rs d
-    then Some (record { realm = d; parent = find (is_realm rs) (drop 1 up); since = 1; own_seq = (own d rs).seq; own = (own d rs).snaps; prior = [] })
+    then Some (record { realm = d; parent = find (is_realm rs) (drop 1 up); since = since_of rs d; own_seq = (own d rs).seq; own = (own d rs).snaps; prior = [] })
     else None
 
 -- path: the path of each directory; ds: the directories, parents first
 abbrev pub realm_records : (ℕ → List ℕ) → List ℕ → List Record → List RealmRecord
 realm_records path ds rs = filter_map (λ d. realm_record (path d) rs d) ds
 
--- the realm records that differ from those before
-abbrev pub changed_records : (ℕ → List ℕ) → List ℕ → List Record → List Record → List RealmRecord
-changed_records path ds before after = filter_map (λ d. changed_record (realm_record (path d) before d) (realm_record (path d) after d)) ds
+-- of the present records of the realms those that differ from the ones that were sent last, or weren't sent
+abbrev pub differing : List RealmRecord → List RealmRecord → List RealmRecord
+differing sent now = filter_map (λ r. changed_record (record_of r.realm sent) (Some r)) now

@@ -32,6 +32,10 @@ live_then (events.Begin caller file bits end) (answers.Ref number) seq rs =
 live_then (events.End caller name) answers.Ended seq rs = without_named caller name rs
 live_then _ _ seq rs = rs
 
+-- the mode of a new file: 0644
+abbrev pub first_mode : ℕ
+first_mode = 420
+
 -- a change of mode on a reference is one of the reference's file
 abbrev pub with_mode : Option Live → ℕ → ℕ → ℕ → ℕ
 with_mode None mode f was = was

@@ -12,24 +12,26 @@ use Rattle.cs_laws.specs.declared.messages.Message.TheVariants as messages
 use Rattle.cs_laws.specs.declared.records.Record.{Record}
 use Rattle.cs_laws.specs.declared.records.RecordBody.{RecordBody}
 use Rattle.cs_laws.specs.declared.records.RecordBody.TheVariants as bodies
-use Rattle.cs_laws.specs.Realms.{changed_records}
+use Rattle.cs_snapctx.specs.Records.{with_records}
+use Rattle.cs_laws.specs.Carried.{flush_on, realms_of}
+use Rattle.cs_laws.specs.Flushes.{Flush, flush_record}
+use Rattle.cs_laws.specs.Realms.{differing, realm_records}
 
--- the record of a delivered flush
-abbrev pub recorded_of : Message → List Record
-recorded_of (messages.Flush f tid follows meta) = record { body = bodies.Flush false f tid follows meta } ∷ []
-recorded_of (messages.FlushSnap f tid follows meta) = record { body = bodies.Flush true f tid follows meta } ∷ []
-recorded_of _ = []
+-- the record of a flush
+abbrev pub recorded_of : Option Flush → List Record
+recorded_of None = []
+recorded_of (Some x) = flush_record x ∷ []
 
 -- what is recorded where the first of these messages is delivered
 abbrev pub recorded : List Message → List Record
 recorded [] = []
-recorded (m ∷ q) = recorded_of m
+recorded (m ∷ q) = recorded_of (flush_on m)
 
 -- q: the messages to the server before the entry
 abbrev pub fresh_then : Event → Answer → List Message → List Record → List Record
 fresh_then events.ToMds (answers.Flushed f tid) q rs = rs ++ recorded q
 fresh_then (events.Snap d name) (answers.Snap number) q rs = rs ++ record { body = bodies.Snap number d name } ∷ []
-fresh_then (events.RemoveSnap s) (answers.Removed t number) q rs = rs ++ record { body = bodies.Removal s number } ∷ []
+fresh_then (events.RmSnap s) (answers.Removed t number) q rs = rs ++ record { body = bodies.Removal s number } ∷ []
 fresh_then events.Commit (answers.Commit count) q rs = []
 fresh_then _ _ q rs = rs
 
@@ -50,17 +52,33 @@ abbrev pub dir_of : ℕ → List Record → Option ℕ
 dir_of s [] = None
 dir_of s (r ∷ rs) = dir_in s r.body (dir_of s rs)
 
--- What the client is told of a record that became durable, by the records before it. A snapshot changes realms, and so does
--- a removal; their records are told as they stand after that record.
-abbrev pub told_of : List Record → List RealmRecord → RecordBody → Message
-told_of before realms (bodies.Flush snap f tid follows meta) = messages.FlushAck f tid
-told_of before realms (bodies.Snap number d name) = messages.Snap number d realms
-told_of before realms (bodies.Removal s number) = messages.Snap number (unwrap_or (dir_of s before) 1) realms
+-- The message on a record that became durable, by the records before it. A snapshot changes realms, and so does a removal.
+abbrev pub news_of : List Record → List RealmRecord → RecordBody → Message
+news_of before realms (bodies.Flush snap f tid follows meta) = messages.FlushAck f tid
+news_of before realms (bodies.Snap number d name) = messages.Snap number d realms
+news_of before realms (bodies.Removal s number) = messages.Snap number (unwrap_or (dir_of s before) 1) realms
 
--- path, ds: the path of each directory, and the directories, parents first; before: the records before these
-abbrev pub told : (ℕ → List ℕ) → List ℕ → List Record → List Record → List Message
-told path ds before [] = []
-told path ds before (r ∷ rs) = told_of before (changed_records path ds before (before ++ r ∷ [])) r.body ∷ told path ds (before ++ r ∷ []) rs
+-- With a change of realms goes the record, as it stands after that change, of each realm whose record differs from the one
+-- that was sent last.
+abbrev pub news_on : (ℕ → List ℕ) → List ℕ → List RealmRecord → List Record → Record → Message
+news_on path ds sent before r = news_of before (differing sent (realm_records path ds (before ++ r ∷ []))) r.body
+
+-- The messages on these records. path, ds: the path of each directory, and the directories, parents first; sent: the realm
+-- records that were sent last; before: the records before these.
+abbrev pub news : (ℕ → List ℕ) → List ℕ → List RealmRecord → List Record → List Record → List Message
+news path ds sent before [] = []
+news path ds sent before (r ∷ rs) =
+    let m : Message = news_on path ds sent before r in m ∷ news path ds (with_records (realms_of m) sent) (before ++ r ∷ []) rs
+
+-- the realm records that were sent last, once these messages are sent
+abbrev pub sent_with : List Message → List RealmRecord → List RealmRecord
+sent_with [] sent = sent
+sent_with (m ∷ q) sent = sent_with q (with_records (realms_of m) sent)
+
+-- q: the messages on the records that become durable
+abbrev pub last_sent_then : Event → Answer → List Message → List RealmRecord → List RealmRecord
+last_sent_then events.Commit (answers.Commit count) q sent = sent_with q sent
+last_sent_then _ _ q sent = sent
 
 -- Snapshots among the records
 

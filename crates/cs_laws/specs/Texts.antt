@@ -49,7 +49,7 @@ event_text events.ToMds = codes "tomds"
 event_text (events.Grant f bits end) = codes "grant " ++ decimal f ++ codes " " ++ caps_text bits ++ codes " " ++ decimal end
 event_text (events.Revoke f bits) = codes "revoke " ++ decimal f ++ codes " " ++ caps_text bits
 event_text (events.Snap d name) = codes "snap " ++ decimal d ++ codes " " ++ name
-event_text (events.RemoveSnap s) = codes "rmsnap " ++ decimal s
+event_text (events.RmSnap s) = codes "rmsnap " ++ decimal s
 event_text events.Commit = codes "commit"
 event_text (events.Show f a off len) = codes "show " ++ decimal f ++ codes " " ++ at_text a ++ codes " " ++ decimal off ++ codes " " ++ decimal len
 

@@ -1,4 +1,4 @@
--- The tree of directories, as the setup lines make it. The root is directory 1.
+-- The tree of directories, as the setup lines make it, and what each side knows of it. The root is directory 1.
 use Rattle.std.specs.Prelude.{ℕ, ◌==◌, ◌&&◌, ◌||◌, Bool, true, false, List, [], ◌∷◌, length, nat_lt, if◌then◌else◌}
 use Rattle.cs_laws.specs.declared.events.Event.{Event}
 use Rattle.cs_laws.specs.declared.events.Event.TheVariants as events
@@ -24,9 +24,9 @@ abbrev pub path_then : Event → Answer → (ℕ → List ℕ) → ℕ → List 
 path_then (events.Dir e p) answers.Made up d = if e == d then e ∷ up p else up d
 path_then _ _ up d = up d
 
--- a directory and those above it, the nearest first and the root last
+-- a directory and those above it, the nearest first and the root last; one that wasn't made stands below the root
 abbrev pub path : List Entry → ℕ → List ℕ
-path [] d = 1 ∷ []
+path [] d = if d == 1 then 1 ∷ [] else d ∷ 1 ∷ []
 path (x ∷ h) d = path_then x.event x.answer (λ e. path h e) d
 
 abbrev pub home_then : Event → Answer → ℕ → ℕ → ℕ
@@ -37,10 +37,6 @@ home_then _ _ f was = was
 abbrev pub home : List Entry → ℕ → ℕ
 home [] f = 1
 home (x ∷ h) f = home_then x.event x.answer f (home h f)
-
--- the directories that hold a file, the nearest first
-abbrev pub file_path : List Entry → ℕ → List ℕ
-file_path h f = path h (home h f)
 
 -- d is nearer to the root than e, or as near and has the lesser number
 abbrev pub is_ahead : (ℕ → ℕ) → ℕ → ℕ → Bool
@@ -60,3 +56,34 @@ directories_then _ _ depth ds = ds
 abbrev pub directories : List Entry → List ℕ
 directories [] = 1 ∷ []
 directories (x ∷ h) = directories_then x.event x.answer (λ d. length (path (x ∷ h) d)) (directories h)
+
+-- What each side knows: what setup lines made
+
+abbrev pub client_dir : List Entry → ℕ → Bool
+client_dir h d = is_directory h d
+
+abbrev pub server_dir : List Entry → ℕ → Bool
+server_dir h d = is_directory h d
+
+abbrev pub client_path : List Entry → ℕ → List ℕ
+client_path h d = path h d
+
+abbrev pub server_path : List Entry → ℕ → List ℕ
+server_path h d = path h d
+
+abbrev pub client_home : List Entry → ℕ → ℕ
+client_home h f = home h f
+
+abbrev pub server_home : List Entry → ℕ → ℕ
+server_home h f = home h f
+
+-- the directories that hold a file, the nearest first
+abbrev pub client_file_path : List Entry → ℕ → List ℕ
+client_file_path h f = client_path h (client_home h f)
+
+abbrev pub server_file_path : List Entry → ℕ → List ℕ
+server_file_path h f = server_path h (server_home h f)
+
+-- all directories that the server knows, parents first
+abbrev pub server_dirs : List Entry → List ℕ
+server_dirs h = directories h

@@ -102,7 +102,7 @@ pub enum Event {
         name: Name,
     },
     /// The server removes a snapshot. A script gives it a number from 1 on.
-    RemoveSnap {
+    RmSnap {
         snap: Snap,
     },
     /// The server makes all of its records durable, and tells the client of those that were not.
@@ -204,7 +204,7 @@ impl Event {
                 dir: *dir,
                 name: Name::from_slice(alloc, name.as_slice())?,
             },
-            Event::RemoveSnap { snap } => Event::RemoveSnap { snap: *snap },
+            Event::RmSnap { snap } => Event::RmSnap { snap: *snap },
             Event::Commit => Event::Commit,
             Event::Show { file, at, off, len } => {
                 Event::Show {
@@ -232,7 +232,7 @@ impl Event {
             Event::Chmod { mode, .. } => is_mode(*mode),
             Event::Grant { bits, max, .. } => is_built(*bits) && *max <= 1_048_576,
             Event::Revoke { bits, .. } => is_built(*bits),
-            Event::RemoveSnap { snap } => 1 <= snap.get(),
+            Event::RmSnap { snap } => 1 <= snap.get(),
             Event::Show { at, off, len, .. } => is_state(*at) && is_shown(*off, *len),
             Event::End { .. }
             | Event::Check { .. }

@@ -140,7 +140,7 @@ impl fmt::Display for Event {
                 write!(f, "snap {} ", dir.get())?;
                 write_name(name, f)
             }
-            Event::RemoveSnap { snap } => write!(f, "rmsnap {}", snap.get()),
+            Event::RmSnap { snap } => write!(f, "rmsnap {}", snap.get()),
             Event::Commit => write!(f, "commit"),
             Event::Show { file, at, off, len } => {
                 write!(f, "show {} {at} {off} {len}", file.get())

@@ -81,7 +81,7 @@ events_read =
     ∷ events.ToClient
     ∷ events.Show 100 (at.Snap 2) 0 4
     ∷ events.Show 101 (at.Snap 2) 0 4
-    ∷ events.RemoveSnap 2
+    ∷ events.RmSnap 2
     ∷ events.Show 100 (at.Snap 2) 0 4
     ∷ events.Commit
     ∷ events.ToClient

@@ -35,7 +35,7 @@ events_read =
     ∷ events.ToClient
     ∷ events.Show 101 (at.Snap 1) 0 4
     ∷ events.Show 100 (at.Snap 1) 0 4
-    ∷ events.RemoveSnap 1
+    ∷ events.RmSnap 1
     ∷ events.Show 100 (at.Snap 1) 0 4
     ∷ events.Commit
     ∷ events.ToClient

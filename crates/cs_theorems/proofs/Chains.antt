@@ -130,7 +130,7 @@ step_snap h d name x snap_unknown i = i
 step_snap h d name x snap_exists i = i
 step_snap h d name x (snap_taken directory free) i = λ f. chain_moved f (durable h) (fresh h) _ (to_server h) (to_server h) (length (sent h)) refl (i f)
 
-step_remove : (h : List Entry) (t : ℕ) (x : Answer) → RemoveIs h t x → AllRise h → AllRise (record { event = e.RemoveSnap t; answer = x } ∷ h)
+step_remove : (h : List Entry) (t : ℕ) (x : Answer) → RemoveIs h t x → AllRise h → AllRise (record { event = e.RmSnap t; answer = x } ∷ h)
 step_remove h t x remove_none i = i
 step_remove h t x remove_gone i = i
 step_remove h t x (removed there stays) i = λ f. chain_moved f (durable h) (fresh h) _ (to_server h) (to_server h) (length (sent h)) refl (i f)
@@ -141,7 +141,7 @@ rise_step p h (e.Flush g) i = step_flush h g _ (flush_is h g) i
 rise_step p h (e.FlushSnaps g) i = step_flush_snaps h g _ (flush_snaps_is h g) i
 rise_step p h e.ToMds i = step_to_server h _ (received_is h) i
 rise_step p h (e.Snap d name) i = step_snap h d name _ (snap_is h d name) i
-rise_step p h (e.RemoveSnap t) i = step_remove h t _ (remove_is h t) i
+rise_step p h (e.RmSnap t) i = step_remove h t _ (remove_is h t) i
 rise_step p h e.Commit i = λ f. subst (λ rs. Chain f rs (to_server h) (length (sent h))) (sym (append-nil (stand h))) (i f)
 rise_step p h _ i = i
 

@@ -70,7 +70,7 @@ step_snap h d name x (snap_taken directory free) i =
     let new : Record = record { body = bodies.Snap (greatest_number (stand h) + 1) d name } in
     omega (arith, i, greatest_behind (durable h) (fresh h) (new ∷ []))
 
-step_remove : (h : List Entry) (t : ℕ) (x : Answer) → RemoveIs h t x → SnapsAreFew h → SnapsAreFew (record { event = e.RemoveSnap t; answer = x } ∷ h)
+step_remove : (h : List Entry) (t : ℕ) (x : Answer) → RemoveIs h t x → SnapsAreFew h → SnapsAreFew (record { event = e.RmSnap t; answer = x } ∷ h)
 step_remove h t x remove_none i = omega (arith, i)
 step_remove h t x remove_gone i = omega (arith, i)
 step_remove h t x (removed there stays) i =
@@ -88,7 +88,7 @@ step_commit h x i = omega (arith, i, ap greatest_number (append-nil (durable h +
 
 few_step : (p : ℕ) (h : List Entry) (x : Event) → SnapsAreFew h → SnapsAreFew (entry p h x ∷ h)
 few_step p h (e.Snap d name) i = step_snap h d name _ (snap_is h d name) i
-few_step p h (e.RemoveSnap t) i = step_remove h t _ (remove_is h t) i
+few_step p h (e.RmSnap t) i = step_remove h t _ (remove_is h t) i
 few_step p h e.ToMds i = step_to_mds h _ (received_is h) i
 few_step p h e.Commit i = omega (arith, step_commit h a.Idle i)
 few_step p h _ i = omega (arith, i)
@@ -110,7 +110,7 @@ recorded_few (messages.CapAck f seq bits ∷ q) = omega arith
 fresh_then_few : (x : Event) (y : Answer) (q : List Message) (rs : List Record) (n : ℕ) → length rs ≤ n → length (fresh_then x y q rs) ≤ n + 1
 fresh_then_few e.ToMds (a.Flushed f tid) q rs n few = omega (arith, few, recorded_few q, length-append rs (recorded q))
 fresh_then_few (e.Snap d name) (a.Snap number) q rs n few = let r : Record = record { body = bodies.Snap number d name } in omega (arith, few, length-append rs (r ∷ []))
-fresh_then_few (e.RemoveSnap t) (a.Removed s number) q rs n few = let r : Record = record { body = bodies.Removal t number } in omega (arith, few, length-append rs (r ∷ []))
+fresh_then_few (e.RmSnap t) (a.Removed s number) q rs n few = let r : Record = record { body = bodies.Removal t number } in omega (arith, few, length-append rs (r ∷ []))
 fresh_then_few e.Commit (a.Commit count) q rs n few = omega arith
 fresh_then_few _ _ q rs n few = omega (arith, few)
 

@@ -78,7 +78,7 @@ step_snap h d name x snap_unknown i = i
 step_snap h d name x snap_exists i = i
 step_snap h d name x (snap_taken directory free) i = more h (record { body = bodies.Snap (greatest_number (stand h) + 1) d name }) (omega arith) i
 
-step_remove : (h : List Entry) (s : ℕ) (x : Answer) → RemoveIs h s x → DrawnAt h → DrawnAt (record { event = e.RemoveSnap s; answer = x } ∷ h)
+step_remove : (h : List Entry) (s : ℕ) (x : Answer) → RemoveIs h s x → DrawnAt h → DrawnAt (record { event = e.RmSnap s; answer = x } ∷ h)
 step_remove h s x remove_none i = i
 step_remove h s x remove_gone i = i
 step_remove h s x (removed there stays) i = more h (record { body = bodies.Removal s (greatest_number (stand h) + 1) }) (snap_low s (stand h) there, omega arith) i
@@ -86,7 +86,7 @@ step_remove h s x (removed there stays) i = more h (record { body = bodies.Remov
 pub drawn_step : (p : ℕ) (h : List Entry) (x : Event) → DrawnAt h → DrawnAt (entry p h x ∷ h)
 drawn_step p h e.ToMds i = step_server h _ (received_is h) i
 drawn_step p h (e.Snap d name) i = step_snap h d name _ (snap_is h d name) i
-drawn_step p h (e.RemoveSnap s) i = step_remove h s _ (remove_is h s) i
+drawn_step p h (e.RmSnap s) i = step_remove h s _ (remove_is h s) i
 drawn_step p h e.Commit i = subst (λ rs. AllDraw 0 rs) (sym (append-nil (stand h))) i
 drawn_step p h _ i = i
 

@@ -395,7 +395,7 @@ step_snap h d name x snap_unknown i = i
 step_snap h d name x snap_exists i = i
 step_snap h d name x (snap_taken directory free) i = front_record _ _ _ _ _ _ _ _ directory i
 
-step_remove : (h : List Entry) (s : ℕ) (x : Answer) → RemoveIs h s x → FrontAt h → FrontAt (record { event = e.RemoveSnap s; answer = x } ∷ h)
+step_remove : (h : List Entry) (s : ℕ) (x : Answer) → RemoveIs h s x → FrontAt h → FrontAt (record { event = e.RmSnap s; answer = x } ∷ h)
 step_remove h s x remove_none i = i
 step_remove h s x remove_gone i = i
 step_remove h s x (removed there stays) i = front_record _ _ _ _ _ _ _ _ tt i
@@ -415,7 +415,7 @@ front_step p h (e.Dir d q) listed i = step_dir h d q i
 front_step p h e.ToClient listed i = step_client h _ (first_is h) listed i
 front_step p h e.ToMds listed i = step_server h _ (received_is h) i
 front_step p h (e.Snap d name) listed i = step_snap h d name _ (snap_is h d name) i
-front_step p h (e.RemoveSnap s) listed i = step_remove h s _ (remove_is h s) i
+front_step p h (e.RmSnap s) listed i = step_remove h s _ (remove_is h s) i
 front_step p h e.Commit listed i = front_commit _ _ _ _ _ _ _ i
 front_step p h (e.Grant f bits end) listed i = step_grant h f bits end _ (grant_is h f bits end) i
 front_step p h (e.Revoke f bits) listed i = step_revoke h f bits _ (revoke_is h f bits) i

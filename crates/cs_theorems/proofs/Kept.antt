@@ -74,7 +74,7 @@ durables _ _ fs ds r = refl
 added : (x : Event) (y : Answer) (q : List Message) (fs : List Record) → is_refusal x y ≡ true → fresh_then x y q fs ≡ fs
 added e.ToMds (a.Flushed g tid) q fs r = cc
 added (e.Snap d name) (a.Snap number) q fs r = cc
-added (e.RemoveSnap t) (a.Removed u number) q fs r = cc
+added (e.RmSnap t) (a.Removed u number) q fs r = cc
 added e.Commit (a.Commit count) q fs r = cc
 added _ _ q fs r = refl
 

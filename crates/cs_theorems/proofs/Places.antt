@@ -209,7 +209,7 @@ step_snap h d name x (snap_taken directory free) i =
     subst (λ rs. Places (sent h) (to_server h) rs) (append_assoc (durable h) (fresh h) _)
     (places_snap (sent h) (to_server h) (stand h) (greatest_number (stand h) + 1) d name i)
 
-step_remove : (h : List Entry) (t : ℕ) (x : Answer) → RemoveIs h t x → AllPlaced h → AllPlaced (record { event = e.RemoveSnap t; answer = x } ∷ h)
+step_remove : (h : List Entry) (t : ℕ) (x : Answer) → RemoveIs h t x → AllPlaced h → AllPlaced (record { event = e.RmSnap t; answer = x } ∷ h)
 step_remove h t x remove_none i = i
 step_remove h t x remove_gone i = i
 step_remove h t x (removed there stays) i =
@@ -222,7 +222,7 @@ place_step p h (e.Flush g) i = step_flush h g _ (flush_is h g) i
 place_step p h (e.FlushSnaps g) i = step_flush_snaps h g _ (flush_snaps_is h g) i
 place_step p h e.ToMds i = step_to_server h _ (received_is h) i
 place_step p h (e.Snap d name) i = step_snap h d name _ (snap_is h d name) i
-place_step p h (e.RemoveSnap t) i = step_remove h t _ (remove_is h t) i
+place_step p h (e.RmSnap t) i = step_remove h t _ (remove_is h t) i
 place_step p h e.Commit i = subst (λ rs. Places (sent h) (to_server h) rs) (sym (append-nil (stand h))) i
 place_step p h _ i = i
 

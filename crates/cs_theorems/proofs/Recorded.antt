@@ -142,7 +142,7 @@ step_snap h d name x snap_unknown i = i
 step_snap h d name x snap_exists i = i
 step_snap h d name x (snap_taken directory free) i = λ f. agrees_beside f (told h f) (durable h) (fresh h) _ (λ at o. refl) (i f)
 
-step_remove : (h : List Entry) (t : ℕ) (x : Answer) → RemoveIs h t x → AllAgree h → AllAgree (record { event = e.RemoveSnap t; answer = x } ∷ h)
+step_remove : (h : List Entry) (t : ℕ) (x : Answer) → RemoveIs h t x → AllAgree h → AllAgree (record { event = e.RmSnap t; answer = x } ∷ h)
 step_remove h t x remove_none i = i
 step_remove h t x remove_gone i = i
 step_remove h t x (removed there stays) i = λ f. agrees_beside f (told h f) (durable h) (fresh h) _ (λ at o. refl) (i f)
@@ -150,7 +150,7 @@ step_remove h t x (removed there stays) i = λ f. agrees_beside f (told h f) (du
 agree_step : (p : ℕ) (h : List Entry) (x : Event) → IsRun p h → AllAgree h → AllAgree (entry p h x ∷ h)
 agree_step p h e.ToMds run i = step_server p h _ run (received_is h) i
 agree_step p h (e.Snap d name) run i = step_snap h d name _ (snap_is h d name) i
-agree_step p h (e.RemoveSnap t) run i = step_remove h t _ (remove_is h t) i
+agree_step p h (e.RmSnap t) run i = step_remove h t _ (remove_is h t) i
 agree_step p h e.Commit run i = λ f. subst (λ rs. Agrees f (told h f) rs) (sym (append-nil (stand h))) (i f)
 agree_step p h _ run i = i
 

@@ -230,7 +230,7 @@ step_snap h d name x snap_unknown i = i
 step_snap h d name x snap_exists i = i
 step_snap h d name x (snap_taken directory free) i = flies_recorded _ _ _ _ _ _ tt i
 
-step_remove : (h : List Entry) (t : ℕ) (x : Answer) → RemoveIs h t x → AllFly h → AllFly (record { event = e.RemoveSnap t; answer = x } ∷ h)
+step_remove : (h : List Entry) (t : ℕ) (x : Answer) → RemoveIs h t x → AllFly h → AllFly (record { event = e.RmSnap t; answer = x } ∷ h)
 step_remove h t x remove_none i = i
 step_remove h t x remove_gone i = i
 step_remove h t x (removed there stays) i = flies_recorded _ _ _ _ _ _ tt i
@@ -249,7 +249,7 @@ fly_step p h (e.FlushSnaps g) i = step_flush_snaps h g _ (flush_snaps_is h g) i
 fly_step p h e.ToClient i = step_to_client h _ (first_is h) i
 fly_step p h e.ToMds i = step_to_mds h _ (received_is h) i
 fly_step p h (e.Snap d name) i = step_snap h d name _ (snap_is h d name) i
-fly_step p h (e.RemoveSnap t) i = step_remove h t _ (remove_is h t) i
+fly_step p h (e.RmSnap t) i = step_remove h t _ (remove_is h t) i
 fly_step p h e.Commit i = flies_commit (IsKnown h) (λ d. path h d) (directories h) (to_client h) (to_server h) (durable h) (fresh h) i
 fly_step p h _ i = i
 

@@ -53,7 +53,7 @@ pub fn snap(state: &mut State, dir: Ino, name: &Name) -> Result<Answer, Memory>
 
 pub fn remove_snap(state: &mut State, snap: Snap) -> Result<Answer, Memory>
     requires { IsReady state.old }
-    ensures ok { IfOk result (λ a. Steps state.old state.new (events.RemoveSnap snap) a) }
+    ensures ok { IfOk result (λ a. Steps state.old state.new (events.RmSnap snap) a) }
     ensures err { OnErr result (KeepsJournal state.old state.new) }
 {
     if !state.records.has_snap(snap) {

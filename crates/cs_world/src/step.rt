@@ -74,7 +74,7 @@ pub fn answer<O: ObjStore>(
         Event::Grant { file, bits, max } => Ok(grant(state, *file, *bits, *max)?),
         Event::Revoke { file, bits } => Ok(revoke(state, *file, *bits)?),
         Event::Snap { dir, name } => Ok(snap(state, *dir, name)?),
-        Event::RemoveSnap { snap } => Ok(remove_snap(state, *snap)?),
+        Event::RmSnap { snap } => Ok(remove_snap(state, *snap)?),
         Event::Commit => Ok(commit(state)?),
         Event::Show { file, at, off, len } => show(state, store, *file, at, *off, *len),
     }
