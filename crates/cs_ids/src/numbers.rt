@@ -1,5 +1,5 @@
 // Numbers that contracts see as numbers in their ranges.
-ghost use Rattle.std.specs.Prelude.{◌≡◌, ◌+◌, ◌≤◌};
+ghost use Rattle.std.specs.Prelude.{◌≡◌, ◌+◌, ◌<◌, ◌≤◌};
 ghost use Rattle.cs_ids.specs.Ranges.{some_in, IsIn};
 
 use std::marker::Model;
@@ -78,6 +78,14 @@ impl Snap {
         }
     }
 
+    /// The number behind `count` numbers that were drawn from 1 on, so `count + 1`.
+    pub fn after(count: u64) -> Self
+        requires { count < 99999 }
+        ensures { result ≡ count + 1 }
+    {
+        Snap(count + 1)
+    }
+
     /// The number itself, in its range.
     pub fn get(self) -> u64
         ensures value { result ≡ self }
@@ -121,6 +129,14 @@ impl Seq {
         } else {
             None
         }
+    }
+
+    /// The number behind `count` numbers that were drawn from 1 on, so `count + 1`.
+    pub fn after(count: u64) -> Self
+        requires { count < 99999 }
+        ensures { result ≡ count + 1 }
+    {
+        Seq(count + 1)
     }
 
     /// The number 0.
@@ -175,6 +191,14 @@ impl Tid {
         }
     }
 
+    /// The number behind `count` numbers that were drawn from 1 on, so `count + 1`.
+    pub fn after(count: u64) -> Self
+        requires { count < 99999 }
+        ensures { result ≡ count + 1 }
+    {
+        Tid(count + 1)
+    }
+
     /// The number itself, in its range.
     pub fn get(self) -> u64
         ensures value { result ≡ self }
@@ -218,6 +242,14 @@ impl RefNo {
         } else {
             None
         }
+    }
+
+    /// The number behind `count` numbers that were drawn from 1 on, so `count + 1`.
+    pub fn after(count: u64) -> Self
+        requires { count < 99999 }
+        ensures { result ≡ count + 1 }
+    {
+        RefNo(count + 1)
     }
 
     /// The number 0.

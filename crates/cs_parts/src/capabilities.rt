@@ -1,6 +1,6 @@
 // Both ends of a file's capabilities, after the capabilities documentation of CephFS and the
 // comments of Linux's fs/ceph/caps.c.
-ghost use Rattle.std.specs.Prelude.{◌≡◌, ◌<◌, ◌+◌};
+ghost use Rattle.std.specs.Prelude.{◌≡◌, ◌<◌};
 ghost use Rattle.cs_parts.specs.Capabilities.{no_client_caps, no_server_caps, granted, revoked, delivered, acknowledged, held_back, is_complete};
 
 use cs_bits::Caps;
@@ -110,7 +110,7 @@ impl ServerCaps {
         ServerCaps {
             given: self.given.union(bits),
             held: self.held.union(bits),
-            seq: following(self.seq),
+            seq: Seq::after(self.seq.get()),
             max: self.max.max(max),
         }
     }
@@ -123,15 +123,8 @@ impl ServerCaps {
         ServerCaps {
             given: self.given.minus(bits),
             held: self.held,
-            seq: following(self.seq),
+            seq: Seq::after(self.seq.get()),
             max: self.max,
         }
     }
-}
-
-fn following(seq: Seq) -> Seq
-    requires { seq < 99998 }
-    ensures { result ≡ seq + 1 }
-{
-    seq.next().unwrap_or(seq)
 }

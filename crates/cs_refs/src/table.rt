@@ -83,7 +83,7 @@ impl Refs {
             });
         }
         let index = caller.get() as usize;
-        let number = following(self.begun[index]);
+        let number = RefNo::after(self.begun[index]);
         let live = Live {
             caller,
             number,
@@ -129,12 +129,4 @@ impl Refs {
     {
         writers_among(self.live.values().as_slice(), file) as u32
     }
-}
-
-// The number behind a count.
-fn following(count: u64) -> RefNo
-    requires { count < 99998 }
-    ensures { result ≡ count + 1 }
-{
-    RefNo::new(count + 1).unwrap_or(RefNo::zero())
 }

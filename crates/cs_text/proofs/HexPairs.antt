@@ -2,11 +2,12 @@
 use Rattle.std.proofs.Common.{◌≡◌, ◌∙◌, sym, ap, refl, ℕ, zero, suc, ◌+◌, ◌*◌, ◌/◌, ◌%◌, ◌<◌, ◌==◌, Bool, true, false, ◌&&◌, List, [], ◌∷◌, ◌++◌, length, slice_index, get_or, take, add-one, cond, Option, Some, None, Result, Ok, Err, arith, ◌⊎◌, inl, inr}
 use Rattle.std.specs.Prelude.{All, option_map}
 use Rattle.std.specs.List.{list_all}
-use Rattle.std.specs.Fmt.{digits}
-use Rattle.std.proofs.Math.Seq.{take-suc}
+use Rattle.std.specs.Str.{IsAscii, IsUtf8}
 use Rattle.std.proofs.lemmas.Bool.{and_parts, cases_eq, cases_lt, eqb-true}
 use Rattle.std.proofs.lemmas.Bool.Decides.{nat_tests}
 use Rattle.std.proofs.lemmas.List.Elements.{All-head, All-tail}
+use Rattle.std.proofs.lemmas.Str.{IsUtf8-from_ascii}
+use Rattle.std.proofs.lemmas.Str.Ascii.{IsAscii-nil, IsAscii-cons}
 use Rattle.hex.specs.Hex.{IsBytes, decode_of, decode_pairs, digit_or_error, encode_lower, encode_with, hex_digit_value, lower_digits, pair_value, value_at}
 use Rattle.hex.specs.declared.error.FromHexError.{FromHexError}
 use Rattle.hex.specs.declared.error.FromHexError.TheVariants.{OddLength}
@@ -209,21 +210,20 @@ hex_text-bytes (c ∷ d ∷ cs) bs h =
 
 -- ---- printing
 
--- a number below 16 prints as one digit
-pub digits_one : (n : ℕ) → n < 16 → digits 16 false n ≡ hex_digit n ∷ []
-unfolding digits
-digits_one n h =
-    let none : n / 16 ≡ 0 = omega arith in
-    let same : n % 16 ≡ n = omega arith in
-    rw (none, same) refl
-
-hex_text-append : (bs cs : List ℕ) → hex_text (bs ++ cs) ≡ hex_text bs ++ hex_text cs
+pub hex_text-append : (bs cs : List ℕ) → hex_text (bs ++ cs) ≡ hex_text bs ++ hex_text cs
 hex_text-append [] cs = refl
 hex_text-append (b ∷ bs) cs = ap (λ ds. hex_digit (b / 16) ∷ hex_digit (b % 16) ∷ ds) (hex_text-append bs cs)
 
--- the text of the first bytes, and of one more
-pub hex_text-more : (bs : List ℕ) (i b : ℕ) → i < length bs → b ≡ get_or bs i 0
-    → hex_text (take i bs) ++ hex_text (b ∷ []) ≡ hex_text (take (i + 1) bs)
-hex_text-more bs i b h e =
-    let grown : take (i + 1) bs ≡ take i bs ++ b ∷ [] = rw (add-one, e) (take-suc bs i 0 h) in
-    sym (ap hex_text grown ∙ hex_text-append (take i bs) (b ∷ []))
+digit_is_ascii : (n : ℕ) → n < 16 → hex_digit n < 128
+digit_is_ascii n h = grind (arith, nat_tests)
+
+-- the text is ASCII, and so it is UTF-8
+IsAscii-hex : (bs : List ℕ) → IsBytes bs → IsAscii (hex_text bs)
+IsAscii-hex [] h = IsAscii-nil
+IsAscii-hex (b ∷ bs) h =
+    let small : b < 256 = h 0 in
+    IsAscii-cons (hex_digit (b / 16)) (hex_digit (b % 16) ∷ hex_text bs) (digit_is_ascii (b / 16) (omega arith))
+    (IsAscii-cons (hex_digit (b % 16)) (hex_text bs) (digit_is_ascii (b % 16) (omega arith)) (IsAscii-hex bs (λ k. h (suc k))))
+
+pub IsUtf8-hex : (bs : List ℕ) → IsBytes bs → IsUtf8 (hex_text bs)
+IsUtf8-hex bs h = IsUtf8-from_ascii (hex_text bs) (IsAscii-hex bs h)

@@ -1,5 +1,5 @@
 // Bytes as pairs of lower-case hex digits.
-ghost use Rattle.std.specs.Prelude.{◌≡◌, ◌<◌, [], ◌∷◌, ◌++◌, ℕ, List, Some, All, OnOk, OnErr, IfOk};
+ghost use Rattle.std.specs.Prelude.{◌≡◌, ◌<◌, ◌≤◌, ◌++◌, ℕ, List, length, Some, All, OnOk, OnErr, IfOk};
 ghost use Rattle.std.specs.Fmt.{DisplaysOnOk};
 ghost use Rattle.std.specs.List.{list_all};
 ghost use Rattle.cs_text.specs.Hex.{hex_text, bytes_of_hex, is_hex_digit};
@@ -7,9 +7,10 @@ ghost use Rattle.cs_text.specs.Hex.{hex_text, bytes_of_hex, is_hex_digit};
 use cs_ids::{Bytes, Memory};
 use hex::FromHexError;
 use std::alloc::Global;
-use std::fmt;
+use std::{fmt, str};
 
-/// Bytes that print as two lower-case hex digits each.
+/// Bytes that print as two lower-case hex digits each, without memory: the `hex` crate writes up to
+/// 256 bytes at once into an array on the stack, and the writer gets each piece in one call.
 #[derive(Clone, Copy)]
 pub struct HexText<'a>(pub &'a [u8]);
 
@@ -17,18 +18,26 @@ impl fmt::Display for HexText<'_> {
     ghost output = { λ t. Some (hex_text t.0.now) };
 
     fn fmt<W: fmt::Write>(&self, f: &mut fmt::Formatter<W>) -> fmt::Result {
-        for byte in self.0 {
-            write_pair(*byte, f)?;
+        for piece in self.0.chunks(256) {
+            write_piece(piece, f)?;
         }
         Ok(())
     }
 }
 
-#[tactic(auto, using(crate::proofs::HexPairs::digits_one))]
-fn write_pair<W: fmt::Write>(byte: u8, f: &mut fmt::Formatter<W>) -> fmt::Result
-    ensures { DisplaysOnOk W.write_str_gives f.old result (Some (hex_text (byte ∷ []))) f.new }
+fn write_piece<W: fmt::Write>(piece: &[u8], f: &mut fmt::Formatter<W>) -> fmt::Result
+    requires { length piece.now ≤ 256 }
+    ensures { DisplaysOnOk W.write_str_gives f.old result (Some (hex_text piece.now)) f.new }
 {
-    write!(f, "{:x}{:x}", byte / 16, byte % 16)
+    let mut room = [0u8; 512];
+    let digits = &mut room[..2 * piece.len()];
+    let Ok(()) = hex::encode_to_slice(piece, digits) else {
+        unreachable!()
+    };
+    let Ok(text) = str::from_utf8(digits) else {
+        unreachable!()
+    };
+    f.write_str(text)
 }
 
 /// Adds two lower-case hex digits for each byte. After `Memory` the bytes of `out` are as before.
@@ -48,7 +57,7 @@ pub fn read_hex(alloc: Global, b: &[u8]) -> Result<Option<Bytes>, Memory>
         return Ok(None);
     }
     match hex::decode(alloc, b) {
-        Ok(bytes) => Ok(Some(Bytes::from_slice(alloc, bytes.as_slice())?)),
+        Ok(bytes) => Ok(Some(Bytes::from_vec(bytes))),
         Err(fault) => match fault {
             FromHexError::OutOfMemory => Err(Memory),
             _ => Ok(None),

@@ -6,9 +6,9 @@ pub returns-then-not-are_hex_digits : goal.returns-then-not-are_hex_digits
 returns-then-not-are_hex_digits c =
     sym (bytes_of_hex-other c.args.b.now (sym c.are_hex_digits.ensures ∙ c.if-not-are_hex_digits.true))
 
-pub returns-in_ok-from_slice-in-Ok : goal.returns-in_ok-from_slice-in-Ok
-returns-in_ok-from_slice-in-Ok c =
-    ap Some (c.in_ok-from_slice-in-Ok.ensures ∙ c.as_slice.ensures.value)
+pub returns-in-Ok : goal.returns-in-Ok
+returns-in-Ok c =
+    ap Some c.from_vec.ensures
     ∙ sym (decode_of-same c.args.b.now (Ok c.in-Ok.bytes.items) (sym c.are_hex_digits.ensures ∙ c.if-not-are_hex_digits.false) c.in-Ok.ensures.ok)
 
 pub returns-in_default : goal.returns-in_default

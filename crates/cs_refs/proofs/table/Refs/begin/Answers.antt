@@ -6,9 +6,9 @@ use Rattle.cs_refs.proofs.table.Refs.begin.Goals as goal
 
 pub invariant_of-self-2 : goal.invariant_of-self-2
 invariant_of-self-2 c =
-    let number : c.following-number.result ≡ slice_index c.self.inside.begun c.args.caller + 1 =
-    rw (← c.get-index.ensures.value) c.following-number.ensures in
-    let above : slice_index c.self.inside.begun c.args.caller < c.following-number.result = omega arith in
+    let number : c.after-number.result ≡ slice_index c.self.inside.begun c.args.caller + 1 =
+    rw (← c.get-index.ensures.value) c.after-number.ensures in
+    let above : slice_index c.self.inside.begun c.args.caller < c.after-number.result = omega arith in
     let inside : c.args.caller < length c.self.inside.begun = omega (arith, c.get-index.ensures.value, c.get-index.ensures.range) in
     let entries = c.in_ok-insert.ensures.entries ∙ insert_entry-undrawn _ c.self.inside.live _ _ c.self.invariant.each above in
     rw (c.get-index.ensures.value, c.get.ensures.value) (record {
@@ -18,8 +18,8 @@ invariant_of-self-2 c =
 
 pub returns-clause-live : goal.returns-clause-live
 returns-clause-live c =
-    let number : c.following-number.result ≡ slice_index c.self.inside.begun c.args.caller + 1 =
-    rw (← c.get-index.ensures.value) c.following-number.ensures in
-    let above : slice_index c.self.inside.begun c.args.caller < c.following-number.result = omega arith in
+    let number : c.after-number.result ≡ slice_index c.self.inside.begun c.args.caller + 1 =
+    rw (← c.get-index.ensures.value) c.after-number.ensures in
+    let above : slice_index c.self.inside.begun c.args.caller < c.after-number.result = omega arith in
     let entries = c.in_ok-insert.ensures.entries ∙ insert_entry-undrawn _ c.self.inside.live _ _ c.self.invariant.each above in
     rw (← c.self.view_is) (ap values_of entries ∙ map-append _ c.self.inside.live.entries _)
