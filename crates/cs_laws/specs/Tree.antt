@@ -24,9 +24,9 @@ abbrev pub path_then : Event → Answer → (ℕ → List ℕ) → ℕ → List 
 path_then (events.Dir e p) answers.Made up d = if e == d then e ∷ up p else up d
 path_then _ _ up d = up d
 
--- a directory and those above it, the nearest first and the root last; one that wasn't made stands below the root
+-- a directory and those above it, the nearest first and the root last; of one that wasn't made, in which nothing lies, the root
 abbrev pub path : List Entry → ℕ → List ℕ
-path [] d = if d == 1 then 1 ∷ [] else d ∷ 1 ∷ []
+path [] d = 1 ∷ []
 path (x ∷ h) d = path_then x.event x.answer (λ e. path h e) d
 
 abbrev pub home_then : Event → Answer → ℕ → ℕ → ℕ

@@ -7,10 +7,11 @@ use Rattle.std.proofs.Math.Seq.{drop-cons, take-suc}
 use Rattle.cs_laws.specs.declared.records.Record.{Record}
 use Rattle.cs_laws.specs.declared.records.RecordBody.TheVariants as bodies
 use Rattle.cs_laws.specs.Realms.{Own}
-use Rattle.cs_laws.specs.Standing.{dir_of, greatest_number, is_removal, is_removed, number_of, told}
+use Rattle.cs_laws.specs.Standing.{dir_of, greatest_number, is_removal, is_removed, number_of}
 use Rattle.cs_laws.specs.declared.messages.Message.{Message}
 use Rattle.cs_tree.specs.declared.directories.Directory.{Directory}
 use Rattle.cs_tree.specs.Directories.{AreDistinct, inos, path_of}
+use Rattle.cs_records.specs.Commits.{told}
 use Rattle.cs_records.specs.Kept.{IsKept}
 use Rattle.cs_records.specs.Log.{IsLog, IsNext, IsNextRemoval, IsNextSnap}
 use Rattle.cs_records.specs.Names.{last_named, named_then}

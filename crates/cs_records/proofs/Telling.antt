@@ -14,8 +14,9 @@ use Rattle.cs_laws.specs.declared.records.Record.{Record}
 use Rattle.cs_laws.specs.declared.records.RecordBody.{RecordBody}
 use Rattle.cs_laws.specs.declared.records.RecordBody.TheVariants as bodies
 use Rattle.cs_laws.specs.Realms as realms
-use Rattle.cs_laws.specs.Realms.{Own, changed_records, is_realm, is_snap_of, own, own_then, realm_record}
-use Rattle.cs_laws.specs.Standing.{dir_of, has_snap, told, told_of}
+use Rattle.cs_laws.specs.Realms.{Own, is_realm, is_snap_of, own, own_then, realm_record}
+use Rattle.cs_laws.specs.Standing.{dir_of, has_snap, news_of}
+use Rattle.cs_records.specs.Commits.{changed_records, told}
 use Rattle.cs_records.specs.Log.{IsLog, IsNext}
 use Rattle.cs_records.specs.Realms.{changed_by, had, is_at, is_realm_by, no_own}
 use Rattle.cs_records.specs.Told.{IsKnown, changed_own, is_new_by, message_by}
@@ -114,7 +115,7 @@ new_by of rs d same = ap (λ (g : ℕ → Option Own). not (is_realm_by g d)) (�
 
 pub message_told : (dirs : ℕ → Option ℕ) (of now : ℕ → Option Own) (rs : List Record) (b : RecordBody) (xs : List Directory) → IsLog rs → IsNext rs b → Knows dirs rs
     → ((d : ℕ) → of d ≡ had d rs) → ((d : ℕ) → now d ≡ had d (rs ++ record { body = b } ∷ [])) → AreDistinct xs
-    → message_by dirs now xs (is_new_by dirs of b) b ≡ told_of rs (changed_records (path_of xs) (inos xs) rs (rs ++ record { body = b } ∷ [])) b
+    → message_by dirs now xs (is_new_by dirs of b) b ≡ news_of rs (changed_records (path_of xs) (inos xs) rs (rs ++ record { body = b } ∷ [])) b
 message_told dirs of now rs (bodies.Flush snap f tid follows meta) xs log next knows same after distinct = refl
 message_told dirs of now rs (bodies.Snap n d name) xs log next knows same after distinct =
     let drawn = next.next in
@@ -133,7 +134,7 @@ message_told dirs of now rs (bodies.Removal s n) xs log next knows same after di
 pub told_append : (path : ℕ → List ℕ) (ds : List ℕ) (before rs ss : List Record) → told path ds before (rs ++ ss) ≡ told path ds before rs ++ told path ds (before ++ rs) ss
 told_append path ds before [] ss = ap (λ xs. told path ds xs ss) (sym (append-nil before))
 told_append path ds before (r ∷ rs) ss =
-    ap (λ ms. told_of before (changed_records path ds before (before ++ r ∷ [])) r.body ∷ ms)
+    ap (λ ms. news_of before (changed_records path ds before (before ++ r ∷ [])) r.body ∷ ms)
     (told_append path ds (before ++ r ∷ []) rs ss ∙ ap (λ xs. told path ds (before ++ r ∷ []) rs ++ told path ds xs ss) (append_assoc before (r ∷ []) rs))
 
 -- one of the records that aren't durable becomes so, and the client is told of it

@@ -1,4 +1,5 @@
 pub mod Below
+pub mod Commits
 pub mod Example
 pub mod Kept
 pub mod Log

@@ -3,8 +3,9 @@ ghost use Rattle.std.specs.Prelude.{◌≡◌, ◌<◌, ℕ, List, [], ◌∷◌
 ghost use Rattle.std.specs.List.{filter_map};
 ghost use Rattle.cs_laws.specs.declared.records.Record.{Record};
 ghost use Rattle.cs_laws.specs.declared.records.RecordBody.TheVariants as bodies;
-ghost use Rattle.cs_laws.specs.Realms.{changed_records, is_realm};
-ghost use Rattle.cs_laws.specs.Standing.{dir_of, greatest_number, has_snap_named, told};
+ghost use Rattle.cs_laws.specs.Realms.{is_realm};
+ghost use Rattle.cs_laws.specs.Standing.{dir_of, greatest_number, has_snap_named};
+ghost use Rattle.cs_records.specs.Commits.{changed_records, told};
 ghost use Rattle.cs_records.specs.Example.{directories, first, names_after_removal, path, removal, root, second, told_first, told_removal, told_root, told_second};
 ghost use Rattle.cs_records.specs.Log.{IsLog, IsNextRemoval};
 ghost use Rattle.cs_records.specs.Below.{snapped_record, removed_record};

@@ -2,8 +2,9 @@
 ghost use Rattle.std.specs.Prelude.{◌≡◌, ◌++◌, ◌∷◌, ◌+◌, ◌<◌, ◌==◌, if◌then◌else◌, [], ℕ, Some, nat_eq, nat_lt, length, take, drop, vec_len, vec_capacity, true, false, OnOk, OnErr, IfOk};
 ghost use Rattle.cs_laws.specs.declared.records.Record.{Record};
 ghost use Rattle.cs_laws.specs.declared.records.RecordBody.TheVariants as bodies;
-ghost use Rattle.cs_laws.specs.Standing.{dir_of, greatest_number, has_snap, has_snap_named, is_removed, told};
+ghost use Rattle.cs_laws.specs.Standing.{dir_of, greatest_number, has_snap, has_snap_named, is_removed};
 ghost use Rattle.cs_tree.specs.Directories.{inos, path_of};
+ghost use Rattle.cs_records.specs.Commits.{told};
 ghost use Rattle.cs_records.specs.Realms.{own_in};
 ghost use Rattle.cs_records.specs.Records.{all};
 ghost use Rattle.cs_records.specs.Told.{IsKnown, changed_own, is_new_by, message_by, realm_by};

@@ -15,13 +15,15 @@ use Rattle.cs_laws.specs.declared.records.RecordBody.{RecordBody}
 use Rattle.cs_laws.specs.declared.records.RecordBody.TheVariants as bodies
 use Rattle.cs_laws.specs.Flight.{cap_message}
 use Rattle.cs_laws.specs.Flushes.{acked}
-use Rattle.cs_laws.specs.History.{server, to_client, durable, fresh}
-use Rattle.cs_laws.specs.Journal.{entry, history, journal}
-use Rattle.cs_laws.specs.Standing.{told_of, told}
+use Rattle.cs_laws.specs.History.{durable, fresh, last_sent, server, to_client}
+use Rattle.cs_laws.specs.Journal.{entry}
+use Rattle.cs_laws.specs.Carried.{realms_of}
+use Rattle.cs_laws.specs.Standing.{news, news_of, news_on}
+use Rattle.cs_snapctx.specs.Records.{with_records}
 use Rattle.cs_laws.specs.Tree.{directories, path}
-use Rattle.cs_laws.specs.Realms.{changed_records}
-use Rattle.cs_theorems.specs.Flushes.{tids}
-use Rattle.cs_theorems.specs.Runs.{IsRun}
+use Rattle.cs_laws.specs.Realms.{differing, realm_records}
+use Rattle.cs_laws.specs.Laws.{tids}
+use Rattle.cs_laws.specs.Runs.{IsRun}
 use Rattle.cs_theorems.proofs.Listed.{Member, Each, each_nil, each_cons, each_append, each_end, each_tail, member_left, member_right}
 use Rattle.cs_theorems.proofs.Rising.{at_first}
 use Rattle.cs_theorems.proofs.Chains.{tids_append}
@@ -50,21 +52,22 @@ own_tid f tid xs = subst (λ b. Member tid (cond b (tid ∷ []) [] ++ xs)) (sym 
 
 -- what is told of a record that stands behind these
 told_stands : (ds rs before : List Record) (realms : List RealmRecord) (body : RecordBody)
-    → AckStands (ds ++ record { body = body } ∷ rs) (told_of before realms body)
+    → AckStands (ds ++ record { body = body } ∷ rs) (news_of before realms body)
 told_stands ds rs before realms (bodies.Flush snap f tid follows meta) =
     let r : Record = record { body = bodies.Flush snap f tid follows meta } in
     subst (λ xs. Member tid xs) (sym (tids_append f ds (r ∷ rs))) (member_right tid (tids f ds) (tids f (r ∷ rs)) (own_tid f tid (tids f rs)))
 told_stands ds rs before realms (bodies.Snap number d name) = tt
 told_stands ds rs before realms (bodies.Removal s number) = tt
 
-all_told_stand : (up : ℕ → List ℕ) (dirs : List ℕ) (before ds rs : List Record) → Each (λ m. AckStands (ds ++ rs) m) (told up dirs before rs)
-all_told_stand up dirs before ds [] = each_nil (λ m. AckStands (ds ++ []) m)
-all_told_stand up dirs before ds (r ∷ rs) =
-    let realms : List RealmRecord = changed_records up dirs before (before ++ r ∷ []) in
-    each_cons (λ m. AckStands (ds ++ r ∷ rs) m) (told_of before realms r.body) (told up dirs (before ++ r ∷ []) rs)
-    (told_stands ds rs before realms r.body)
-    (subst (λ ss. Each (λ m. AckStands ss m) (told up dirs (before ++ r ∷ []) rs)) (append_assoc ds (r ∷ []) rs)
-    (all_told_stand up dirs (before ++ r ∷ []) (ds ++ r ∷ []) rs))
+all_told_stand : (up : ℕ → List ℕ) (dirs : List ℕ) (ss : List RealmRecord) (before ds rs : List Record) → Each (λ m. AckStands (ds ++ rs) m) (news up dirs ss before rs)
+all_told_stand up dirs ss before ds [] = each_nil (λ m. AckStands (ds ++ []) m)
+all_told_stand up dirs ss before ds (r ∷ rs) =
+    let m : Message = news_on up dirs ss before r in
+    let now : List RealmRecord = with_records (realms_of m) ss in
+    each_cons (λ k. AckStands (ds ++ r ∷ rs) k) m (news up dirs now (before ++ r ∷ []) rs)
+    (told_stands ds rs before (differing ss (realm_records up dirs (before ++ r ∷ []))) r.body)
+    (subst (λ xs. Each (λ k. AckStands xs k) (news up dirs now (before ++ r ∷ []) rs)) (append_assoc ds (r ∷ []) rs)
+    (all_told_stand up dirs now (before ++ r ∷ []) (ds ++ r ∷ []) rs))
 
 acks_message : (f : ℕ) (ds : List Record) (q : List Message) (was : ℕ → Bool) (m : Message) → AckStands ds m → Acks f ds q was → Acks f ds (q ++ m ∷ []) was
 acks_message f ds q was m new i = record { flying = each_end (λ k. AckStands ds k) q m i.flying new; told = i.told }
@@ -84,10 +87,10 @@ acks_told f g t ds q was i =
           (λ _. i.told n);
     }
 
-acks_commit : (f : ℕ) (up : ℕ → List ℕ) (dirs : List ℕ) (ds fs : List Record) (q : List Message) (was : ℕ → Bool) → Acks f ds q was
-    → Acks f (ds ++ fs) (q ++ told up dirs ds fs) was
-acks_commit f up dirs ds fs q was i = record {
-  flying = each_append (λ m. AckStands (ds ++ fs) m) q (told up dirs ds fs) (λ m there. ack_stays ds fs m (i.flying m there)) (all_told_stand up dirs ds ds fs);
+acks_commit : (f : ℕ) (up : ℕ → List ℕ) (dirs : List ℕ) (ss : List RealmRecord) (ds fs : List Record) (q : List Message) (was : ℕ → Bool) → Acks f ds q was
+    → Acks f (ds ++ fs) (q ++ news up dirs ss ds fs) was
+acks_commit f up dirs ss ds fs q was i = record {
+  flying = each_append (λ m. AckStands (ds ++ fs) m) q (news up dirs ss ds fs) (λ m there. ack_stays ds fs m (i.flying m there)) (all_told_stand up dirs ss ds ds fs);
   told = λ n is. stands_left f n ds fs (i.told n is);
 }
 
@@ -130,18 +133,11 @@ acked_step p h (e.Grant g bits end) i = step_grant h g bits end _ (grant_is h g 
 acked_step p h (e.Revoke g bits) i = step_revoke h g bits _ (revoke_is h g bits) i
 acked_step p h e.ToClient i = step_to_client h _ (first_is h) i
 acked_step p h e.Commit i =
-    λ f. acks_commit f (λ d. path h d) (directories h) (durable h) (fresh h) (to_client h) (λ n. acked h f n) (i f)
+    λ f. acks_commit f (λ d. path h d) (directories h) (last_sent h) (durable h) (fresh h) (to_client h) (λ n. acked h f n) (i f)
 acked_step p h _ i = i
-
-acked_steps : (p : ℕ) (es : List Event) (h : List Entry) → AllAcked h → AllAcked (history p h es)
-acked_steps p [] h i = i
-acked_steps p (x ∷ es) h i = acked_steps p es (entry p h x ∷ h) (acked_step p h x i)
 
 pub acked_first : AllAcked []
 acked_first f = record { flying = each_nil (λ m. AckStands [] m); told = λ n is. absurd (true≢false (sym is)) }
-
-pub all_acked : (p : ℕ) (es : List Event) → AllAcked (journal p es)
-all_acked p es = acked_steps p es [] acked_first
 
 pub run_acked : (p : ℕ) (h : List Entry) → IsRun p h → AllAcked h
 run_acked p h run = of_run p AllAcked acked_first (λ g x fit before i. acked_step p g x i) h run

@@ -8,8 +8,10 @@ use Rattle.cs_laws.specs.declared.events.Event.TheVariants as e
 use Rattle.cs_laws.specs.declared.answers.Answer.{Answer}
 use Rattle.cs_laws.specs.declared.answers.Entry.{Entry}
 use Rattle.cs_laws.specs.Answers.{answer}
-use Rattle.cs_laws.specs.Journal.{history, journal, entry}
+use Rattle.cs_laws.specs.Journal.{entry}
 use Rattle.cs_laws.specs.Laws.{AckIsFree, AcksAreFree}
+use Rattle.cs_laws.specs.Runs.{IsRun}
+use Rattle.cs_theorems.proofs.Runs.{of_run}
 use Rattle.cs_theorems.proofs.Inversions.{CheckIs, check_unknown, check_nothing, check_hold, check_ack, check_is}
 
 empty_is : (c : Caps) → is_empty c ≡ true → c ≡ no_caps
@@ -25,9 +27,5 @@ ack_is_free : (pages : ℕ) (h : List Entry) (x : Event) → AckIsFree x (answer
 ack_is_free pages h (e.Check f) = check_is_free h f _ (check_is h f)
 ack_is_free pages h _ = tt
 
-steps : (pages : ℕ) (es : List Event) (h : List Entry) → AcksAreFree h → AcksAreFree (history pages h es)
-steps pages [] h free = free
-steps pages (x ∷ es) h free = steps pages es (entry pages h x ∷ h) (ack_is_free pages h x, free)
-
-pub acks_free : (pages : ℕ) (es : List Event) → AcksAreFree (journal pages es)
-acks_free pages es = steps pages es [] tt
+pub acks_free : (p : ℕ) (h : List Entry) → IsRun p h → AcksAreFree h
+acks_free p h run = of_run p AcksAreFree tt (λ g x fit before free. (ack_is_free p g x, free)) h run

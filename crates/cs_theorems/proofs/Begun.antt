@@ -12,9 +12,12 @@ use Rattle.cs_laws.specs.declared.answers.Answer.{Answer}
 use Rattle.cs_laws.specs.declared.answers.Entry.{Entry}
 use Rattle.cs_laws.specs.Events.{begun}
 use Rattle.cs_laws.specs.History.{live}
-use Rattle.cs_laws.specs.Journal.{history, journal, entry}
+use Rattle.cs_laws.specs.Journal.{entry}
 use Rattle.cs_laws.specs.References.{without_named}
-use Rattle.cs_theorems.specs.References.{WasIssued, LiveWereIssued, drawn, IsEachOnce, NumbersAreDrawnOnce}
+use Rattle.cs_laws.specs.Laws.{WasIssued}
+use Rattle.cs_laws.specs.Runs.{IsRun}
+use Rattle.cs_theorems.proofs.Runs.{of_run}
+use Rattle.cs_theorems.specs.References.{LiveWereIssued, drawn, IsEachOnce, NumbersAreDrawnOnce}
 use Rattle.cs_theorems.proofs.Listed.{Member, Each, each_nil, each_cons, each_end}
 use Rattle.cs_theorems.proofs.Inversions.{BeginIs, begin_unknown, begin_caps, begin_snap, begin_max, begin_full, begun_ref, begin_is, EndIs, end_unknown, ended, end_is}
 
@@ -55,15 +58,11 @@ issued_step p h (e.Begin c f b n) i = issued_begin h c f b n _ (begin_is h c f b
 issued_step p h (e.End c name) i = issued_end h c name _ (end_is h c name) i
 issued_step p h _ i = λ r m. inr (i r m)
 
-issued_steps : (p : ℕ) (es : List Event) (h : List Entry) → LiveWereIssued h → LiveWereIssued (history p h es)
-issued_steps p [] h i = i
-issued_steps p (x ∷ es) h i = issued_steps p es (entry p h x ∷ h) (issued_step p h x i)
-
 pub nothing_issued : LiveWereIssued []
 nothing_issued = each_nil (WasIssued [])
 
-pub live_were_issued : (p : ℕ) (es : List Event) → LiveWereIssued (journal p es)
-live_were_issued p es = issued_steps p es [] nothing_issued
+pub live_were_issued : (p : ℕ) (h : List Entry) → IsRun p h → LiveWereIssued h
+live_were_issued p h run = of_run p LiveWereIssued nothing_issued (λ g x fit before i. issued_step p g x i) h run
 
 -- Numbers
 
@@ -99,9 +98,6 @@ drawn_step : (p : ℕ) (h : List Entry) (x : Event) → AllDrawn h → AllDrawn 
 drawn_step p h (e.Begin c f b n) i = drawn_begin h c f b n _ (begin_is h c f b n) i
 drawn_step p h _ i = i
 
-drawn_steps : (p : ℕ) (es : List Event) (h : List Entry) → AllDrawn h → AllDrawn (history p h es)
-drawn_steps p [] h i = i
-drawn_steps p (x ∷ es) h i = drawn_steps p es (entry p h x ∷ h) (drawn_step p h x i)
-
-pub drawn_once : (p : ℕ) (es : List Event) → NumbersAreDrawnOnce (journal p es)
-drawn_once p es = λ c. (drawn_steps p es [] (λ d. record { low = each_nil (λ k. k ≤ 0); once = tt }) c).once
+pub drawn_once : (p : ℕ) (h : List Entry) → IsRun p h → NumbersAreDrawnOnce h
+drawn_once p h run =
+    λ c. (of_run p AllDrawn (λ d. record { low = each_nil (λ k. k ≤ 0); once = tt }) (λ g x fit before i. drawn_step p g x i) h run c).once

@@ -13,10 +13,11 @@ use Rattle.cs_laws.specs.declared.messages.Message.TheVariants as messages
 use Rattle.cs_laws.specs.declared.records.Record.{Record}
 use Rattle.cs_laws.specs.Flushes.{Flush, flush_message}
 use Rattle.cs_laws.specs.History.{to_server, durable, fresh, present, sent, snap, stand}
-use Rattle.cs_laws.specs.Journal.{entry, history, journal}
+use Rattle.cs_laws.specs.Journal.{entry}
 use Rattle.cs_laws.specs.Standing.{recorded, recorded_of}
-use Rattle.cs_theorems.specs.Flushes.{tid_of, tids}
-use Rattle.cs_theorems.specs.Runs.{IsRun}
+use Rattle.cs_laws.specs.Laws.{tid_on, tids}
+use Rattle.cs_laws.specs.Runs.{IsRun}
+use Rattle.cs_laws.specs.Carried.{flush_in, flush_on}
 use Rattle.cs_theorems.proofs.Rising.{RisesTo, rises_end, rises_more, at_first}
 use Rattle.cs_theorems.proofs.Runs.{of_run}
 use Rattle.cs_theorems.proofs.Inversions.{FlushIs, head_unknown, head_snap, head_clean, head_sent, flush_is, CheckIs, check_unknown, check_nothing, check_hold, check_ack, check_is, FlushSnapsIs, flush_unknown, flush_none, flush_writing, flush_sent, flush_snaps_is, ReceivedIs, received_idle, received_ack, received_flush, received_is, SnapIs, snap_unknown, snap_exists, snap_taken, snap_is, RemoveIs, remove_none, remove_gone, removed, remove_is}
@@ -31,7 +32,7 @@ abbrev pub flight : ℕ → List Message → List ℕ
 flight f q = flat_map (λ m. flight_tid f m) q
 
 pub tids_append : (f : ℕ) (rs ss : List Record) → tids f (rs ++ ss) ≡ tids f rs ++ tids f ss
-tids_append f rs ss = flat_map-append (λ r. tid_of f r.body) rs ss
+tids_append f rs ss = flat_map-append (λ r. tid_on f (flush_in r.body)) rs ss
 
 pub flight_one : (f : ℕ) (x : Flush) → flight_tid f (flush_message x) ≡ cond (x.file == f) (x.tid ∷ []) []
 flight_one f x = cond_both x.snap _ _ (λ m. flight_tid f m ≡ cond (x.file == f) (x.tid ∷ []) []) (λ _. refl) (λ _. refl)
@@ -105,9 +106,9 @@ once_more : (b : Bool) (tid : ℕ) (xs : List ℕ) → cond b (tid ∷ []) [] ++
 once_more b tid xs = ap (λ ys. ys ++ xs) (sym (append-nil (cond b (tid ∷ []) [])))
 
 -- the number of a flush on its way is that of its record
-flush_recorded : (f : ℕ) (y : Flush) (xs : List ℕ) → flight_tid f (flush_message y) ++ xs ≡ tids f (recorded_of (flush_message y)) ++ xs
+flush_recorded : (f : ℕ) (y : Flush) (xs : List ℕ) → flight_tid f (flush_message y) ++ xs ≡ tids f (recorded_of (flush_on (flush_message y))) ++ xs
 flush_recorded f y xs =
-    cond_both y.snap _ _ (λ m. flight_tid f m ++ xs ≡ tids f (recorded_of m) ++ xs)
+    cond_both y.snap _ _ (λ m. flight_tid f m ++ xs ≡ tids f (recorded_of (flush_on m)) ++ xs)
     (λ _. once_more (y.file == f) y.tid xs) (λ _. once_more (y.file == f) y.tid xs)
 
 -- a message is taken, where it leaves these records
@@ -145,15 +146,8 @@ rise_step p h (e.RmSnap t) i = step_remove h t _ (remove_is h t) i
 rise_step p h e.Commit i = λ f. subst (λ rs. Chain f rs (to_server h) (length (sent h))) (sym (append-nil (stand h))) (i f)
 rise_step p h _ i = i
 
-rise_steps : (p : ℕ) (es : List Event) (h : List Entry) → AllRise h → AllRise (history p h es)
-rise_steps p [] h i = i
-rise_steps p (x ∷ es) h i = rise_steps p es (entry p h x ∷ h) (rise_step p h x i)
-
 pub rise_first : AllRise []
 rise_first f = record { rises = omega arith }
-
-pub all_rise : (p : ℕ) (es : List Event) → AllRise (journal p es)
-all_rise p es = rise_steps p es [] rise_first
 
 pub run_rise : (p : ℕ) (h : List Entry) → IsRun p h → AllRise h
 run_rise p h run = of_run p AllRise rise_first (λ g x fit before i. rise_step p g x i) h run

@@ -1,9 +1,11 @@
 -- The context of a file that the client knows changes only where a snapshot or a removal is told, and its seq rises then.
-use Rattle.std.proofs.Common.{◌≡◌, ◌⊎◌, refl, sym, ap, ◌∙◌, subst, ℕ, ◌<◌, ◌≤◌, max, true, false, List, [], ◌∷◌, ◌++◌, append_assoc, inl, inr, ⊎_elim, arith}
-use Rattle.std.proofs.lemmas.Bool.{both_ways}
+use Rattle.std.proofs.Common.{◌≡◌, ◌⊎◌, refl, sym, ap, ◌∙◌, subst, ℕ, ◌<◌, ◌≤◌, ◌==◌, Bool, true, false, cond, nat_le, List, [], ◌∷◌, Option, Some, None, find, unwrap_or, inl, inr, ⊎_elim, arith}
+use Rattle.std.specs.Option.{option_and_then, option_map}
+use Rattle.std.proofs.lemmas.Bool.{and_parts, both_ways, le-leb, leb-true, or_cases, or_left}
 use Rattle.cs_snapctx.specs.declared.realm.RealmRecord.{RealmRecord}
-use Rattle.cs_snapctx.specs.Context.{Context}
-use Rattle.cs_snapctx.specs.Records.{with_records}
+use Rattle.cs_snapctx.specs.Context.{Context, empty_context}
+use Rattle.cs_snapctx.specs.Contexts.{context as realm_context, context_of}
+use Rattle.cs_snapctx.specs.Records.{is_known, root_record}
 use Rattle.cs_laws.specs.declared.events.Event.{Event}
 use Rattle.cs_laws.specs.declared.events.Event.TheVariants as e
 use Rattle.cs_laws.specs.declared.answers.Answer.{Answer}
@@ -11,78 +13,31 @@ use Rattle.cs_laws.specs.declared.answers.Answer.TheVariants as a
 use Rattle.cs_laws.specs.declared.answers.Entry.{Entry}
 use Rattle.cs_laws.specs.declared.messages.Message.{Message}
 use Rattle.cs_laws.specs.declared.messages.Message.TheVariants as messages
-use Rattle.cs_laws.specs.declared.records.Record.{Record}
 use Rattle.cs_laws.specs.Answers.{answer}
-use Rattle.cs_laws.specs.Context.{first_told, path_context}
-use Rattle.cs_laws.specs.Events.{client_knows, setup_file}
-use Rattle.cs_laws.specs.History.{context, durable, fresh, realms, to_client}
+use Rattle.cs_laws.specs.Context.{path_context, realms_then, with_first}
+use Rattle.cs_laws.specs.Events.{client_knows, is_setup, setup_file}
+use Rattle.cs_laws.specs.History.{context, realms, to_client}
 use Rattle.cs_laws.specs.Journal.{entry}
-use Rattle.cs_laws.specs.Standing.{greatest_number, number_of}
-use Rattle.cs_laws.specs.Tree.{directories, file_path, home, is_directory, path}
-use Rattle.cs_theorems.specs.Contexts.{ContextGoesOn, ContextsNeverFall, HadContext, Moves}
-use Rattle.cs_theorems.proofs.Drawn.{AllDraw, draws_within}
-use Rattle.cs_theorems.proofs.Fronts.{Told, front_told}
+use Rattle.cs_laws.specs.Owed.{had_reached}
+use Rattle.cs_laws.specs.Runs.{CanFollow, all_setup}
+use Rattle.cs_laws.specs.Tree.{client_file_path}
+use Rattle.cs_theorems.specs.Contexts.{ContextsNeverFall, HadContext, Rises}
+use Rattle.cs_theorems.proofs.Linked.{told_rises}
 use Rattle.cs_theorems.proofs.Inversions.{FirstIs, first_idle, first_cap, first_flush_ack, first_snap, first_is}
 use Rattle.cs_theorems.proofs.Known.{known_then}
 use Rattle.cs_theorems.proofs.Paths.{path_stays}
-use Rattle.cs_theorems.proofs.RealmPaths.{path_is_way, way_context}
 use Rattle.cs_theorems.proofs.Settings.{Setting}
-use Rattle.cs_theorems.proofs.WayContexts.{way_grows, way_low}
-
--- what the first message tells
-abbrev pub ToldAt : List Entry → ℕ → List RealmRecord → List Message → Type 0
-ToldAt h n now q = Told (λ d. is_directory h d) (λ d. path h d) (directories h) (realms h) n now q (durable h) (fresh h)
-
-pub told_at : (h : List Entry) (n d : ℕ) (now : List RealmRecord) (q : List Message) → to_client h ≡ messages.Snap n d now ∷ q → Setting h → ToldAt h n now q
-told_at h n d now q there i =
-    front_told (λ k. is_directory h k) (λ k. path h k) (directories h) (realms h) n d now q (to_client h) (durable h) (fresh h) there refl i.listing.listed i.front
 
 -- a snapshot or a removal is told
 pub told_moves : (h : List Entry) (n d : ℕ) (now : List RealmRecord) (q : List Message) (f : ℕ) → to_client h ≡ messages.Snap n d now ∷ q → Setting h
-    → Moves n (context h f) (path_context (file_path h f) (first_told (to_client h) (realms h)))
-told_moves h n d now q f there i =
-    subst (λ p. Moves n (context h f) (path_context (file_path h f) (first_told p (realms h)))) (sym there)
-    (⊎_elim
-    (λ same. inl (new ∙ (same ∙ sym old)))
-    (λ rises. let seq : now_context.seq ≡ number_of t.next.body = ap (λ (c : Context). c.seq) new ∙ rises in
-    let was : (context h f).seq ≡ (way_context t.next.before way).seq = ap (λ (c : Context). c.seq) old in
-    inr (omega (arith, seq, was, low, above), omega (arith, seq, t.next.number)))
-    (way_grows t.next.before r way above))
-  where
-    t : ToldAt h n now q
-    t = told_at h n d now q there i
-
-    r : Record
-    r = record { body = t.next.body }
-
-    way : List ℕ
-    way = file_path h f
-
-    now_context : Context
-    now_context = path_context (file_path h f) (with_records now (realms h))
-
-    old : context h f ≡ way_context t.next.before way
-    old = path_is_way (λ k. is_directory h k) (λ k. path h k) t.next.before (realms h) i.tree t.before t.next.has (file_path h f) (i.tree.ways (home h f))
-
-    new : now_context ≡ way_context (t.next.before ++ r ∷ []) way
-    new = path_is_way (λ k. is_directory h k) (λ k. path h k) (t.next.before ++ r ∷ []) (with_records now (realms h)) i.tree t.after t.has (file_path h f) (i.tree.ways (home h f))
-
-    split : durable h ++ fresh h ≡ t.next.before ++ r ∷ (t.next.rest ++ fresh h)
-    split = ap (λ rs. rs ++ fresh h) t.next.whole ∙ append_assoc t.next.before (r ∷ t.next.rest) (fresh h)
-
-    above : greatest_number t.next.before < number_of t.next.body
-    above =
-        let draws = draws_within 0 t.next.before r (t.next.rest ++ fresh h) (subst (λ rs. AllDraw 0 rs) split i.drawn) in
-        omega (arith, t.next.draws (max 0 (greatest_number t.next.before)) draws, t.next.number)
-
-    low : (way_context t.next.before way).seq ≤ greatest_number t.next.before
-    low = way_low t.next.before way
+    → Rises (context h f) (path_context (client_file_path h f) (with_first (to_client h) (realms h)))
+told_moves h n d now q f there i = told_rises h n d now q there i.front f i.tree i.drawn
 
 goes_on_client : (h : List Entry) (f : ℕ) (x : Answer) → FirstIs h x → Setting h
-    → ContextGoesOn e.ToClient x (context h f) (context (record { event = e.ToClient; answer = x } ∷ h) f)
-goes_on_client h f x first_idle i = refl
-goes_on_client h f x (first_cap g seq bits end q there) i = refl
-goes_on_client h f x (first_flush_ack g tid q there) i = refl
+    → Rises (context h f) (context (record { event = e.ToClient; answer = x } ∷ h) f)
+goes_on_client h f x first_idle i = inl refl
+goes_on_client h f x (first_cap g seq bits end q there) i = inl refl
+goes_on_client h f x (first_flush_ack g tid q there) i = inl refl
 goes_on_client h f x (first_snap n d now q there) i = told_moves h n d now q f there i
 
 -- A file is made, or a directory: the context of another file stays.
@@ -99,11 +54,67 @@ known_one h f known (inl is) = is
 known_one h f known (inr unknown) = absurd (both_ways (setup_file h f) unknown known)
 
 pub goes_on : (p : ℕ) (h : List Entry) (x : Event) (f : ℕ) → Setting h → client_knows h f ≡ true
-    → ContextGoesOn x (answer p h x) (context h f) (context (entry p h x ∷ h) f)
-goes_on p h (e.Dir d q) f i known = known_one h f known (dir_stays p h d q f i)
-goes_on p h (e.File g q) f i known = known_one h f known (file_stays p h g q f i)
+    → Rises (context h f) (context (entry p h x ∷ h) f)
+goes_on p h (e.Dir d q) f i known = inl (known_one h f known (dir_stays p h d q f i))
+goes_on p h (e.File g q) f i known = inl (known_one h f known (file_stays p h g q f i))
 goes_on p h e.ToClient f i known = goes_on_client h f _ (first_is h) i
-goes_on p h _ f i known = refl
+goes_on p h _ f i known = inl refl
+
+-- What a file's context had reached
+
+-- while all is set up the client knows of no snapshot
+told_nothing : (x : Event) (y : Answer) (q : List Message) (ts : List RealmRecord) → is_setup x ≡ true → realms_then x y q ts ≡ ts
+told_nothing e.ToClient (a.SnapTold n realm made) q ts is = absurd cc
+told_nothing _ _ q ts is = refl
+
+setup_realms : (h : List Entry) → all_setup h ≡ true → realms h ≡ root_record ∷ []
+setup_realms [] all = refl
+setup_realms (x ∷ h) all =
+    let parts = and_parts (is_setup x.event) (all_setup h) all in
+    told_nothing x.event x.answer (to_client h) (realms h) parts.0 ∙ setup_realms h parts.1
+
+none_yet : (up : List ℕ) → (path_context up (root_record ∷ [])).seq ≡ 0
+none_yet up = at (find (λ d. is_known d (root_record ∷ [])) up)
+  where
+    of_root : (b : Bool) → (unwrap_or (option_map (context_of (root_record ∷ [])) (cond b (Some root_record) None)) empty_context).seq ≡ 0
+    of_root true = refl
+    of_root false = refl
+
+    at : (o : Option ℕ) → (unwrap_or (option_and_then (λ d. realm_context (root_record ∷ []) d) o) empty_context).seq ≡ 0
+    at None = refl
+    at (Some d) = of_root (1 == d)
+
+setup_seq : (h : List Entry) (f : ℕ) → all_setup h ≡ true → (context h f).seq ≡ 0
+setup_seq h f all = ap (λ ts. (path_context (client_file_path h f) ts).seq) (setup_realms h all) ∙ none_yet (client_file_path h f)
+
+seq_stays : (old new : Context) → Rises old new → old.seq ≤ new.seq
+seq_stays old new (inl same) = omega (arith, ap (λ (c : Context). c.seq) same)
+seq_stays old new (inr up) = omega arith
+
+-- known or not
+seq_grows : (p : ℕ) (h : List Entry) (x : Event) → CanFollow h x → Setting h → (f : ℕ) → (context h f).seq ≤ (context (entry p h x ∷ h) f).seq
+seq_grows p h (e.Dir d q) can i f = let none = setup_seq h f (can.setup refl) in omega arith
+seq_grows p h (e.File g q) can i f = let none = setup_seq h f (can.setup refl) in omega arith
+seq_grows p h e.ToClient can i f = seq_stays _ _ (goes_on_client h f _ (first_is h) i)
+seq_grows p h _ can i f = omega arith
+
+abbrev pub AllReached : List Entry → Type 0
+AllReached h = (f s : ℕ) → had_reached h f s ≡ true → s ≤ (context h f).seq
+
+pub reached_first : AllReached []
+reached_first f s is = leb-true s (context [] f).seq is
+
+pub reached_step : (p : ℕ) (h : List Entry) (x : Event) → CanFollow h x → Setting h → AllReached h → AllReached (entry p h x ∷ h)
+reached_step p h x can setting i f s is =
+    ⊎_elim
+    (λ now. leb-true s (context (entry p h x ∷ h) f).seq now)
+    (λ was. omega (arith, i f s was, seq_grows p h x can setting f))
+    (or_cases (nat_le s (context (entry p h x ∷ h) f).seq) (had_reached h f s) is)
+
+-- what it has now it had reached
+pub has_reached : (h : List Entry) (f s : ℕ) → s ≤ (context h f).seq → had_reached h f s ≡ true
+has_reached [] f s up = le-leb s (context [] f).seq up
+has_reached (x ∷ h) f s up = or_left (nat_le s (context (x ∷ h) f).seq) (had_reached h f s) (le-leb s (context (x ∷ h) f).seq up)
 
 -- An earlier context
 
@@ -119,9 +130,8 @@ risen : (c old new : Context) → old.seq < new.seq → IsEarlier c old → IsEa
 risen c old new up i = record { low = omega (arith, i.low); same = λ is. absurd (omega (arith, i.low, is)) }
 
 -- a context that was earlier before an entry is so after it
-pub earlier_then : (x : Event) (y : Answer) (c old new : Context) → ContextGoesOn x y old new → IsEarlier c old → IsEarlier c new
-earlier_then e.ToClient (a.SnapTold n realm made) c old new on i = ⊎_elim (λ same. rw same i) (λ up. risen c old new up.0 i) on
-earlier_then _ _ c old new on i = rw on i
+pub earlier_then : (c old new : Context) → Rises old new → IsEarlier c old → IsEarlier c new
+earlier_then c old new on i = ⊎_elim (λ same. rw same i) (λ up. risen c old new up i) on
 
 -- only of files that are known
 pub had_known : (h : List Entry) (f : ℕ) (c : Context) → HadContext h f c → client_knows h f ≡ true
@@ -133,7 +143,7 @@ had_known (x ∷ h) f c (inr had) = known_then x.event x.answer f (setup_file h 
 pub had_earlier : (h : List Entry) (f : ℕ) → ContextsNeverFall h → (c : Context) → HadContext h f c → IsEarlier c (context h f)
 had_earlier [] f rise c had = absurd had
 had_earlier (x ∷ h) f rise c (inl now) = subst (λ d. IsEarlier d (context (x ∷ h) f)) now.1 (is_now (context (x ∷ h) f))
-had_earlier (x ∷ h) f rise c (inr had) = earlier_then x.event x.answer c _ _ (rise.0 f (had_known h f c had)) (had_earlier h f rise.1 c had)
+had_earlier (x ∷ h) f rise c (inr had) = earlier_then c _ _ (rise.0 f (had_known h f c had)) (had_earlier h f rise.1 c had)
 
 pub one_context : (h : List Entry) (f : ℕ) → ContextsNeverFall h → (a b : Context) → HadContext h f a → HadContext h f b → a.seq ≡ b.seq → a ≡ b
 one_context [] f rise a b had_a had_b same = absurd had_a

@@ -15,7 +15,7 @@ use Rattle.cs_laws.specs.Flushes.{Flush, sent_then}
 use Rattle.cs_laws.specs.History.{present, sent, snap, stand, durable, fresh, to_server}
 use Rattle.cs_laws.specs.Journal.{entry}
 use Rattle.cs_laws.specs.Standing.{recorded, greatest_number, fresh_then}
-use Rattle.cs_theorems.specs.Runs.{IsRun}
+use Rattle.cs_laws.specs.Runs.{IsRun}
 use Rattle.cs_theorems.proofs.Inversions.{ReceivedIs, received_idle, received_ack, received_flush, received_is, SnapIs, snap_unknown, snap_exists, snap_taken, snap_is, RemoveIs, remove_none, remove_gone, removed, remove_is}
 use Rattle.cs_theorems.proofs.Runs.{of_run}
 

@@ -1,10 +1,10 @@
--- What holds of contexts, tags and cap snaps after each event of every journal, and in every run.
+-- What holds of contexts, tags and cap snaps in every run.
 use Rattle.std.proofs.Common.{ℕ, List, [], ◌∷◌}
 use Rattle.cs_laws.specs.declared.events.Event.{Event}
 use Rattle.cs_laws.specs.declared.answers.Entry.{Entry}
 use Rattle.cs_laws.specs.Journal.{history, journal, entry}
+use Rattle.cs_laws.specs.Runs.{IsRun}
 use Rattle.cs_theorems.specs.Contexts.{ContextsNeverFall}
-use Rattle.cs_theorems.specs.Runs.{IsRun}
 use Rattle.cs_theorems.specs.Snapshots.{TagsAreOfTheBegin}
 use Rattle.cs_theorems.proofs.Contexts.{goes_on}
 use Rattle.cs_theorems.proofs.Order.{Ordered, ordered_first, ordered_step}
@@ -44,13 +44,6 @@ course_step p h x i = record {
   contexts = (λ f known. goes_on p h x f i.setting known, i.contexts);
   shares = shares_step p h x i.order i.known i.shares;
 }
-
-steps : (p : ℕ) (es : List Event) (h : List Entry) → Course h → Course (history p h es)
-steps p [] h i = i
-steps p (x ∷ es) h i = steps p es (entry p h x ∷ h) (course_step p h x i)
-
-pub course : (p : ℕ) (es : List Event) → Course (journal p es)
-course p es = steps p es [] course_first
 
 pub course_run : (p : ℕ) (h : List Entry) → IsRun p h → Course h
 course_run p h run = of_run p Course course_first (λ g x fit before i. course_step p g x i) h run

@@ -13,11 +13,11 @@ use Rattle.cs_laws.specs.declared.events.RefName.{RefName}
 use Rattle.cs_laws.specs.declared.answers.Answer.{Answer}
 use Rattle.cs_laws.specs.declared.answers.Entry.{Entry}
 use Rattle.cs_laws.specs.Answers.{may_write}
-use Rattle.cs_laws.specs.CapSnaps.{CapSnap, is_writing, makes, writers}
-use Rattle.cs_laws.specs.Context.{first_told, path_context}
-use Rattle.cs_laws.specs.Tree.{file_path}
+use Rattle.cs_laws.specs.CapSnaps.{CapSnap, is_writing, makes, queued_mode, writers}
+use Rattle.cs_laws.specs.Context.{with_first, path_context}
+use Rattle.cs_laws.specs.Tree.{client_file_path}
 use Rattle.cs_laws.specs.Events.{begun, clock, setup_file}
-use Rattle.cs_laws.specs.Flushes.{Flush, first_mode, flush_snap, written_meta}
+use Rattle.cs_laws.specs.Flushes.{Flush, flush_snap, written_meta}
 use Rattle.cs_laws.specs.History.{context, dirty, live, mode, present, queued, realms, sent, snap, to_client, writes}
 use Rattle.cs_laws.specs.Image.{Write}
 use Rattle.cs_laws.specs.Journal.{entry}
@@ -25,7 +25,7 @@ use Rattle.cs_laws.specs.References.{with_dirty}
 use Rattle.cs_laws.specs.Writes.{with_write}
 use Rattle.cs_theorems.specs.Order.{HasOlder}
 use Rattle.cs_theorems.proofs.Begun.{member_without_named}
-use Rattle.cs_theorems.specs.Contexts.{Moves}
+use Rattle.cs_theorems.specs.Contexts.{Rises}
 use Rattle.cs_theorems.proofs.Blank.{none_sent}
 use Rattle.cs_theorems.proofs.Contexts.{dir_stays, file_stays, told_moves}
 use Rattle.cs_theorems.proofs.Course.{Course}
@@ -171,21 +171,21 @@ covers_told f n old new rs ws cs d m xs fs up mode o i =
     (λ c k. before_new f n old new rs ws cs d xs fs c.tag up none o i (λ r live writer. i.changes_behind r live writer c k) (i.changed c k))
     (settled_new f n old new rs ws cs d xs fs up none o i) i)
 
-covers_moved : (f : ℕ) (n : ℕ → ℕ) (old new : Context) (number : ℕ) (rs : List Live) (ws : List Write) (cs : List Change) (d : Caps) (m : ℕ) (xs : List CapSnap) (fs : List Flush)
-    → Moves number old new → m ≡ last_mode cs → InOrder f old.seq n rs ws xs → Covers f old.seq rs ws cs d xs fs
+covers_moved : (f : ℕ) (n : ℕ → ℕ) (old new : Context) (rs : List Live) (ws : List Write) (cs : List Change) (d : Caps) (m : ℕ) (xs : List CapSnap) (fs : List Flush)
+    → Rises old new → m ≡ last_mode cs → InOrder f old.seq n rs ws xs → Covers f old.seq rs ws cs d xs fs
     → Covers f new.seq rs ws cs d (cond (makes f old new rs d xs) (xs ++ record { follows = old.seq; mode = m; writers = writers f rs } ∷ []) xs) fs
-covers_moved f n old new number rs ws cs d m xs fs (inl same) mode o i =
+covers_moved f n old new rs ws cs d m xs fs (inl same) mode o i =
     let y : CapSnap = record { follows = old.seq; mode = m; writers = writers f rs } in
     subst (λ b. Covers f new.seq rs ws cs d (cond b (xs ++ y ∷ []) xs) fs) (sym (none_made f old new rs d xs same))
     (subst (λ (c : Context). Covers f c.seq rs ws cs d xs fs) (sym same) i)
-covers_moved f n old new number rs ws cs d m xs fs (inr rises) mode o i = covers_told f n old new rs ws cs d m xs fs rises.0 mode o i
+covers_moved f n old new rs ws cs d m xs fs (inr rises) mode o i = covers_told f n old new rs ws cs d m xs fs rises mode o i
 
 step_client : (h : List Entry) (x : Answer) → FirstIs h x → Course h → AllCovered h → AllCovered (record { event = e.ToClient; answer = x } ∷ h)
 step_client h x first_idle o i = i
 step_client h x (first_cap f seq bits end q there) o i = i
 step_client h x (first_flush_ack f tid q there) o i = i
 step_client h x (first_snap n d now q there) o i = λ f.
-    covers_moved f _ (context h f) (path_context (file_path h f) (first_told (to_client h) (realms h))) n (live h) (writes h f) (changes h f) (dirty h f) (mode h f) (queued h f) (sent h)
+    covers_moved f _ (context h f) (path_context (client_file_path h f) (with_first (to_client h) (realms h))) (live h) (writes h f) (changes h f) (dirty h f) (mode h f) (queued h f) (sent h)
     (told_moves h n d now q f there o.setting) (mode_is h f) (o.order.1 f) (i f)
 
 -- Files that are made
@@ -203,11 +203,11 @@ covers_kept h f new o (inr unknown) i =
 -- a file's first cap snap is sent: what that is for the file f
 covers_flushed : (f s : ℕ) (n : ℕ → ℕ) (rs : List Live) (ws : List Write) (cs : List Change) (d : Caps) (x : CapSnap) (xs now : List CapSnap) (fs : List Flush) (tid : ℕ)
     → now ≡ x ∷ xs → Each (λ z. z.tid < tid) fs → InOrder f s n rs ws now → Covers f s rs ws cs d now fs
-    → Covers f s rs ws cs d (drop 1 now) (fs ++ flush_snap f tid x.follows (first_mode now) ws ∷ [])
+    → Covers f s rs ws cs d (drop 1 now) (fs ++ flush_snap f tid x.follows (queued_mode now) ws ∷ [])
 covers_flushed f s n rs ws cs d x xs now fs tid is drawn o i =
     let tags : Tags f s rs ws (x ∷ xs) = subst (λ ys. Tags f s rs ws ys) is o.tags in
     let first : Covers f s rs ws cs d (x ∷ xs) fs = subst (λ ys. Covers f s rs ws cs d ys fs) is i in
-    subst (λ ys. Covers f s rs ws cs d (drop 1 ys) (fs ++ flush_snap f tid x.follows (first_mode ys) ws ∷ [])) (sym is)
+    subst (λ ys. Covers f s rs ws cs d (drop 1 ys) (fs ++ flush_snap f tid x.follows (queued_mode ys) ws ∷ [])) (sym is)
     (covers_sent f s rs ws cs d x xs fs (flush_snap f tid x.follows x.mode ws) refl refl refl drawn tags first)
 
 -- the next number is greater than all before

@@ -17,8 +17,8 @@ use Rattle.cs_laws.specs.History.{durable, fresh, stand}
 use Rattle.cs_laws.specs.Realms.{Own, has_snap, is_realm, own, own_after, own_then, realm_record, realm_records}
 use Rattle.cs_laws.specs.Standing.{dir_in, dir_of, is_removal, is_removed, is_snap, number_of}
 use Rattle.cs_laws.specs.Standing.{has_snap as snap_stands}
-use Rattle.cs_laws.specs.Tree.{directories, file_path, home, is_directory, path}
-use Rattle.cs_theorems.specs.Runs.{IsRun}
+use Rattle.cs_laws.specs.Tree.{directories, client_file_path, home, is_directory, path}
+use Rattle.cs_laws.specs.Runs.{IsRun}
 use Rattle.cs_theorems.proofs.Course.{course_run}
 use Rattle.cs_theorems.proofs.Drawn.{AllDraw, Draws}
 use Rattle.cs_theorems.proofs.Fronts.{OfDir, realm_dir}
@@ -62,10 +62,10 @@ has_all up ds rs listed = record { has = λ d. at d (is_realm rs d) refl }
     at d true is = one_found up rs d ds is (listed d is)
     at d false not = none_found up rs d ds not
 
-pub standing_way : (h : List Entry) (f : ℕ) → Setting h → standing_context h f ≡ way_context (stand h) (file_path h f)
+pub standing_way : (h : List Entry) (f : ℕ) → Setting h → standing_context h f ≡ way_context (stand h) (client_file_path h f)
 standing_way h f i =
     path_is_way (λ d. is_directory h d) (λ d. path h d) (stand h) (realm_records (λ d. path h d) (directories h) (stand h)) i.tree dirs
-    (has_all (λ d. path h d) (directories h) (stand h) (λ d is. i.listing.listed d (dirs d is))) (file_path h f) (i.tree.ways (home h f))
+    (has_all (λ d. path h d) (directories h) (stand h) (λ d is. i.listing.listed d (dirs d is))) (client_file_path h f) (i.tree.ways (home h f))
   where
     dirs : (d : ℕ) → is_realm (stand h) d ≡ true → is_directory h d ≡ true
     dirs d is =
@@ -275,11 +275,11 @@ way_has s e rs (d ∷ ds) draws there stays =
 
 -- a snapshot of the directory e covers a file whose path has e
 pub covers_by : (p : ℕ) (h : List Entry) (f s e : ℕ) → IsRun p h → 1 ≤ s → dir_of s (stand h) ≡ Some e → is_removed s (stand h) ≡ false
-    → covers_file (at.Snap s) (standing_context h f) ≡ list_any (λ d. d == e) (file_path h f)
+    → covers_file (at.Snap s) (standing_context h f) ≡ list_any (λ d. d == e) (client_file_path h f)
 covers_by p h f s e run low there stays =
     let setting = (course_run p h run).setting in
     ap (λ (c : Context). list_any (λ t. t == s) c.snaps) (standing_way h f setting)
-    ∙ (way_any s (stand h) (file_path h f) low ∙ way_has s e (stand h) (file_path h f) setting.drawn there stays)
+    ∙ (way_any s (stand h) (client_file_path h f) low ∙ way_has s e (stand h) (client_file_path h f) setting.drawn there stays)
 
 -- a snapshot stands where it has a directory
 pub stands_dir : (s : ℕ) (rs : List Record) → snap_stands s rs ≡ is_some (dir_of s rs)

@@ -37,7 +37,7 @@ draws_within g (x ∷ xs) r ys i =
     same_draws (max (max g (number_of x.body)) (greatest_number xs)) (max g (max (number_of x.body) (greatest_number xs))) r.body (omega arith)
     (draws_within (max g (number_of x.body)) xs r ys i.1)
 
-draws_end : (g : ℕ) (xs : List Record) (r : Record) → AllDraw g xs → Draws (max g (greatest_number xs)) r.body → AllDraw g (xs ++ r ∷ [])
+pub draws_end : (g : ℕ) (xs : List Record) (r : Record) → AllDraw g xs → Draws (max g (greatest_number xs)) r.body → AllDraw g (xs ++ r ∷ [])
 draws_end g [] r i d = (same_draws (max g 0) g r.body (omega arith) d, tt)
 draws_end g (x ∷ xs) r i d = (
   i.0,

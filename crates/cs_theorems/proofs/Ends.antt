@@ -17,7 +17,7 @@ use Rattle.cs_laws.specs.Journal.{entry}
 use Rattle.cs_laws.specs.References.{named}
 use Rattle.cs_laws.specs.Shown.{is_before, writes_at}
 use Rattle.cs_laws.specs.Writes.{with_write, writes_then}
-use Rattle.cs_theorems.specs.Runs.{IsRun}
+use Rattle.cs_laws.specs.Runs.{IsRun}
 use Rattle.cs_theorems.proofs.Runs.{of_run}
 
 abbrev EndsWithin : List Write → Type 0
@@ -44,7 +44,7 @@ then_ends _ _ rs time f ws fit i = i
 all_end : (p : ℕ) (h : List Entry) → IsRun p h → (f : ℕ) → EndsWithin (writes h f)
 all_end p h run =
     of_run p (λ g. (f : ℕ) → EndsWithin (writes g f)) (λ f. omega arith)
-    (λ g x fit before i f. then_ends x (entry p g x).answer (live g) (clock g) f (writes g f) fit (i f)) h run
+    (λ g x can before i f. then_ends x (entry p g x).answer (live g) (clock g) f (writes g f) can.spelled (i f)) h run
 
 -- some of the writes end no later than all
 

@@ -8,8 +8,8 @@ use Rattle.cs_laws.specs.Answers.{answer_made, is_in_use}
 use Rattle.cs_laws.specs.Events.{setup_file, files}
 use Rattle.cs_laws.specs.Tree.{is_directory}
 use Rattle.cs_laws.specs.Journal.{entry}
+use Rattle.cs_laws.specs.Runs.{IsRun}
 use Rattle.cs_theorems.specs.References.{IsEachOnce}
-use Rattle.cs_theorems.specs.Runs.{IsRun}
 use Rattle.cs_theorems.proofs.Listed.{Member}
 use Rattle.cs_theorems.proofs.Runs.{of_run}
 

@@ -1,11 +1,12 @@
--- What the metadata of a file and its contents rest on, after each event of every journal, and in every run.
+-- What the metadata of a file and its contents rest on in every run.
 use Rattle.std.proofs.Common.{ℕ, List, [], ◌∷◌}
 use Rattle.cs_laws.specs.declared.events.Event.{Event}
 use Rattle.cs_laws.specs.declared.answers.Entry.{Entry}
-use Rattle.cs_laws.specs.Journal.{history, journal, entry}
-use Rattle.cs_theorems.specs.Runs.{IsRun}
+use Rattle.cs_laws.specs.Journal.{entry}
+use Rattle.cs_laws.specs.Runs.{CanFollow, IsRun}
 use Rattle.cs_theorems.proofs.Acks.{AllAcked, acked_first, acked_step}
 use Rattle.cs_theorems.proofs.Chains.{AllRise, rise_first, rise_step}
+use Rattle.cs_theorems.proofs.Contexts.{AllReached, has_reached, reached_first, reached_step}
 use Rattle.cs_theorems.proofs.Course.{Course, course_first, course_step}
 use Rattle.cs_theorems.proofs.Covered.{AllCovered, covered_first, covered_step}
 use Rattle.cs_theorems.proofs.Images.{HoldsAt, holds_first, holds_step}
@@ -19,6 +20,7 @@ pub record Footing (h : List Entry) : Type 0 where
   pub rise : AllRise h
   pub acked : AllAcked h
   pub placed : AllPlaced h
+  pub reached : AllReached h
   pub modes : ModesAt h
   pub holds : HoldsAt h
 
@@ -29,27 +31,22 @@ footing_first = record {
   rise = rise_first;
   acked = acked_first;
   placed = places_start;
+  reached = reached_first;
   modes = modes_first;
   holds = holds_first;
 }
 
-footing_step : (p : ℕ) (h : List Entry) (x : Event) → Footing h → Footing (entry p h x ∷ h)
-footing_step p h x i = record {
+footing_step : (p : ℕ) (h : List Entry) (x : Event) → CanFollow h x → Footing h → Footing (entry p h x ∷ h)
+footing_step p h x can i = record {
   course = course_step p h x i.course;
   covered = covered_step p h x i.course i.placed i.covered;
   rise = rise_step p h x i.rise;
   acked = acked_step p h x i.acked;
   placed = place_step p h x i.placed;
-  modes = modes_step h x _ (λ f. (i.covered f).changes_low) i.modes;
+  reached = reached_step p h x can i.course.setting i.reached;
+  modes = modes_step h x _ (λ f. (i.covered f).changes_low) i.reached (has_reached h) i.modes;
   holds = holds_step p h x i.course.shares i.holds;
 }
 
-steps : (p : ℕ) (es : List Event) (h : List Entry) → Footing h → Footing (history p h es)
-steps p [] h i = i
-steps p (x ∷ es) h i = steps p es (entry p h x ∷ h) (footing_step p h x i)
-
-pub footing : (p : ℕ) (es : List Event) → Footing (journal p es)
-footing p es = steps p es [] footing_first
-
 pub footing_run : (p : ℕ) (h : List Entry) → IsRun p h → Footing h
-footing_run p h run = of_run p Footing footing_first (λ g x fit before i. footing_step p g x i) h run
+footing_run p h run = of_run p Footing footing_first (λ g x can before i. footing_step p g x can i) h run

@@ -22,21 +22,25 @@ use Rattle.cs_laws.specs.declared.records.RecordBody.TheVariants as bodies
 use Rattle.cs_laws.specs.Answers.{held_after}
 use Rattle.cs_laws.specs.Flight.{cap_message}
 use Rattle.cs_laws.specs.Flushes.{flush_message}
-use Rattle.cs_laws.specs.History.{client, server, to_client, to_server, durable, fresh}
-use Rattle.cs_laws.specs.Journal.{history, journal, entry}
-use Rattle.cs_laws.specs.Realms.{changed_records}
-use Rattle.cs_laws.specs.Standing.{told_of, told}
+use Rattle.cs_laws.specs.History.{client, durable, fresh, last_sent, server, to_client, to_server}
+use Rattle.cs_laws.specs.Carried.{realms_of}
+use Rattle.cs_laws.specs.Journal.{entry}
+use Rattle.cs_laws.specs.Realms.{differing, realm_records}
+use Rattle.cs_laws.specs.Runs.{IsRun}
+use Rattle.cs_laws.specs.Standing.{news, news_of, news_on}
+use Rattle.cs_snapctx.specs.Records.{with_records}
 use Rattle.cs_laws.specs.Tree.{directories, path}
-use Rattle.cs_theorems.specs.Held.{HeldCoversImplemented}
+use Rattle.cs_laws.specs.Laws.{HeldCoversImplemented, IsCovered}
 use Rattle.cs_theorems.proofs.Listed.{Each, each_nil, each_cons}
 use Rattle.cs_theorems.proofs.Rising.{at_first}
+use Rattle.cs_theorems.proofs.Runs.{in_every_prefix, of_run}
 use Rattle.cs_theorems.proofs.Held.{Within, Holds, Moves, Flying, Acked, cap_seq, cap_seqs, moves_granted, moves_revoked, holds_told, holds_beside, holds_delivered, holds_passed, holds_ack, holds_sent, holds_taken, holds_received}
 use Rattle.cs_theorems.proofs.Inversions.{FlushIs, head_unknown, head_snap, head_clean, head_sent, flush_is, CheckIs, check_unknown, check_nothing, check_hold, check_ack, check_is, FlushSnapsIs, flush_unknown, flush_none, flush_writing, flush_sent, flush_snaps_is, FirstIs, first_idle, first_cap, first_flush_ack, first_snap, first_is, ReceivedIs, received_idle, received_ack, received_flush, received_is, GrantIs, grant_unknown, grant_sent, grant_is, revoke_is}
 
 differs : (g f : ℕ) → (g == f) ≡ false → g ≡ f → ⊥
 differs g f t same = grind (arith, nat_tests)
 
--- what a file is told or tells, at each file
+-- what a file is news or tells, at each file
 
 told_if : (b : Bool) (f g : ℕ) (s t tg : ServerCaps) (c : ClientCaps) (q p : List Message) → (g == f) ≡ b → (g ≡ f → tg ≡ t) → Moves s t
     → Holds f s c q p → Holds f (cond b t s) c (q ++ cap_message g tg ∷ []) p
@@ -66,28 +70,31 @@ received_if false f g seq bits s sg c q p is own i = holds_taken f s c q p (mess
 
 -- what is told of records carries no capabilities
 
-no_seq_told : (f : ℕ) (before : List Record) (realms : List RealmRecord) (body : RecordBody) → cap_seq f (told_of before realms body) ≡ []
+no_seq_told : (f : ℕ) (before : List Record) (realms : List RealmRecord) (body : RecordBody) → cap_seq f (news_of before realms body) ≡ []
 no_seq_told f before realms (bodies.Flush snap g tid follows meta) = refl
 no_seq_told f before realms (bodies.Snap number d name) = refl
 no_seq_told f before realms (bodies.Removal s number) = refl
 
-no_seqs_told : (f : ℕ) (up : ℕ → List ℕ) (dirs : List ℕ) (before rs : List Record) → cap_seqs f (told up dirs before rs) ≡ []
-no_seqs_told f up dirs before [] = refl
-no_seqs_told f up dirs before (r ∷ rs) =
-    subst (λ xs. xs ++ cap_seqs f (told up dirs (before ++ r ∷ []) rs) ≡ [])
-    (sym (no_seq_told f before (changed_records up dirs before (before ++ r ∷ [])) r.body)) (no_seqs_told f up dirs (before ++ r ∷ []) rs)
+no_seqs_told : (f : ℕ) (up : ℕ → List ℕ) (dirs : List ℕ) (ss : List RealmRecord) (before rs : List Record) → cap_seqs f (news up dirs ss before rs) ≡ []
+no_seqs_told f up dirs ss before [] = refl
+no_seqs_told f up dirs ss before (r ∷ rs) =
+    let now : List RealmRecord = with_records (realms_of (news_on up dirs ss before r)) ss in
+    subst (λ xs. xs ++ cap_seqs f (news up dirs now (before ++ r ∷ []) rs) ≡ [])
+    (sym (no_seq_told f before (differing ss (realm_records up dirs (before ++ r ∷ []))) r.body)) (no_seqs_told f up dirs now (before ++ r ∷ []) rs)
 
-told_flies : (f : ℕ) (s : ServerCaps) (before : List Record) (realms : List RealmRecord) (body : RecordBody) → Flying f s (told_of before realms body)
+told_flies : (f : ℕ) (s : ServerCaps) (before : List Record) (realms : List RealmRecord) (body : RecordBody) → Flying f s (news_of before realms body)
 told_flies f s before realms (bodies.Flush snap g tid follows meta) = tt
 told_flies f s before realms (bodies.Snap number d name) = tt
 told_flies f s before realms (bodies.Removal t number) = tt
 
-all_told_fly : (f : ℕ) (s : ServerCaps) (up : ℕ → List ℕ) (dirs : List ℕ) (before rs : List Record) → Each (λ m. Flying f s m) (told up dirs before rs)
-all_told_fly f s up dirs before [] = each_nil (λ m. Flying f s m)
-all_told_fly f s up dirs before (r ∷ rs) =
-    let realms : List RealmRecord = changed_records up dirs before (before ++ r ∷ []) in
-    each_cons (λ m. Flying f s m) (told_of before realms r.body) (told up dirs (before ++ r ∷ []) rs)
-    (told_flies f s before realms r.body) (all_told_fly f s up dirs (before ++ r ∷ []) rs)
+all_told_fly : (f : ℕ) (s : ServerCaps) (up : ℕ → List ℕ) (dirs : List ℕ) (ss : List RealmRecord) (before rs : List Record)
+    → Each (λ m. Flying f s m) (news up dirs ss before rs)
+all_told_fly f s up dirs ss before [] = each_nil (λ m. Flying f s m)
+all_told_fly f s up dirs ss before (r ∷ rs) =
+    let m : Message = news_on up dirs ss before r in
+    let now : List RealmRecord = with_records (realms_of m) ss in
+    each_cons (λ k. Flying f s k) m (news up dirs now (before ++ r ∷ []) rs)
+    (told_flies f s before (differing ss (realm_records up dirs (before ++ r ∷ []))) r.body) (all_told_fly f s up dirs now (before ++ r ∷ []) rs)
 
 -- Steps
 
@@ -163,8 +170,8 @@ step_to_server h x (received_flush y p is) i = λ f.
 
 step_commit : (h : List Entry) (x : ℕ) → AllHold h → AllHold (record { event = e.Commit; answer = a.Commit x } ∷ h)
 step_commit h x i = λ f.
-    holds_beside f (server h f) (client h f) (to_client h) (to_server h) (told (λ d. path h d) (directories h) (durable h) (fresh h))
-    (no_seqs_told f (λ d. path h d) (directories h) (durable h) (fresh h)) (all_told_fly f (server h f) (λ d. path h d) (directories h) (durable h) (fresh h)) (i f)
+    holds_beside f (server h f) (client h f) (to_client h) (to_server h) (news (λ d. path h d) (directories h) (last_sent h) (durable h) (fresh h))
+    (no_seqs_told f (λ d. path h d) (directories h) (last_sent h) (durable h) (fresh h)) (all_told_fly f (server h f) (λ d. path h d) (directories h) (last_sent h) (durable h) (fresh h)) (i f)
 
 hold_step : (p : ℕ) (h : List Entry) (x : Event) → AllHold h → AllHold (entry p h x ∷ h)
 hold_step p h (e.Grant g bits end) i = step_grant h g bits end _ (grant_is h g bits end) i
@@ -176,10 +183,6 @@ hold_step p h (e.Flush g) i = step_flush h g _ (flush_is h g) i
 hold_step p h (e.FlushSnaps g) i = step_flush_snaps h g _ (flush_snaps_is h g) i
 hold_step p h e.Commit i = step_commit h (length (fresh h)) i
 hold_step p h _ i = i
-
-hold_steps : (p : ℕ) (es : List Event) (h : List Entry) → AllHold h → AllHold (history p h es)
-hold_steps p [] h i = i
-hold_steps p (x ∷ es) h i = hold_steps p es (entry p h x ∷ h) (hold_step p h x i)
 
 none_within : (x : Caps) → Within no_caps x
 none_within x = record { each = λ k has. absurd (no_member k has) }
@@ -195,5 +198,8 @@ nothing_held = λ f. record {
   acked = each_nil (λ m. Acked f no_server_caps no_client_caps m);
 }
 
-pub held_covers : (p : ℕ) (es : List Event) → HeldCoversImplemented (journal p es)
-held_covers p es = λ f. (covers-Has (server (journal p es) f).held (client (journal p es) f).implemented).1 (hold_steps p es [] nothing_held f).implemented.each
+pub held_covers : (p : ℕ) (h : List Entry) → IsRun p h → HeldCoversImplemented h
+held_covers p h run =
+    in_every_prefix p IsCovered
+    (λ g is whole f. (covers-Has (server g f).held (client g f).implemented).1 (of_run p AllHold nothing_held (λ k x fit before i. hold_step p k x i) g is f).implemented.each)
+    h run

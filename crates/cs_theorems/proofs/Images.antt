@@ -1,6 +1,6 @@
 -- The operations on an object are those of its file's writes, also at each snapshot.
-use Rattle.std.proofs.Common.{◌≡◌, refl, sym, ap, ◌∙◌, ℕ, ◌+◌, ◌*◌, ◌/◌, ◌%◌, ◌<◌, ◌≤◌, ◌==◌, nat_lt, length, reverse, List, [], ◌∷◌, ◌++◌, true, false, Some, inl, arith, ⊎_elim, subst}
-use Rattle.std.proofs.lemmas.Bool.{cases_lt, cond_both, cond-true, cond-false, and_from, and_left, lt-ltb, le-ltb, eqb-true}
+use Rattle.std.proofs.Common.{◌≡◌, refl, sym, ap, ◌∙◌, ℕ, ◌+◌, ◌*◌, ◌/◌, ◌%◌, ◌<◌, ◌≤◌, ◌==◌, nat_lt, filter, length, reverse, List, [], ◌∷◌, ◌++◌, true, false, Some, cond, inl, inr, arith, subst, Bool}
+use Rattle.std.proofs.lemmas.Bool.{and_from, and_left, cond_both, cond-false, cond-true, eqb-true, lt-ltb, ltb-true}
 use Rattle.cs_geom.specs.declared.places.Piece.{Piece}
 use Rattle.cs_geom.specs.declared.places.TheConstants.{OBJECT_SIZE}
 use Rattle.cs_geom.specs.Cuts.{pieces_of}
@@ -16,12 +16,12 @@ use Rattle.cs_laws.specs.declared.objects.At.TheVariants as at
 use Rattle.cs_laws.specs.declared.objects.ObjOp.{ObjOp}
 use Rattle.cs_laws.specs.Events.{clock}
 use Rattle.cs_laws.specs.History.{live, writes}
-use Rattle.cs_laws.specs.Image.{Write, byte_over, image, older}
+use Rattle.cs_laws.specs.Image.{Write, byte_over, image}
 use Rattle.cs_laws.specs.Journal.{entry}
 use Rattle.cs_laws.specs.Objects.{all_below, before, byte_of, object, same_object}
 use Rattle.cs_laws.specs.Operations.{applied, begun_under, operations, operations_drawn, written_on}
 use Rattle.cs_laws.specs.Writes.{with_write}
-use Rattle.cs_theorems.specs.Contents.{ObjectsHoldWrites}
+use Rattle.cs_theorems.specs.Contents.{IsState, ObjectsHoldWrites, StatesHoldWrites}
 use Rattle.cs_theorems.specs.Order.{TagsFall}
 use Rattle.cs_theorems.specs.Snapshots.{TagsAreOfTheBegin}
 use Rattle.cs_theorems.proofs.Course.{Course}
@@ -49,53 +49,95 @@ bytes_are i j (w ∷ ws) os (new, rest, is, part, others) =
 
 -- Snapshots
 
-older_all : (s : ℕ) (ws : List Write) → Each (λ w. w.tag < s) ws → older s ws ≡ ws
-older_all s [] low = refl
-older_all s (w ∷ ws) low =
-    cond-true (nat_lt w.tag s) (w ∷ older s ws) (older s ws) (lt-ltb w.tag s (low w (inl refl)))
-    ∙ ap (λ vs. w ∷ vs) (older_all s ws (each_tail (λ v. v.tag < s) w ws low))
+-- low: a test of the seqs that belong to a state
 
-all_below_true : (s : ℕ) (os : List ObjOp) → Each (λ o. o.ctx.seq < s) os → all_below s os ≡ true
-all_below_true s [] low = refl
-all_below_true s (o ∷ os) low =
-    and_from (nat_lt o.ctx.seq s) (all_below s os) (lt-ltb o.ctx.seq s (low o (inl refl)))
-    (all_below_true s os (each_tail (λ u. u.ctx.seq < s) o os low))
+filter_append : (p : ObjOp → Bool) (os rest : List ObjOp) → filter p (os ++ rest) ≡ filter p os ++ filter p rest
+filter_append p [] rest = refl
+filter_append p (o ∷ os) rest =
+    cond_both (p o) (o ∷ filter p (os ++ rest)) (filter p (os ++ rest)) (λ zs. zs ≡ cond (p o) (o ∷ filter p os) (filter p os) ++ filter p rest)
+    (λ is. ap (λ zs. o ∷ zs) (filter_append p os rest) ∙ sym (ap (λ zs. zs ++ filter p rest) (cond-true (p o) (o ∷ filter p os) (filter p os) is)))
+    (λ not. filter_append p os rest ∙ sym (ap (λ zs. zs ++ filter p rest) (cond-false (p o) (o ∷ filter p os) (filter p os) not)))
 
-before_all : (s : ℕ) (os : List ObjOp) → Each (λ o. o.ctx.seq < s) os → before s os ≡ os
-before_all s [] low = refl
-before_all s (o ∷ os) low = cond-true (all_below s (o ∷ os)) (o ∷ os) (before s os) (all_below_true s (o ∷ os) low)
+filter_all : (p : ObjOp → Bool) (os : List ObjOp) → Each (λ o. p o ≡ true) os → filter p os ≡ os
+filter_all p [] all = refl
+filter_all p (o ∷ os) all =
+    cond-true (p o) (o ∷ filter p os) (filter p os) (all o (inl refl)) ∙ ap (λ zs. o ∷ zs) (filter_all p os (each_tail (λ u. p u ≡ true) o os all))
 
-before_skips : (s : ℕ) (new rest : List ObjOp) → Each (λ o. s ≤ o.ctx.seq) new → before s (new ++ rest) ≡ before s rest
-before_skips s [] rest high = refl
-before_skips s (o ∷ new) rest high =
-    cond-false (all_below s (o ∷ (new ++ rest))) (o ∷ (new ++ rest)) (before s (new ++ rest))
-    (and_left (nat_lt o.ctx.seq s) (all_below s (new ++ rest)) (le-ltb o.ctx.seq s (high o (inl refl))))
-    ∙ before_skips s new rest (each_tail (λ u. s ≤ u.ctx.seq) o new high)
+filter_no : (p : ObjOp → Bool) (os : List ObjOp) → Each (λ o. p o ≡ false) os → filter p os ≡ []
+filter_no p [] none = refl
+filter_no p (o ∷ os) none =
+    cond-false (p o) (o ∷ filter p os) (filter p os) (none o (inl refl)) ∙ filter_no p os (each_tail (λ u. p u ≡ false) o os none)
 
--- where all writes are older, so are all operations
-seqs_low : (i j s : ℕ) (ws : List Write) (os : List ObjOp) → AreOf i j ws os → Each (λ w. w.tag < s) ws → Each (λ o. o.ctx.seq < s) os
-seqs_low i j s [] os none low = subst (λ zs. Each (λ o. o.ctx.seq < s) zs) (sym none) (each_nil (λ o. o.ctx.seq < s))
-seqs_low i j s (w ∷ ws) os (new, rest, is, part, others) low =
-    subst (λ zs. Each (λ o. o.ctx.seq < s) zs) (sym is)
-    (each_append (λ o. o.ctx.seq < s) new rest
+-- the operations of a write belong to the state as the write does
+kept_are : (low : ℕ → Bool) (i j : ℕ) (ws : List Write) (os : List ObjOp) → AreOf i j ws os
+    → AreOf i j (filter (λ w. low w.tag) ws) (filter (λ o. low o.ctx.seq) os)
+kept_are low i j [] os none = ap (λ zs. filter (λ o. low o.ctx.seq) zs) none
+kept_are low i j (w ∷ ws) os (new, rest, is, part, others) =
+    cond_both (low w.tag) (w ∷ kept) kept (λ vs. AreOf i j vs (filter p os))
+    (λ in_it.
+    (new, filter p rest, whole ∙ ap (λ zs. zs ++ filter p rest) (filter_all p new (λ o m. ap low (part.seqs o m) ∙ in_it)), part, kept_are low i j ws rest others))
+    (λ out.
+    subst (λ zs. AreOf i j kept zs) (sym (whole ∙ ap (λ zs. zs ++ filter p rest) (filter_no p new (λ o m. ap low (part.seqs o m) ∙ out))))
+    (kept_are low i j ws rest others))
+  where
+    p : ObjOp → Bool
+    p o = low o.ctx.seq
+
+    kept : List Write
+    kept = filter (λ v. low v.tag) ws
+
+    whole : filter p os ≡ filter p new ++ filter p rest
+    whole = ap (λ zs. filter p zs) is ∙ filter_append p new rest
+
+-- Snapshots
+
+-- newest first, the seqs never rise towards the older ones
+abbrev SeqsFall : List ObjOp → Type 0
+SeqsFall [] = Unit {0}
+SeqsFall (o ∷ os) = Each (λ u. u.ctx.seq ≤ o.ctx.seq) os × SeqsFall os
+
+-- then the operations before the first one that isn't below a number are those that are below it
+before_below : (s : ℕ) (os : List ObjOp) → SeqsFall os → before s os ≡ filter (λ o. nat_lt o.ctx.seq s) os
+before_below s [] fall = refl
+before_below s (o ∷ os) fall =
+    cond_both (nat_lt o.ctx.seq s) (o ∷ low) low (λ zs. before s (o ∷ os) ≡ zs)
+    (λ is.
+    let all : Each (λ u. nat_lt u.ctx.seq s ≡ true) os = λ u m. lt-ltb u.ctx.seq s (omega (arith, fall.0 u m, ltb-true o.ctx.seq s is)) in
+    cond-true (all_below s (o ∷ os)) (o ∷ os) (before s os) (and_from (nat_lt o.ctx.seq s) (all_below s os) is (all_below_true s os all))
+    ∙ ap (λ zs. o ∷ zs) (sym (filter_all (λ u. nat_lt u.ctx.seq s) os all)))
+    (λ not. cond-false (all_below s (o ∷ os)) (o ∷ os) (before s os) (and_left (nat_lt o.ctx.seq s) (all_below s os) not) ∙ before_below s os fall.1)
+  where
+    low : List ObjOp
+    low = filter (λ u. nat_lt u.ctx.seq s) os
+
+    all_below_true : (n : ℕ) (us : List ObjOp) → Each (λ u. nat_lt u.ctx.seq n ≡ true) us → all_below n us ≡ true
+    all_below_true n [] all = refl
+    all_below_true n (u ∷ us) all =
+        and_from (nat_lt u.ctx.seq n) (all_below n us) (all u (inl refl)) (all_below_true n us (each_tail (λ v. nat_lt v.ctx.seq n ≡ true) u us all))
+
+-- the seqs of the operations are the tags of the writes
+seqs_upto : (i j n : ℕ) (ws : List Write) (os : List ObjOp) → AreOf i j ws os → Each (λ w. w.tag ≤ n) ws → Each (λ o. o.ctx.seq ≤ n) os
+seqs_upto i j n [] os none low = subst (λ zs. Each (λ o. o.ctx.seq ≤ n) zs) (sym none) (each_nil (λ o. o.ctx.seq ≤ n))
+seqs_upto i j n (w ∷ ws) os (new, rest, is, part, others) low =
+    subst (λ zs. Each (λ o. o.ctx.seq ≤ n) zs) (sym is)
+    (each_append (λ o. o.ctx.seq ≤ n) new rest
     (λ o m. omega (arith, part.seqs o m, low w (inl refl)))
-    (seqs_low i j s ws rest others (each_tail (λ v. v.tag < s) w ws low)))
+    (seqs_upto i j n ws rest others (each_tail (λ v. v.tag ≤ n) w ws low)))
 
-before_are : (i j s : ℕ) (ws : List Write) (os : List ObjOp) → AreOf i j ws os → TagsFall ws → AreOf i j (older s ws) (before s os)
-before_are i j s [] os none fall = ap (λ zs. before s zs) none
-before_are i j s (w ∷ ws) os (new, rest, is, part, others) fall =
-    ⊎_elim
-    (λ old.
-    let low : Each (λ v. v.tag < s) (w ∷ ws) = each_cons (λ v. v.tag < s) w ws old (λ v m. omega (arith, fall.0 v m, old)) in
-    let whole : AreOf i j (w ∷ ws) os = (new, rest, is, part, others) in
-    subst (λ vs. AreOf i j vs (before s os)) (sym (older_all s (w ∷ ws) low))
-    (subst (λ zs. AreOf i j (w ∷ ws) zs) (sym (before_all s os (seqs_low i j s (w ∷ ws) os whole low))) whole))
-    (λ young.
-    let skipped : before s os ≡ before s rest
-    = ap (λ zs. before s zs) is ∙ before_skips s new rest (λ o m. omega (arith, part.seqs o m, young)) in
-    subst (λ vs. AreOf i j vs (before s os)) (sym (cond-false (nat_lt w.tag s) (w ∷ older s ws) (older s ws) (le-ltb w.tag s young)))
-    (subst (λ zs. AreOf i j (older s ws) zs) (sym skipped) (before_are i j s ws rest others fall.1)))
-    (cases_lt w.tag s)
+falls_over : (t : ℕ) (new rest : List ObjOp) → Each (λ o. o.ctx.seq ≡ t) new → Each (λ o. o.ctx.seq ≤ t) rest → SeqsFall rest → SeqsFall (new ++ rest)
+falls_over t [] rest same low fall = fall
+falls_over t (o ∷ new) rest same low fall = (
+  each_append (λ u. u.ctx.seq ≤ o.ctx.seq) new rest
+      (λ u m. omega (arith, same u (inr m), same o (inl refl)))
+      (λ u m. omega (arith, low u m, same o (inl refl))),
+  falls_over t new rest (each_tail (λ u. u.ctx.seq ≡ t) o new same) low fall,
+)
+
+seqs_fall : (i j : ℕ) (ws : List Write) (os : List ObjOp) → AreOf i j ws os → TagsFall ws → SeqsFall os
+seqs_fall i j [] os none fall = subst (λ zs. SeqsFall zs) (sym none) tt
+seqs_fall i j (w ∷ ws) os (new, rest, is, part, others) fall =
+    subst (λ zs. SeqsFall zs) (sym is)
+    (falls_over w.tag new rest part.seqs (seqs_upto i j w.tag ws rest others fall.0) (seqs_fall i j ws rest others fall.1))
 
 -- A write
 
@@ -172,9 +214,18 @@ holds_first f p j small = refl
 
 -- Contents
 
-pub contents_of : (h : List Entry) → Course h → HoldsAt h → ObjectsHoldWrites h
-contents_of h c i at.Head f k =
+pub contents_of : (h : List Entry) → HoldsAt h → ObjectsHoldWrites h
+contents_of h i low state f k =
+    bytes_are _ _ (filter (λ w. low w.tag) (writes h f)) _ (kept_are low _ _ (writes h f) _ (i f (k / OBJECT_SIZE) (k % OBJECT_SIZE) (omega arith)))
+    ∙ ap (λ n. image (filter (λ w. low w.tag) (writes h f)) n) (omega arith)
+
+pub states_of : (h : List Entry) → Course h → HoldsAt h → StatesHoldWrites h
+states_of h c i at.Head f k =
     bytes_are _ _ (writes h f) _ (i f (k / OBJECT_SIZE) (k % OBJECT_SIZE) (omega arith)) ∙ ap (λ n. image (writes h f) n) (omega arith)
-contents_of h c i (at.Snap s) f k =
-    bytes_are _ _ (older s (writes h f)) _ (before_are _ _ s (writes h f) _ (i f (k / OBJECT_SIZE) (k % OBJECT_SIZE) (omega arith)) (c.order.1 f).tags.fall)
-    ∙ ap (λ n. image (older s (writes h f)) n) (omega arith)
+states_of h c i (at.Snap s) f k =
+    ap (λ os. byte_of os (k % OBJECT_SIZE))
+    (before_below s _ (seqs_fall _ _ (writes h f) _ (i f (k / OBJECT_SIZE) (k % OBJECT_SIZE) (omega arith)) (c.order.1 f).tags.fall))
+    ∙ contents_of h i (λ q. nat_lt q s) (below_state s) f k
+  where
+    below_state : (n : ℕ) → IsState (λ q. nat_lt q n)
+    below_state n q r up is = lt-ltb q n (omega (arith, up, ltb-true r n is))

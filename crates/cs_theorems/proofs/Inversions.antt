@@ -19,7 +19,7 @@ use Rattle.cs_snapctx.specs.Records.{with_records}
 use Rattle.cs_laws.specs.Context.{path_context}
 use Rattle.cs_laws.specs.Events.{client_knows, server_knows, files, begun}
 use Rattle.cs_laws.specs.Flushes.{Flush, flush_message}
-use Rattle.cs_laws.specs.Tree.{file_path, is_directory}
+use Rattle.cs_laws.specs.Tree.{client_file_path, is_directory}
 use Rattle.cs_laws.specs.History.{client, server, realms, to_client, to_server, dirty, live, queued, sent, stand, used, writes}
 use Rattle.cs_laws.specs.Image.{size}
 use Rattle.cs_laws.specs.References.{can_end, named}
@@ -155,7 +155,7 @@ pub data FirstIs (h : List Entry) : Answer → Type 0 where
   first_cap : (f seq : ℕ) (bits : Caps) (end : ℕ) (q : List Message) → to_client h ≡ messages.Cap f seq bits end ∷ q → FirstIs h (a.Cap f seq bits end)
   first_flush_ack : (f tid : ℕ) (q : List Message) → to_client h ≡ messages.FlushAck f tid ∷ q → FirstIs h (a.FlushAck f tid)
   first_snap : (number realm : ℕ) (told : List RealmRecord) (q : List Message) → to_client h ≡ messages.Snap number realm told ∷ q
-      → FirstIs h (a.SnapTold number realm (count_made h (λ f. path_context (file_path h f) (with_records told (realms h))) (files h)))
+      → FirstIs h (a.SnapTold number realm (count_made h (λ f. path_context (client_file_path h f) (with_records told (realms h))) (files h)))
 
 first_is_of : (h : List Entry) (q : List Message) → to_client h ≡ q → FirstIs h (answer_to_client_of h q)
 first_is_of h [] is = first_idle

@@ -7,8 +7,9 @@ use Rattle.cs_laws.specs.declared.records.Record.{Record}
 use Rattle.cs_laws.specs.declared.records.RecordBody.{RecordBody}
 use Rattle.cs_laws.specs.declared.records.RecordBody.TheVariants as bodies
 use Rattle.cs_laws.specs.Flushes.{Flush, flush_record}
-use Rattle.cs_laws.specs.Metadata.{flush_in, is_behind, last_flush, later_of, with_flush}
+use Rattle.cs_laws.specs.Metadata.{is_behind, last_flush, later_of, with_flush}
 use Rattle.cs_laws.specs.Shown.{is_before}
+use Rattle.cs_laws.specs.Carried.{flush_in}
 use Rattle.cs_theorems.proofs.Listed.{Member, Each, each_nil, each_cons}
 
 -- a flush of the file that is of the time before the state

@@ -1,71 +1,96 @@
-pub mod Acks
-pub mod AcksFree
-pub mod Agreeing
-pub mod Applying
-pub mod Begun
-pub mod Blank
-pub mod Chains
-pub mod Contexts
-pub mod Counts
-pub mod Course
-pub mod Covered
-pub mod Covering
-pub mod Covers
-pub mod Drawn
-pub mod Ends
-pub mod Files
-pub mod Footing
-pub mod Fronts
-pub mod Growth
-pub mod Held
-pub mod HeldCovers
-pub mod Images
-pub mod Inversions
-pub mod Kept
-pub mod Known
-pub mod LastFlush
+-- Lists, numbers and tests
 pub mod Listed
-pub mod Listing
-pub mod Lookups
-pub mod Modes
-pub mod Numbered
+pub mod Tests
+pub mod Rising
 pub mod Numbers
-pub mod OnceStanding
-pub mod Opens
-pub mod Operations
-pub mod Order
 pub mod Orderings
 pub mod Overlays
-pub mod Owing
-pub mod Past
-pub mod Paths
 pub mod Pieces
-pub mod Places
-pub mod QueueAnswers
-pub mod QueueSteps
-pub mod Queues
-pub mod RealmPaths
-pub mod Recorded
-pub mod Retired
-pub mod Rising
+
+-- Runs, and what the answer to each event can be
 pub mod Runs
+pub mod Inversions
+pub mod Refused
+
+-- References and their uses
+pub mod Begun
+pub mod Uses
+pub mod Known
+pub mod AcksFree
+
+-- Capabilities, at both ends and on their way
+pub mod Held
+pub mod HeldCovers
+
+-- Files that aren't known, counts and limits
+pub mod Blank
+pub mod Untouched
+pub mod Underway
+pub mod Files
+pub mod Counts
+pub mod Growth
+pub mod Ends
+pub mod Operations
+
+-- Directories, realm records and contexts
+pub mod Paths
+pub mod Listing
+pub mod Lookups
+pub mod Drawn
+pub mod RealmPaths
+pub mod WayContexts
+pub mod Ways
+pub mod Fronts
+pub mod Links
+pub mod Sent
+pub mod Along
+pub mod Commits
+pub mod Linked
 pub mod Settings
-pub mod Settled
-pub mod Shares
-pub mod Sizes
+pub mod Applying
+pub mod Contexts
+pub mod Covering
+
+-- Tags, writers and cap snaps
 pub mod Tags
-pub mod Tests
-pub mod Together
-pub mod Told
-pub mod ToldPlaces
+pub mod Opens
+pub mod Order
+pub mod Shares
+pub mod Writers
+pub mod Past
+pub mod WriteUnder
+pub mod Queues
+pub mod QueueSteps
+pub mod QueueAnswers
+pub mod Unsent
+
+-- Flushes and acknowledgements
+pub mod Chains
+pub mod Places
+pub mod Acks
+pub mod Retired
+pub mod OnceStanding
+pub mod Numbered
 pub mod Unacked
 pub mod UnackedSteps
-pub mod Underway
-pub mod Unsent
-pub mod Untouched
-pub mod Uses
 pub mod Waiting
 pub mod WaitingSteps
-pub mod WayContexts
-pub mod WriteUnder
-pub mod Writers
+
+-- Metadata
+pub mod Modes
+pub mod Covers
+pub mod Covered
+pub mod LastFlush
+pub mod Settled
+pub mod Sizes
+pub mod Owing
+pub mod Recorded
+pub mod Told
+pub mod ToldPlaces
+
+-- Contents, and all together
+pub mod Images
+pub mod Course
+pub mod Footing
+pub mod Agreeing
+pub mod Together

@@ -1,7 +1,7 @@
 -- What holds of each member of a list.
 use Rattle.std.proofs.Common.{refl, sym, List, [], ◌∷◌, ◌++◌, inl, inr, subst, reverse}
 use Rattle.std.proofs.lemmas.List.{reverse-append}
-pub use Rattle.cs_theorems.specs.Lists.{Member, Each}
+pub use Rattle.cs_laws.specs.Lists.{Member, Each}
 
 pub each_nil : {A : Type 0} (P : A → Type 0) → Each P []
 each_nil P x m = absurd m

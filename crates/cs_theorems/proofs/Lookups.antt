@@ -2,14 +2,11 @@
 use Rattle.std.proofs.Common.{◌≡◌, ◌⊎◌, refl, sym, ap, ◌∙◌, subst, ℕ, ◌==◌, Bool, true, false, cond, nat_eq, List, [], ◌∷◌, Option, Some, None, inl, inr, ⊎_elim}
 use Rattle.std.specs.Cmp.Lexicographic.{pointwise, same_text}
 use Rattle.std.specs.List.{cons_option, filter_map}
-use Rattle.std.proofs.lemmas.Bool.{and_parts, cond-true, cond-false, eq-eqb, eqb-true, both_ways, true≢false, false_from_ne_true}
+use Rattle.std.proofs.lemmas.Bool.{and_parts, cond-true, cond-false, eq-eqb, eqb-true, true≢false, false_from_ne_true}
 use Rattle.cs_snapctx.specs.declared.realm.RealmRecord.{RealmRecord}
 use Rattle.cs_snapctx.specs.Records.{changed_record, is_as_before, is_of, is_same_parent, is_same_record, record_of, with_record, with_records}
 use Rattle.cs_realms.proofs.Stays.{record_of-with}
-use Rattle.cs_laws.specs.declared.records.Record.{Record}
-use Rattle.cs_laws.specs.Realms.{changed_records, is_realm, realm_record}
 use Rattle.cs_theorems.proofs.Listed.{Member}
-use Rattle.cs_theorems.proofs.RealmPaths.{HasRealms, realm_of}
 
 -- Records that a function of the directories gives
 
@@ -89,7 +86,7 @@ same_record a b is =
       prior = same_text a.prior b.prior (sym lists.1) i;
     }
 
-before_is : (b : Option RealmRecord) (r : RealmRecord) → is_as_before b r ≡ true → b ≡ Some r
+pub before_is : (b : Option RealmRecord) (r : RealmRecord) → is_as_before b r ≡ true → b ≡ Some r
 before_is None r is = absurd (true≢false (sym is))
 before_is (Some a) r is = ap (λ x. Some x) (same_record a r is)
 
@@ -100,47 +97,3 @@ changed_is b (Some r) t is = at (is_as_before b r) is
     at : (c : Bool) → cond c None (Some r) ≡ Some t → Some r ≡ Some t
     at true none = absurd cc
     at false same = same
-
--- The records of the log
-
-abbrev pub changed_at : (ℕ → List ℕ) → List Record → List Record → ℕ → Option RealmRecord
-changed_at up before after d = changed_record (realm_record (up d) before d) (realm_record (up d) after d)
-
-pub changed_realm : (up : ℕ → List ℕ) (before after : List Record) (d : ℕ) (t : RealmRecord) → changed_at up before after d ≡ Some t → t.realm ≡ d
-changed_realm up before after d t is = at (is_realm after d) (changed_is (realm_record (up d) before d) (realm_record (up d) after d) t is)
-  where
-    at : (b : Bool) → cond b (Some (realm_of up after d)) None ≡ Some t → t.realm ≡ d
-    at true same = let r_t : realm_of up after d ≡ t = cc in sym (ap (λ (r : RealmRecord). r.realm) r_t)
-    at false none = absurd cc
-
--- the client's records go on from those before to those after
-pub has_changed : (up : ℕ → List ℕ) (ds : List ℕ) (before after : List Record) (ts : List RealmRecord)
-    → ((d : ℕ) → is_realm before d ≡ true → is_realm after d ≡ true) → ((d : ℕ) → is_realm after d ≡ true → Member d ds)
-    → HasRealms up before ts → HasRealms up after (with_records (changed_records up ds before after) ts)
-has_changed up ds before after ts stays listed i = record { has = λ d. at d (is_realm after d) refl }
-  where
-    none : (d : ℕ) → changed_at up before after d ≡ None → record_of d (with_records (changed_records up ds before after) ts) ≡ realm_record (up d) before d
-    none d is = none_told (changed_at up before after) (changed_realm up before after) d ds ts is ∙ i.has d
-
-    gone : (d : ℕ) (b : Bool) → is_realm before d ≡ b → is_realm after d ≡ false → realm_record (up d) before d ≡ None
-    gone d true was not = absurd (both_ways (is_realm after d) not (stays d was))
-    gone d false was not = ap (λ c. cond c (Some (realm_of up before d)) None) was
-
-    differ : (d : ℕ) (b : Bool) → is_as_before (realm_record (up d) before d) (realm_of up after d) ≡ b → is_realm after d ≡ true
-        → changed_at up before after d ≡ cond b None (Some (realm_of up after d))
-    differ d b same is =
-        ap (λ c. changed_record (realm_record (up d) before d) (cond c (Some (realm_of up after d)) None)) is
-        ∙ ap (λ c. cond c None (Some (realm_of up after d))) same
-
-    told : (d : ℕ) (b : Bool) → is_as_before (realm_record (up d) before d) (realm_of up after d) ≡ b → is_realm after d ≡ true
-        → record_of d (with_records (changed_records up ds before after) ts) ≡ Some (realm_of up after d)
-    told d true same is = none d (differ d true same is) ∙ before_is (realm_record (up d) before d) (realm_of up after d) same
-    told d false other is =
-        one_told (changed_at up before after) (changed_realm up before after) d (realm_of up after d) ds ts (differ d false other is) (inl (listed d is))
-
-    at : (d : ℕ) (b : Bool) → is_realm after d ≡ b → record_of d (with_records (changed_records up ds before after) ts) ≡ realm_record (up d) after d
-    at d true is =
-        told d (is_as_before (realm_record (up d) before d) (realm_of up after d)) refl is ∙ sym (ap (λ c. cond c (Some (realm_of up after d)) None) is)
-    at d false not =
-        none d (ap (λ c. changed_record (realm_record (up d) before d) (cond c (Some (realm_of up after d)) None)) not)
-        ∙ (gone d (is_realm before d) refl not ∙ sym (ap (λ c. cond c (Some (realm_of up after d)) None) not))

@@ -1,6 +1,6 @@
 -- The changes of a file's mode, as a second kind of writes: each has the seq that the file's context had then for its tag.
 use Rattle.std.proofs.Common.{◌≡◌, refl, sym, ap, ◌∙◌, ℕ, ◌<◌, ◌≤◌, if◌then◌else◌, Bool, true, false, cond, ◌==◌, nat_le, nat_lt, filter, List, [], ◌∷◌, Option, Some, None, arith, inl, ⊎_elim}
-use Rattle.std.proofs.lemmas.Bool.{cases_lt, cond_both, cond-false, cond-true, le-leb, lt-leb, le-ltb, lt-ltb}
+use Rattle.std.proofs.lemmas.Bool.{cases_lt, cond_both, cond-false, cond-true, false_from_ne_true, le-leb, le-ltb, lt-leb, lt-ltb}
 use Rattle.cs_parts.specs.declared.references.Live.{Live}
 use Rattle.cs_laws.specs.declared.events.Event.{Event}
 use Rattle.cs_laws.specs.declared.events.Event.TheVariants as e
@@ -9,8 +9,8 @@ use Rattle.cs_laws.specs.declared.answers.Answer.TheVariants as a
 use Rattle.cs_laws.specs.declared.answers.Entry.{Entry}
 use Rattle.cs_laws.specs.declared.objects.At.TheVariants as at
 use Rattle.cs_laws.specs.History.{context, live, mode}
-use Rattle.cs_laws.specs.Owed.{mode_at}
-use Rattle.cs_laws.specs.References.{mode_then, named, with_mode}
+use Rattle.cs_laws.specs.Owed.{had_reached, mode_at}
+use Rattle.cs_laws.specs.References.{first_mode, mode_then, named, with_mode}
 use Rattle.cs_theorems.proofs.Listed.{Each, each_tail}
 
 pub record Change : Type 0 where
@@ -34,7 +34,7 @@ changes (x ∷ h) f = changes_then x.event x.answer (live h) (context h f).seq f
 
 -- the mode after these changes
 abbrev pub last_mode : List Change → ℕ
-last_mode [] = 420
+last_mode [] = first_mode
 last_mode (c ∷ cs) = c.mode
 
 -- those with a tag of at most q, and those with a tag below s
@@ -107,15 +107,16 @@ ModesAt h = (f s : ℕ) → s ≤ (context h f).seq → mode_at h f (at.Snap s) 
 pub modes_first : ModesAt []
 modes_first f s up = refl
 
-pub modes_step : (h : List Entry) (x : Event) (y : Answer) → ((f : ℕ) → Each (λ c. c.tag ≤ (context h f).seq) (changes h f)) → ModesAt h
-    → ModesAt (record { event = x; answer = y } ∷ h)
-modes_step h x y low i f s up =
+pub modes_step : (h : List Entry) (x : Event) (y : Answer) → ((f : ℕ) → Each (λ c. c.tag ≤ (context h f).seq) (changes h f))
+    → ((f s : ℕ) → had_reached h f s ≡ true → s ≤ (context h f).seq) → ((f s : ℕ) → s ≤ (context h f).seq → had_reached h f s ≡ true)
+    → ModesAt h → ModesAt (record { event = x; answer = y } ∷ h)
+modes_step h x y low reached reaches i f s up =
     ⊎_elim
     (λ later.
-    cond-false (nat_le s (context h f).seq) (mode_at h f (at.Snap s)) (mode h f) (lt-leb s (context h f).seq later)
+    cond-false (had_reached h f s) (mode_at h f (at.Snap s)) (mode h f) (false_from_ne_true (had_reached h f s) (λ is. omega (arith, reached f s is, later)))
     ∙ (mode_is h f
     ∙ ap last_mode (sym (ap (changes_below s) (unchanged h x y f s later up) ∙ below_all s (changes h f) (λ c m. omega (arith, low f c m))))))
     (λ upto.
-    cond-true (nat_le s (context h f).seq) (mode_at h f (at.Snap s)) (mode h f) (le-leb s (context h f).seq upto)
+    cond-true (had_reached h f s) (mode_at h f (at.Snap s)) (mode h f) (reaches f s upto)
     ∙ (i f s upto ∙ ap last_mode (sym (below_then x y (live h) (context h f).seq f s (changes h f) upto))))
     (cases_lt (context h f).seq s)

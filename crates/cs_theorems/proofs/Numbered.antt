@@ -8,11 +8,13 @@ use Rattle.cs_laws.specs.declared.answers.Answer.{Answer}
 use Rattle.cs_laws.specs.declared.answers.Entry.{Entry}
 use Rattle.cs_laws.specs.Flushes.{Flush}
 use Rattle.cs_laws.specs.History.{sent}
-use Rattle.cs_laws.specs.Journal.{entry, history, journal}
+use Rattle.cs_laws.specs.Journal.{entry}
+use Rattle.cs_laws.specs.Runs.{IsRun}
+use Rattle.cs_theorems.proofs.Runs.{of_run}
 use Rattle.cs_theorems.specs.Flushes.{FlushesAreNumbered}
 use Rattle.cs_theorems.proofs.Numbers.{range_end}
 use Rattle.cs_theorems.proofs.Chains.{one_longer}
-use Rattle.cs_theorems.proofs.Places.{AllPlaced, all_placed}
+use Rattle.cs_theorems.proofs.Places.{AllPlaced, run_placed}
 use Rattle.cs_theorems.proofs.Inversions.{FlushIs, head_unknown, head_snap, head_clean, head_sent, flush_is, FlushSnapsIs, flush_unknown, flush_none, flush_writing, flush_sent, flush_snaps_is}
 
 abbrev Numbered : List Flush → Type 0
@@ -42,12 +44,9 @@ numbered_step p h (e.Flush g) i = step_flush h g _ (flush_is h g) i
 numbered_step p h (e.FlushSnaps g) i = step_flush_snaps h g _ (flush_snaps_is h g) i
 numbered_step p h _ i = i
 
-numbered_steps : (p : ℕ) (es : List Event) (h : List Entry) → Numbered (sent h) → Numbered (sent (history p h es))
-numbered_steps p [] h i = i
-numbered_steps p (x ∷ es) h i = numbered_steps p es (entry p h x ∷ h) (numbered_step p h x i)
-
 are_numbered : (h : List Entry) → Numbered (sent h) → AllPlaced h → FlushesAreNumbered h
 are_numbered h i places = record { numbered = i; standing = places.standing; flying = places.flying }
 
-pub flushes_numbered : (p : ℕ) (es : List Event) → FlushesAreNumbered (journal p es)
-flushes_numbered p es = are_numbered (journal p es) (numbered_steps p es [] refl) (all_placed p es)
+pub flushes_numbered : (p : ℕ) (h : List Entry) → IsRun p h → FlushesAreNumbered h
+flushes_numbered p h run =
+    are_numbered h (of_run p (λ g. Numbered (sent g)) refl (λ g x fit before i. numbered_step p g x i) h run) (run_placed p h run)

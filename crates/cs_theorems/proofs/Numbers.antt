@@ -2,8 +2,8 @@
 use Rattle.std.proofs.Common.{◌≡◌, refl, ap, ◌∙◌, ℕ, zero, suc, ◌+◌, ◌<◌, ◌≤◌, List, [], ◌∷◌, ◌++◌, arith, inl, inr}
 use Rattle.std.specs.List.{range_with_len}
 use Rattle.std.proofs.lemmas.Bool.{cond-true, cond-false, eq-eqb, ne_eqb}
-use Rattle.cs_theorems.specs.Flushes.{times}
-use Rattle.cs_theorems.specs.Lists.{Member, RisesFrom}
+use Rattle.cs_laws.specs.Laws.{times}
+use Rattle.cs_laws.specs.Lists.{Member, RisesFrom}
 
 never : (s n : ℕ) (xs : List ℕ) → RisesFrom s xs → n ≤ s → times n xs ≡ 0
 never s n [] up low = refl

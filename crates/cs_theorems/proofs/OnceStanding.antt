@@ -9,16 +9,18 @@ use Rattle.cs_laws.specs.declared.answers.Answer.TheVariants as a
 use Rattle.cs_laws.specs.declared.answers.Entry.{Entry}
 use Rattle.cs_laws.specs.Flushes.{Flush, acked, acked_then, sent_then}
 use Rattle.cs_laws.specs.History.{present, sent, snap, stand, to_server}
-use Rattle.cs_laws.specs.Journal.{entry, history, journal}
+use Rattle.cs_laws.specs.Journal.{entry}
 use Rattle.cs_laws.specs.Owed.{is_acked, is_later}
-use Rattle.cs_theorems.specs.Flushes.{tids, AckedStandOnce, FlushesStandOnce, RetiredStandOnce}
-use Rattle.cs_theorems.specs.Lists.{RisesFrom}
+use Rattle.cs_laws.specs.Laws.{AckedStandOnce, FlushesRise, FlushesStandOnce, InEveryPrefix, tids}
+use Rattle.cs_laws.specs.Lists.{RisesFrom}
+use Rattle.cs_laws.specs.Runs.{IsRun}
+use Rattle.cs_theorems.proofs.Runs.{in_every_prefix}
 use Rattle.cs_theorems.proofs.Listed.{Member, member_left}
 use Rattle.cs_theorems.proofs.Numbers.{times_once}
 use Rattle.cs_theorems.proofs.Rising.{rises_front}
-use Rattle.cs_theorems.proofs.Chains.{AllRise, all_rise, flight}
-use Rattle.cs_theorems.proofs.Acks.{AllAcked, all_acked}
-use Rattle.cs_theorems.proofs.Places.{AllPlaced, all_placed}
+use Rattle.cs_theorems.proofs.Chains.{AllRise, flight, run_rise}
+use Rattle.cs_theorems.proofs.Acks.{AllAcked, run_acked}
+use Rattle.cs_theorems.proofs.Places.{AllPlaced, run_placed}
 use Rattle.cs_theorems.proofs.Retired.{record_member, retired_stands, told_stands}
 use Rattle.cs_theorems.proofs.Tests.{any_some, any_true}
 
@@ -30,10 +32,6 @@ still false was is = is
 kept : (x : Event) (y : Answer) (f tid : ℕ) (was : Bool) → was ≡ true → acked_then x y f tid was ≡ true
 kept e.ToClient (a.FlushAck g t) f tid was is = still ((g == f) && (t == tid)) was is
 kept _ _ f tid was is = is
-
-acked_since : (new before : List Entry) (f tid : ℕ) → acked before f tid ≡ true → acked (new ++ before) f tid ≡ true
-acked_since [] before f tid is = is
-acked_since (x ∷ new) before f tid is = kept x.event x.answer f tid (acked (new ++ before) f tid) (acked_since new before f tid is)
 
 -- so does what was sent
 sent_on : (x : Event) (y : Answer) (now : ℕ → ℕ → Flush) (old : ℕ → ℕ → ℕ → Flush) (xs : List Flush) (z : Flush) → Member z xs
@@ -71,39 +69,21 @@ retired_since (x ∷ new) before z was = retired_on x (new ++ before) z (retired
 rise : (h : List Entry) → AllRise h → (f : ℕ) → RisesFrom 0 (tids f (stand h))
 rise h i f = rises_front 0 _ (tids f (stand h)) (flight f (to_server h)) (i f).rises
 
-once : (h : List Entry) → AllRise h → AllAcked h → AckedStandOnce h h
-once h i j f tid is = times_once 0 tid (tids f (stand h)) (rise h i f) (told_stands h j f tid is)
-
-retired_once : (h : List Entry) → AllRise h → AllAcked h → AllPlaced h → RetiredStandOnce h h
-retired_once h i j k x there is =
+acked_once : (h : List Entry) → AllRise h → AllAcked h → AllPlaced h → AckedStandOnce h h
+acked_once h i j k x there is =
     times_once 0 x.tid (tids x.file (stand h)) (rise h i x.file) (record_member x.file x (stand h) refl (retired_stands h i j k x there is))
 
-stand_once : (h : List Entry) → AllRise h → AllAcked h → AllPlaced h → FlushesStandOnce h
-stand_once h i j k = record {
-  rise = rise h i;
-  once = λ before new is. (
-    λ f tid was. once h i j f tid (subst (λ g. acked g f tid ≡ true) (sym is) (acked_since new before f tid was)),
-    λ x there was.
-        retired_once h i j k x (subst (λ g. Member x (sent g)) (sym is) (sent_since new before x there))
-        (subst (λ g. is_acked g x ≡ true) (sym is) (retired_since new before x was)),
-  );
+run_acked_once : (p : ℕ) (h : List Entry) → IsRun p h → AckedStandOnce h h
+run_acked_once p h run = acked_once h (run_rise p h run) (run_acked p h run) (run_placed p h run)
+
+-- what was acknowledged before is acknowledged
+pub once_later : (p : ℕ) (before new : List Entry) → IsRun p (new ++ before) → AckedStandOnce before (new ++ before)
+once_later p before new run x there was =
+    run_acked_once p (new ++ before) run x (sent_since new before x there) (retired_since new before x was)
+
+pub flushes_once : (p : ℕ) (h : List Entry) → IsRun p h → FlushesStandOnce h
+flushes_once p h run = record {
+  rise = in_every_prefix p FlushesRise (λ g is. rise g (run_rise p g is)) h run;
+  once = in_every_prefix p (λ later. InEveryPrefix (λ before. AckedStandOnce before later) later) (λ g run_g before new is.
+      subst (λ k. AckedStandOnce before k) (sym is) (once_later p before new (subst (λ k. IsRun p k) is run_g))) h run;
 }
-
-pub flushes_once : (p : ℕ) (es : List Event) → FlushesStandOnce (journal p es)
-flushes_once p es = stand_once (journal p es) (all_rise p es) (all_acked p es) (all_placed p es)
-
--- over journals
-
-acked_later : (p : ℕ) (more : List Event) (h : List Entry) (f tid : ℕ) → acked h f tid ≡ true → acked (history p h more) f tid ≡ true
-acked_later p [] h f tid is = is
-acked_later p (x ∷ more) h f tid is =
-    acked_later p more (entry p h x ∷ h) f tid (kept x (entry p h x).answer f tid (acked h f tid) is)
-
-history_append : (p : ℕ) (es more : List Event) (h : List Entry) → history p h (es ++ more) ≡ history p (history p h es) more
-history_append p [] more h = refl
-history_append p (x ∷ es) more h = history_append p es more (entry p h x ∷ h)
-
-pub once_later : (p : ℕ) (es more : List Event) → AckedStandOnce (journal p es) (journal p (es ++ more))
-once_later p es more f tid is =
-    once (journal p (es ++ more)) (all_rise p (es ++ more)) (all_acked p (es ++ more)) f tid
-    (subst (λ h. acked h f tid ≡ true) (sym (history_append p es more [])) (acked_later p more (journal p es) f tid is))

@@ -19,7 +19,7 @@ use Rattle.cs_laws.specs.History.{live}
 use Rattle.cs_laws.specs.Journal.{entry}
 use Rattle.cs_laws.specs.Operations.{begun_under, operations, written_on, brought, drawn_then, operations_drawn, applied}
 use Rattle.cs_laws.specs.References.{named}
-use Rattle.cs_theorems.specs.Runs.{IsRun}
+use Rattle.cs_laws.specs.Runs.{IsRun}
 use Rattle.cs_theorems.proofs.Listed.{Each, each_nil, each_cons, each_append, each_reverse}
 use Rattle.cs_theorems.proofs.Runs.{of_run}
 
@@ -87,4 +87,4 @@ few_step : (p : ℕ) (h : List Entry) (x : Event) → fits x ≡ true → FewDra
 few_step p h x fit i = omega (arith, i, drawn_is x (entry p h x).answer h (operations_drawn h), brought_few x (entry p h x).answer h (operations_drawn h) fit)
 
 pub few_drawn : (p : ℕ) (h : List Entry) → IsRun p h → operations_drawn h ≤ 2 * length h
-few_drawn p h run = of_run p FewDrawn (omega arith) (λ g x fit before i. few_step p g x fit i) h run
+few_drawn p h run = of_run p FewDrawn (omega arith) (λ g x can before i. few_step p g x can.spelled i) h run

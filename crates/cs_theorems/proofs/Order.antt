@@ -15,16 +15,16 @@ use Rattle.cs_laws.specs.declared.answers.Answer.{Answer}
 use Rattle.cs_laws.specs.declared.answers.Entry.{Entry}
 use Rattle.cs_laws.specs.Answers.{may_write}
 use Rattle.cs_laws.specs.CapSnaps.{CapSnap, has_writer, is_open, is_writing, makes, writers}
-use Rattle.cs_laws.specs.Context.{differs, first_told, path_context}
+use Rattle.cs_laws.specs.Context.{differs, with_first, path_context}
 use Rattle.cs_laws.specs.Events.{begun, clock, setup_file}
 use Rattle.cs_laws.specs.History.{context, dirty, live, mode, queued, realms, to_client, writes}
-use Rattle.cs_laws.specs.Tree.{file_path}
+use Rattle.cs_laws.specs.Tree.{client_file_path}
 use Rattle.cs_laws.specs.Image.{Write}
 use Rattle.cs_laws.specs.Journal.{entry}
 use Rattle.cs_laws.specs.Writes.{with_write}
 use Rattle.cs_theorems.specs.Order.{HasOlder}
 use Rattle.cs_theorems.proofs.Begun.{member_without_named}
-use Rattle.cs_theorems.specs.Contexts.{Moves}
+use Rattle.cs_theorems.specs.Contexts.{Rises}
 use Rattle.cs_theorems.proofs.Blank.{AllBlank, none_live}
 use Rattle.cs_theorems.proofs.Contexts.{dir_stays, file_stays, told_moves}
 use Rattle.cs_theorems.proofs.Inversions.{BeginIs, begin_unknown, begin_caps, begin_snap, begin_max, begin_full, begun_ref, begin_is, EndIs, end_unknown, ended, end_is, WriteIs, write_unknown, write_no_bit, write_past, wrote, write_is, FlushSnapsIs, flush_unknown, flush_none, flush_writing, flush_sent, flush_snaps_is, FirstIs, first_idle, first_cap, first_flush_ack, first_snap, first_is}
@@ -196,14 +196,14 @@ pub none_made : (f : ℕ) (old new : Context) (rs : List Live) (d : Caps) (xs : 
 none_made f old new rs d xs same =
     and_left _ _ (and_left (differs old new) (not (is_writing rs xs)) (not_other old new same))
 
-in_order_moved : (f : ℕ) (n : ℕ → ℕ) (old new : Context) (number : ℕ) (rs : List Live) (ws : List Write) (xs : List CapSnap) (d : Caps) (m : ℕ) → Moves number old new
+in_order_moved : (f : ℕ) (n : ℕ → ℕ) (old new : Context) (rs : List Live) (ws : List Write) (xs : List CapSnap) (d : Caps) (m : ℕ) → Rises old new
     → Names n rs → InOrder f old.seq n rs ws xs
     → InOrder f new.seq n rs ws (cond (makes f old new rs d xs) (xs ++ record { follows = old.seq; mode = m; writers = writers f rs } ∷ []) xs)
-in_order_moved f n old new number rs ws xs d m (inl same) names i =
+in_order_moved f n old new rs ws xs d m (inl same) names i =
     let y : CapSnap = record { follows = old.seq; mode = m; writers = writers f rs } in
     subst (λ b. InOrder f new.seq n rs ws (cond b (xs ++ y ∷ []) xs)) (sym (none_made f old new rs d xs same))
     (subst (λ (c : Context). InOrder f c.seq n rs ws xs) (sym same) i)
-in_order_moved f n old new number rs ws xs d m (inr rises) names i = in_order_told f n old new rs ws xs d m rises.0 names i
+in_order_moved f n old new rs ws xs d m (inr rises) names i = in_order_told f n old new rs ws xs d m rises names i
 
 step_client : (h : List Entry) (x : Answer) → FirstIs h x → Setting h → Ordered h → Ordered (record { event = e.ToClient; answer = x } ∷ h)
 step_client h x first_idle setting i = i
@@ -212,7 +212,7 @@ step_client h x (first_flush_ack f tid q there) setting i = i
 step_client h x (first_snap n d now q there) setting i = (
   i.0,
   λ f.
-      in_order_moved f (λ c. begun h c) (context h f) (path_context (file_path h f) (first_told (to_client h) (realms h))) n (live h) (writes h f) (queued h f) (dirty h f) (mode h f)
+      in_order_moved f (λ c. begun h c) (context h f) (path_context (client_file_path h f) (with_first (to_client h) (realms h))) (live h) (writes h f) (queued h f) (dirty h f) (mode h f)
       (told_moves h n d now q f there setting) i.0 (i.1 f),
 )
 

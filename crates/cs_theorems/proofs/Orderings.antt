@@ -7,8 +7,8 @@ use Rattle.cs_laws.specs.Answers.{count_made}
 use Rattle.cs_laws.specs.CapSnaps.{makes}
 use Rattle.cs_laws.specs.Events.{files, setup_file}
 use Rattle.cs_laws.specs.History.{context, dirty, live, queued}
+use Rattle.cs_laws.specs.Runs.{IsRun}
 use Rattle.cs_theorems.specs.References.{IsEachOnce}
-use Rattle.cs_theorems.specs.Runs.{IsRun}
 use Rattle.cs_theorems.proofs.Files.{listed, listed_once}
 use Rattle.cs_theorems.proofs.Listed.{Member}
 

@@ -20,8 +20,8 @@ use Rattle.cs_laws.specs.History.{context, dirty, live, queued, sent, writes}
 use Rattle.cs_laws.specs.Image.{Write}
 use Rattle.cs_laws.specs.Owed.{is_acked, is_later, is_unacked, is_written, owed}
 use Rattle.cs_laws.specs.Shown.{is_before}
+use Rattle.cs_laws.specs.Runs.{IsRun}
 use Rattle.cs_theorems.specs.Queues.{snaps}
-use Rattle.cs_theorems.specs.Runs.{IsRun}
 use Rattle.cs_theorems.specs.Unacked.{sent_of, unacked}
 use Rattle.cs_theorems.proofs.Course.{course_run}
 use Rattle.cs_theorems.proofs.Listed.{Member}

@@ -17,11 +17,13 @@ use Rattle.cs_laws.specs.History.{context, live, queued, writes}
 use Rattle.cs_laws.specs.Image.{Write, upto}
 use Rattle.cs_laws.specs.Journal.{history, journal, entry}
 use Rattle.cs_laws.specs.Writes.{with_write}
+use Rattle.cs_laws.specs.Runs.{IsRun}
+use Rattle.cs_theorems.proofs.Runs.{entry_is, run_before}
 use Rattle.cs_theorems.specs.Snapshots.{FinishedSnapsKeepTheirWrites}
 use Rattle.cs_theorems.proofs.Begun.{member_without_named}
 use Rattle.cs_theorems.proofs.Blank.{AllBlank}
 use Rattle.cs_theorems.proofs.Contexts.{dir_stays, file_stays, told_moves}
-use Rattle.cs_theorems.proofs.Course.{Course, course, course_step}
+use Rattle.cs_theorems.proofs.Course.{Course, course_run}
 use Rattle.cs_theorems.proofs.Inversions.{BeginIs, begin_unknown, begin_caps, begin_snap, begin_max, begin_full, begun_ref, begin_is, EndIs, end_unknown, ended, end_is, WriteIs, write_unknown, write_no_bit, write_past, wrote, write_is, FirstIs, first_idle, first_cap, first_flush_ack, first_snap, first_is}
 use Rattle.cs_theorems.proofs.Listed.{Member, Each, each_end}
 use Rattle.cs_theorems.proofs.Known.{known_then}
@@ -66,7 +68,7 @@ past_client f q h x (first_snap n d now rest there) setting i = record {
   known = i.known;
   seq = ⊎_elim
       (λ same. subst (λ (c : Context). q < c.seq) (sym same) i.seq)
-      (λ rises. omega (arith, i.seq, rises.0))
+      (λ rises. omega (arith, i.seq, rises))
       (told_moves h n d now rest f there setting);
   writers = i.writers;
 }
@@ -108,25 +110,27 @@ upto_step : (p f q : ℕ) (h : List Entry) (x : Event) → IsPastAt f q h → up
 upto_step p f q h (e.Write c name off bytes) i = upto_write f q h c name off bytes _ (write_is h c name off bytes) i
 upto_step p f q h _ i = refl
 
-upto_steps : (p f q : ℕ) (es : List Event) (h : List Entry) → Course h → IsPastAt f q h → upto q (writes (history p h es) f) ≡ upto q (writes h f)
-upto_steps p f q [] h course i = refl
-upto_steps p f q (x ∷ es) h course i =
-    upto_steps p f q es (entry p h x ∷ h) (course_step p h x course) (past_step p f q h x course.setting i) ∙ upto_step p f q h x i
-
-history_append : (p : ℕ) (es more : List Event) (h : List Entry) → history p h (es ++ more) ≡ history p (history p h es) more
-history_append p [] more h = refl
-history_append p (x ∷ es) more h = history_append p es more (entry p h x ∷ h)
-
 -- a file of which a cap snap waits is known
 queued_known : (h : List Entry) (f : ℕ) (x : CapSnap) → AllBlank h → Member x (queued h f) → setup_file h f ≡ true
 queued_known h f x blank m =
     ⊎_elim (λ known. known) (λ unknown. absurd (subst (λ xs. Member x xs) (blank f unknown).queued m)) (cases_Bool (setup_file h f))
 
-kept_after : (p : ℕ) (h : List Entry) (more : List Event) → Course h → FinishedSnapsKeepTheirWrites h (history p h more)
-kept_after p h more i f x m closed =
-    upto_steps p f x.follows more h i (record { known = queued_known h f x i.blank m; seq = (i.order.1 f).tags.queued_low x m; writers = not_written h i.order f x m closed })
+-- the course of a longer run keeps what is past
+past_since : (p f q : ℕ) (new h : List Entry) → IsRun p (new ++ h) → IsPastAt f q h → IsPastAt f q (new ++ h)
+past_since p f q [] h run i = i
+past_since p f q (x ∷ new) h run i =
+    subst (λ y. IsPastAt f q (y ∷ new ++ h)) (entry_is p (new ++ h) x run)
+    (past_step p f q (new ++ h) x.event (course_run p (new ++ h) run.1).setting (past_since p f q new h run.1 i))
 
-pub keep_their_writes : (p : ℕ) (es more : List Event) → FinishedSnapsKeepTheirWrites (journal p es) (journal p (es ++ more))
-keep_their_writes p es more =
-    subst (λ later. FinishedSnapsKeepTheirWrites (journal p es) later) (sym (history_append p es more []))
-    (kept_after p (journal p es) more (course p es))
+upto_since : (p f q : ℕ) (new h : List Entry) → IsRun p (new ++ h) → IsPastAt f q h → upto q (writes (new ++ h) f) ≡ upto q (writes h f)
+upto_since p f q [] h run i = refl
+upto_since p f q (x ∷ new) h run i =
+    subst (λ y. upto q (writes (y ∷ new ++ h) f) ≡ upto q (writes (new ++ h) f)) (entry_is p (new ++ h) x run)
+    (upto_step p f q (new ++ h) x.event (past_since p f q new h run.1 i))
+    ∙ upto_since p f q new h run.1 i
+
+pub keep_their_writes : (p : ℕ) (h new : List Entry) → IsRun p (new ++ h) → FinishedSnapsKeepTheirWrites h (new ++ h)
+keep_their_writes p h new run f x m closed =
+    let i : Course h = course_run p h (run_before p new h run) in
+    upto_since p f x.follows new h run
+    (record { known = queued_known h f x i.blank m; seq = (i.order.1 f).tags.queued_low x m; writers = not_written h i.order f x m closed })

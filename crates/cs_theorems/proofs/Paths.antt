@@ -7,7 +7,7 @@ use Rattle.cs_laws.specs.declared.answers.Entry.{Entry}
 use Rattle.cs_laws.specs.Answers.{answer_made, is_in_use}
 use Rattle.cs_laws.specs.Events.{setup_file}
 use Rattle.cs_laws.specs.Journal.{entry}
-use Rattle.cs_laws.specs.Tree.{file_path, home, is_directory, path, setup_dir}
+use Rattle.cs_laws.specs.Tree.{client_file_path, home, is_directory, path, setup_dir}
 use Rattle.cs_theorems.proofs.Listed.{Each, each_nil, each_cons, each_tail}
 
 -- each directory of a way has the rest of the way above it
@@ -125,26 +125,26 @@ housed_first f = refl
 
 -- The path of a file stays, but where it is made.
 
-pub dir_path : (h : List Entry) (d p f : ℕ) → Housed h → file_path (record { event = e.Dir d p; answer = answer_made h d p } ∷ h) f ≡ file_path h f
+pub dir_path : (h : List Entry) (d p f : ℕ) → Housed h → client_file_path (record { event = e.Dir d p; answer = answer_made h d p } ∷ h) f ≡ client_file_path h f
 dir_path h d p f i =
-    cond_both (is_in_use h d) _ _ (λ x. file_path (record { event = e.Dir d p; answer = x } ∷ h) f ≡ file_path h f) (λ _. refl)
-    (λ new. cond_both (is_directory h p) _ _ (λ x. file_path (record { event = e.Dir d p; answer = x } ∷ h) f ≡ file_path h f)
+    cond_both (is_in_use h d) _ _ (λ x. client_file_path (record { event = e.Dir d p; answer = x } ∷ h) f ≡ client_file_path h f) (λ _. refl)
+    (λ new. cond_both (is_directory h p) _ _ (λ x. client_file_path (record { event = e.Dir d p; answer = x } ∷ h) f ≡ client_file_path h f)
     (λ _. cond-false (d == home h f) _ _ (apart (λ k. is_directory h k) d (home h f) (or_parts (is_directory h d) (setup_file h d) new).0 (i f)))
     (λ _. refl))
 
-file_stays : (h : List Entry) (g p f : ℕ) → (file_path (record { event = e.File g p; answer = answer_made h g p } ∷ h) f ≡ file_path h f) ⊎ (setup_file h f ≡ false)
+file_stays : (h : List Entry) (g p f : ℕ) → (client_file_path (record { event = e.File g p; answer = answer_made h g p } ∷ h) f ≡ client_file_path h f) ⊎ (setup_file h f ≡ false)
 file_stays h g p f =
-    cond_both (is_in_use h g) _ _ (λ x. (file_path (record { event = e.File g p; answer = x } ∷ h) f ≡ file_path h f) ⊎ (setup_file h f ≡ false)) (λ _. inl refl)
-    (λ new. cond_both (is_directory h p) _ _ (λ x. (file_path (record { event = e.File g p; answer = x } ∷ h) f ≡ file_path h f) ⊎ (setup_file h f ≡ false))
+    cond_both (is_in_use h g) _ _ (λ x. (client_file_path (record { event = e.File g p; answer = x } ∷ h) f ≡ client_file_path h f) ⊎ (setup_file h f ≡ false)) (λ _. inl refl)
+    (λ new. cond_both (is_directory h p) _ _ (λ x. (client_file_path (record { event = e.File g p; answer = x } ∷ h) f ≡ client_file_path h f) ⊎ (setup_file h f ≡ false))
     (λ _. at (g == f) refl (or_parts (is_directory h g) (setup_file h g) new).1)
     (λ _. inl refl))
   where
-    at : (b : Bool) → (g == f) ≡ b → setup_file h g ≡ false → (path h (cond b p (home h f)) ≡ file_path h f) ⊎ (setup_file h f ≡ false)
+    at : (b : Bool) → (g == f) ≡ b → setup_file h g ≡ false → (path h (cond b p (home h f)) ≡ client_file_path h f) ⊎ (setup_file h f ≡ false)
     at true same new = inr (subst (λ k. setup_file h k ≡ false) (eqb-true g f same) new)
     at false other new = inl refl
 
 -- the file was unknown, or its path stays
-pub path_stays : (p : ℕ) (h : List Entry) (x : Event) (f : ℕ) → Housed h → (file_path (entry p h x ∷ h) f ≡ file_path h f) ⊎ (setup_file h f ≡ false)
+pub path_stays : (p : ℕ) (h : List Entry) (x : Event) (f : ℕ) → Housed h → (client_file_path (entry p h x ∷ h) f ≡ client_file_path h f) ⊎ (setup_file h f ≡ false)
 path_stays p h (e.Dir d q) f i = inl (dir_path h d q f i)
 path_stays p h (e.File g q) f i = file_stays h g q f
 path_stays p h _ f i = inl refl

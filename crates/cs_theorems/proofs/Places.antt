@@ -14,10 +14,11 @@ use Rattle.cs_laws.specs.declared.records.RecordBody.{RecordBody}
 use Rattle.cs_laws.specs.declared.records.RecordBody.TheVariants as bodies
 use Rattle.cs_laws.specs.Flushes.{Flush, flush_message, flush_record}
 use Rattle.cs_laws.specs.History.{client, to_server, durable, fresh, present, sent, snap, stand}
-use Rattle.cs_laws.specs.Journal.{entry, history, journal}
+use Rattle.cs_laws.specs.Journal.{entry}
 use Rattle.cs_laws.specs.Standing.{recorded, recorded_of, greatest_number}
+use Rattle.cs_laws.specs.Runs.{IsRun}
+use Rattle.cs_laws.specs.Carried.{flush_on}
 use Rattle.cs_theorems.specs.Flushes.{IsMessageSent, IsRecordSent}
-use Rattle.cs_theorems.specs.Runs.{IsRun}
 use Rattle.cs_theorems.proofs.Listed.{Member, Each, each_nil, each_end, each_tail, member_left, member_right}
 use Rattle.cs_theorems.proofs.Rising.{at_first}
 use Rattle.cs_theorems.proofs.Runs.{of_run}
@@ -107,23 +108,23 @@ places_passed xs f seq bits q rs i = record {
 
 -- a flush is taken, and its record stands
 -- its record is the flush's
-pub recorded_one : (x : Flush) → recorded_of (flush_message x) ≡ flush_record x ∷ []
+pub recorded_one : (x : Flush) → recorded_of (flush_on (flush_message x)) ≡ flush_record x ∷ []
 recorded_one x =
-    cond_both x.snap _ _ (λ m. recorded_of m ≡ flush_record x ∷ [])
+    cond_both x.snap _ _ (λ m. recorded_of (flush_on m) ≡ flush_record x ∷ [])
     (λ is. ap (λ b. record { body = bodies.Flush b x.file x.tid x.follows x.meta } ∷ []) (sym is))
     (λ is. ap (λ b. record { body = bodies.Flush b x.file x.tid x.follows x.meta } ∷ []) (sym is))
 
-place_own : (x : Flush) (m : Message) (rs : List Record) → m ≡ flush_message x → Member (flush_record x) (rs ++ recorded_of m)
+place_own : (x : Flush) (m : Message) (rs : List Record) → m ≡ flush_message x → Member (flush_record x) (rs ++ recorded_of (flush_on m))
 place_own x m rs is =
-    subst (λ ss. Member (flush_record x) (rs ++ ss)) (sym (ap recorded_of is ∙ recorded_one x)) (member_end rs (flush_record x))
+    subst (λ ss. Member (flush_record x) (rs ++ ss)) (sym (ap (λ k. recorded_of (flush_on k)) is ∙ recorded_one x)) (member_end rs (flush_record x))
 
-place_recorded : (x : Flush) (m : Message) (q : List Message) (rs : List Record) → Place x (m ∷ q) rs → Place x q (rs ++ recorded_of m)
+place_recorded : (x : Flush) (m : Message) (q : List Message) (rs : List Record) → Place x (m ∷ q) rs → Place x q (rs ++ recorded_of (flush_on m))
 place_recorded x m q rs (inl (inl is)) = inr (place_own x m rs is)
 place_recorded x m q rs (inl (inr flies)) = inl flies
-place_recorded x m q rs (inr stands) = inr (member_left (flush_record x) rs (recorded_of m) stands)
+place_recorded x m q rs (inr stands) = inr (member_left (flush_record x) rs (recorded_of (flush_on m)) stands)
 
 places_recorded : (xs : List Flush) (x : Flush) (q : List Message) (rs : List Record) → Places xs (flush_message x ∷ q) rs
-    → Places xs q (rs ++ recorded_of (flush_message x))
+    → Places xs q (rs ++ recorded_of (flush_on (flush_message x)))
 places_recorded xs x q rs i =
     let m : Message = flush_message x in
     record {
@@ -198,7 +199,7 @@ step_to_server h x (received_flush y q is) i =
     let m : Message = flush_message y in
     let there : Taken h (m ∷ q) (fresh h) = subst (λ p. Taken h p (fresh h)) is i in
     subst (λ p. Taken h (drop 1 p) (fresh h ++ recorded p)) (sym is)
-    (subst (λ rs. Places (sent h) q rs) (append_assoc (durable h) (fresh h) (recorded_of m))
+    (subst (λ rs. Places (sent h) q rs) (append_assoc (durable h) (fresh h) (recorded_of (flush_on m)))
     (places_recorded (sent h) y q (stand h) there))
 
 step_snap : (h : List Entry) (d : ℕ) (name : List ℕ) (x : Answer) → SnapIs h d name x → AllPlaced h
@@ -233,13 +234,6 @@ places_start = record {
   standing = each_nil (λ r. IsRecordSent [] r.body);
   flying = each_nil (λ m. IsMessageSent [] m);
 }
-
-place_steps : (p : ℕ) (es : List Event) (h : List Entry) → AllPlaced h → AllPlaced (history p h es)
-place_steps p [] h i = i
-place_steps p (x ∷ es) h i = place_steps p es (entry p h x ∷ h) (place_step p h x i)
-
-pub all_placed : (p : ℕ) (es : List Event) → AllPlaced (journal p es)
-all_placed p es = place_steps p es [] places_start
 
 pub run_placed : (p : ℕ) (h : List Entry) → IsRun p h → AllPlaced h
 run_placed p h run = of_run p AllPlaced places_start (λ g x fit before i. place_step p g x i) h run

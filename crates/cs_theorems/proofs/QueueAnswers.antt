@@ -15,14 +15,14 @@ use Rattle.cs_laws.specs.declared.answers.Answer.TheVariants as a
 use Rattle.cs_laws.specs.declared.answers.Entry.{Entry}
 use Rattle.cs_laws.specs.declared.messages.Message.TheVariants as messages
 use Rattle.cs_laws.specs.Answers.{answer_flush_snaps_of}
-use Rattle.cs_laws.specs.CapSnaps.{CapSnap, has_writer, is_open, is_writing, makes, writers}
+use Rattle.cs_laws.specs.CapSnaps.{CapSnap, has_writer, is_open, is_writing, makes, queued_mode, writers}
 use Rattle.cs_laws.specs.Context.{differs}
-use Rattle.cs_laws.specs.Flushes.{first_mode, flush_message, flush_snap, meta_upto}
+use Rattle.cs_laws.specs.Flushes.{flush_message, flush_snap, meta_upto}
 use Rattle.cs_laws.specs.History.{context, dirty, live, queued, sent, writes}
 use Rattle.cs_laws.specs.Image.{Write}
+use Rattle.cs_laws.specs.Runs.{IsRun}
 use Rattle.cs_theorems.specs.Order.{HasOlder}
 use Rattle.cs_theorems.specs.Queues.{snaps, flush_answer}
-use Rattle.cs_theorems.specs.Runs.{IsRun}
 use Rattle.cs_theorems.proofs.Course.{course_run}
 use Rattle.cs_theorems.proofs.Listed.{Member}
 use Rattle.cs_theorems.proofs.Opens.{open_has}
@@ -106,7 +106,7 @@ pub record IsReady (rs : List Live) (ws : List Write) (qs : List CapSnap) (found
   pub is : qs ≡ first ∷ rest
   pub closed : is_open rs first ≡ false
   pub follows : first.follows ≡ number
-  pub meta : found ≡ meta_upto number (first_mode qs) ws
+  pub meta : found ≡ meta_upto number (queued_mode qs) ws
 
 answer_of : (n : ℕ) (rs : List Live) (ws : List Write) (qs : List CapSnap) (xs : List Snap) (count : ℕ) → Queue n rs ws qs xs
     → flush_answer (kept.readiness 0 (kept.first_unsent xs)) (count + 1) ≡ answer_flush_snaps_of rs count qs
@@ -161,7 +161,7 @@ queue_ready p h run f found number told =
 
 pub queue_message : (p : ℕ) (h : List Entry) → IsRun p h → (f tid : ℕ) (found : FileMeta) (number : ℕ)
     → kept.readiness 0 (kept.first_unsent (snaps h f)) ≡ ready.Ready found number
-    → messages.FlushSnap f tid number found ≡ flush_message (flush_snap f tid number (first_mode (queued h f)) (writes h f))
+    → messages.FlushSnap f tid number found ≡ flush_message (flush_snap f tid number (queued_mode (queued h f)) (writes h f))
 queue_message p h run f tid found number told = ap (λ m. messages.FlushSnap f tid number m) (queue_ready p h run f found number told).meta
 
 -- the metadata of the first unsent one, once it isn't written on

@@ -21,9 +21,10 @@ use Rattle.cs_laws.specs.Journal.{entry}
 use Rattle.cs_laws.specs.Metadata.{last_flush, later_of, meta_at, meta_of, no_meta}
 use Rattle.cs_laws.specs.Shown.{is_before}
 use Rattle.cs_laws.specs.Standing.{recorded, recorded_of}
-use Rattle.cs_theorems.specs.Flushes.{tids}
+use Rattle.cs_laws.specs.Laws.{tids}
+use Rattle.cs_laws.specs.Runs.{IsRun}
+use Rattle.cs_laws.specs.Carried.{flush_on}
 use Rattle.cs_theorems.specs.Recorded.{AreRising, told, told_then, with_first, with_message, with_told}
-use Rattle.cs_theorems.specs.Runs.{IsRun}
 use Rattle.cs_theorems.specs.Told.{last_told}
 use Rattle.cs_theorems.proofs.Chains.{flight, flight_tid, run_rise}
 use Rattle.cs_theorems.proofs.Inversions.{ReceivedIs, received_idle, received_ack, received_flush, received_is, RemoveIs, remove_none, remove_gone, removed, remove_is, SnapIs, snap_unknown, snap_exists, snap_taken, snap_is}
@@ -62,10 +63,10 @@ told_rises h f = are_rising 0 (told h f) (rises h f)
 
 -- A flush that is delivered
 
-pub recorded_own : (x : Flush) → recorded_of (flush_message x) ≡ flush_record x ∷ []
+pub recorded_own : (x : Flush) → recorded_of (flush_on (flush_message x)) ≡ flush_record x ∷ []
 recorded_own x = at x.snap
   where
-    at : (b : Bool) → recorded_of (cond b (messages.FlushSnap x.file x.tid x.follows x.meta) (messages.Flush x.file x.tid x.follows x.meta))
+    at : (b : Bool) → recorded_of (flush_on (cond b (messages.FlushSnap x.file x.tid x.follows x.meta) (messages.Flush x.file x.tid x.follows x.meta)))
         ≡ record { body = bodies.Flush b x.file x.tid x.follows x.meta } ∷ []
     at true = refl
     at false = refl

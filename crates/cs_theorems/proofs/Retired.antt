@@ -8,7 +8,8 @@ use Rattle.cs_laws.specs.declared.records.Record.{Record}
 use Rattle.cs_laws.specs.Flushes.{Flush, acked, flush_message, flush_record}
 use Rattle.cs_laws.specs.History.{durable, fresh, sent, stand, to_server}
 use Rattle.cs_laws.specs.Owed.{is_acked, is_later}
-use Rattle.cs_theorems.specs.Flushes.{tid_of, tids}
+use Rattle.cs_laws.specs.Laws.{tid_on, tids}
+use Rattle.cs_laws.specs.Carried.{flush_in}
 use Rattle.cs_theorems.proofs.Acks.{AllAcked}
 use Rattle.cs_theorems.proofs.Chains.{AllRise, flight, flight_one, flight_tid, tids_append}
 use Rattle.cs_theorems.proofs.Listed.{Member, member_left}
@@ -24,7 +25,7 @@ flight_member f x q of_f flies =
     member_flat (λ m. flight_tid f m) (flush_message x) x.tid q flies (subst (λ ns. Member x.tid ns) (sym (flight_one f x)) (own_tid f x of_f))
 
 pub record_member : (f : ℕ) (x : Flush) (rs : List Record) → x.file ≡ f → Member (flush_record x) rs → Member x.tid (tids f rs)
-record_member f x rs of_f stands = member_flat (λ r. tid_of f r.body) (flush_record x) x.tid rs stands (own_tid f x of_f)
+record_member f x rs of_f stands = member_flat (λ r. tid_on f (flush_in r.body)) (flush_record x) x.tid rs stands (own_tid f x of_f)
 
 -- what the client was told of stands
 pub told_stands : (h : List Entry) → AllAcked h → (f n : ℕ) → acked h f n ≡ true → Member n (tids f (stand h))

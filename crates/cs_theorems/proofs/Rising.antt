@@ -1,7 +1,7 @@
 -- Lists of numbers that rise, and lists made of a list's members.
 use Rattle.std.proofs.Common.{◌≡◌, sym, subst, ℕ, ◌<◌, ◌≤◌, List, [], ◌∷◌, ◌++◌, drop, arith, inl, inr}
 use Rattle.std.specs.List.{flat_map}
-use Rattle.cs_theorems.specs.Lists.{Member, RisesFrom}
+use Rattle.cs_laws.specs.Lists.{Member, RisesFrom}
 use Rattle.cs_theorems.proofs.Listed.{member_left, member_right}
 
 -- from one number by the others to at most a last one

@@ -4,7 +4,7 @@ use Rattle.cs_laws.specs.declared.events.Event.{Event}
 use Rattle.cs_laws.specs.declared.answers.Entry.{Entry}
 use Rattle.cs_laws.specs.Journal.{entry}
 use Rattle.cs_theorems.proofs.Drawn.{DrawnAt, drawn_first, drawn_step}
-use Rattle.cs_theorems.proofs.Fronts.{FrontAt, front_first, front_step}
+use Rattle.cs_theorems.proofs.Linked.{LinkedAt, linked_first, linked_step}
 use Rattle.cs_theorems.proofs.Listing.{ListingAt, listing_first, listing_step}
 use Rattle.cs_theorems.proofs.Paths.{Housed, TreeAt, housed_first, housed_step, tree_first, tree_step}
 
@@ -13,10 +13,10 @@ pub record Setting (h : List Entry) : Type 0 where
   pub housed : Housed h
   pub listing : ListingAt h
   pub drawn : DrawnAt h
-  pub front : FrontAt h
+  pub front : LinkedAt h
 
 pub setting_first : Setting []
-setting_first = record { tree = tree_first; housed = housed_first; listing = listing_first; drawn = drawn_first; front = front_first }
+setting_first = record { tree = tree_first; housed = housed_first; listing = listing_first; drawn = drawn_first; front = linked_first }
 
 pub setting_step : (p : ℕ) (h : List Entry) (x : Event) → Setting h → Setting (entry p h x ∷ h)
 setting_step p h x i = record {
@@ -24,5 +24,5 @@ setting_step p h x i = record {
   housed = housed_step p h x i.housed;
   listing = listing_step p h x i.tree i.listing;
   drawn = drawn_step p h x i.drawn;
-  front = front_step p h x i.listing.listed i.front;
+  front = linked_step p h x i.listing i.front;
 }

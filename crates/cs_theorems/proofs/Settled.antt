@@ -7,7 +7,7 @@ use Rattle.cs_laws.specs.declared.objects.At.{At}
 use Rattle.cs_laws.specs.Events.{client_knows}
 use Rattle.cs_laws.specs.Flushes.{Flush, flush_record}
 use Rattle.cs_laws.specs.History.{context, dirty, live, queued, sent, stand}
-use Rattle.cs_laws.specs.Owed.{is_acked, is_changed, is_unacked, is_untold, is_written, owed}
+use Rattle.cs_laws.specs.Owed.{is_acked, is_changed, is_unacked, is_untold, is_written, is_metadata_owed}
 use Rattle.cs_laws.specs.Shown.{is_before}
 use Rattle.cs_theorems.proofs.Footing.{Footing}
 use Rattle.cs_theorems.proofs.Listed.{Each, Member}
@@ -22,7 +22,7 @@ pub record Settled (h : List Entry) (f : ℕ) (a : At) : Type 0 where
   pub unqueued : Each (λ x. is_before a x.follows ≡ false) (queued h f)
   pub acked : Each (λ x. is_unacked h a f x ≡ false) (sent h)
 
-pub settled : (h : List Entry) (f : ℕ) (a : At) → owed h f a ≡ false → Settled h f a
+pub settled : (h : List Entry) (f : ℕ) (a : At) → is_metadata_owed h f a ≡ false → Settled h f a
 settled h f a free =
     let flushes = list_any (λ x. is_before a x.follows) (queued h f) || list_any (is_unacked h a f) (sent h) in
     let known = or_parts (not (client_knows h f))

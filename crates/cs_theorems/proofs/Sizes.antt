@@ -15,10 +15,10 @@ use Rattle.cs_laws.specs.Journal.{journal}
 use Rattle.cs_laws.specs.Metadata.{last_flush, meta_at, meta_of, no_meta}
 use Rattle.cs_laws.specs.Owed.{mode_at}
 use Rattle.cs_laws.specs.Shown.{is_before, writes_at}
+use Rattle.cs_laws.specs.Runs.{IsRun}
 use Rattle.cs_theorems.specs.Metadata.{MetadataIsOfTheWrites}
-use Rattle.cs_theorems.specs.Runs.{IsRun}
 use Rattle.cs_theorems.proofs.Covers.{Between, IsCovered, IsLatest, Made, measure}
-use Rattle.cs_theorems.proofs.Footing.{Footing, footing, footing_run}
+use Rattle.cs_theorems.proofs.Footing.{Footing, footing_run}
 use Rattle.cs_theorems.proofs.LastFlush.{IsLast, IsOf, last_is}
 use Rattle.cs_theorems.proofs.Modes.{Change, changes, changes_below, changes_upto, last_mode, mode_is}
 use Rattle.cs_theorems.proofs.Modes as modes
@@ -165,5 +165,3 @@ of_the_writes h i f a free = state_meta h i f a (settled h f a free)
 pub meta_is : (p : ℕ) (h : List Entry) → IsRun p h → MetadataIsOfTheWrites h
 meta_is p h run = of_the_writes h (footing_run p h run)
 
-pub metadata : (p : ℕ) (es : List Event) → MetadataIsOfTheWrites (journal p es)
-metadata p es = of_the_writes (journal p es) (footing p es)

@@ -14,9 +14,10 @@ use Rattle.cs_laws.specs.declared.records.Record.{Record}
 use Rattle.cs_laws.specs.declared.records.RecordBody.{RecordBody}
 use Rattle.cs_laws.specs.declared.records.RecordBody.TheVariants as bodies
 use Rattle.cs_laws.specs.Flushes.{Flush, flush_record}
-use Rattle.cs_laws.specs.Metadata.{flush_in, is_behind, last_flush, later_of, with_flush}
+use Rattle.cs_laws.specs.Metadata.{is_behind, last_flush, later_of, with_flush}
 use Rattle.cs_laws.specs.Shown.{is_before}
-use Rattle.cs_theorems.specs.Flushes.{tid_of, tids}
+use Rattle.cs_laws.specs.Carried.{flush_in}
+use Rattle.cs_laws.specs.Laws.{tid_on, tids}
 use Rattle.cs_theorems.specs.Recorded.{AreRising, with_told}
 use Rattle.cs_theorems.specs.Told.{last_before, last_of}
 use Rattle.cs_theorems.proofs.Listed.{Each, Member, member_right}
@@ -224,7 +225,7 @@ pub last_end : (f : ℕ) (a : At) (rs : List Record) (x : Flush) → x.file ≡ 
 last_end f a [] x own low = ap (λ b. cond (b && is_before a x.follows) (Some x) None) (eq-eqb x.file f own)
 last_end f a (r ∷ rs) x own low =
     ap (λ o. with_flush f a (flush_in r.body) o)
-    (last_end f a rs x own (λ t m. low t (member_right t (tid_of f r.body) (tids f rs) m)))
+    (last_end f a rs x own (λ t m. low t (member_right t (tid_on f (flush_in r.body)) (tids f rs) m)))
     ∙ last_body f a (is_before a x.follows) r.body x rs (last_flush f a rs) low
 
 -- a record that is no such flush

@@ -10,11 +10,12 @@ use Rattle.cs_laws.specs.declared.events.Event.{Event}
 use Rattle.cs_laws.specs.declared.events.Event.TheVariants as e
 use Rattle.cs_laws.specs.declared.answers.Answer.{Answer}
 use Rattle.cs_laws.specs.declared.answers.Entry.{Entry}
-use Rattle.cs_laws.specs.Flushes.{Flush, acked, flush_snap, first_mode}
+use Rattle.cs_laws.specs.Flushes.{Flush, acked, flush_snap}
 use Rattle.cs_laws.specs.History.{present, queued, sent, writes}
 use Rattle.cs_laws.specs.Journal.{entry}
 use Rattle.cs_laws.specs.Owed.{is_acked, is_later}
-use Rattle.cs_theorems.specs.Runs.{IsRun}
+use Rattle.cs_laws.specs.CapSnaps.{queued_mode}
+use Rattle.cs_laws.specs.Runs.{IsRun}
 use Rattle.cs_theorems.specs.Unacked.{sent_of, unacked}
 use Rattle.cs_theorems.proofs.Inversions.{FlushIs, head_unknown, head_snap, head_clean, head_sent, flush_is, FlushSnapsIs, flush_unknown, flush_none, flush_writing, flush_sent, flush_snaps_is, FirstIs, first_idle, first_cap, first_flush_ack, first_snap, first_is}
 use Rattle.cs_theorems.proofs.Listed.{Member}
@@ -60,7 +61,7 @@ step_flush_snaps h g x flush_none i = i
 step_flush_snaps h g x flush_writing i = i
 step_flush_snaps h g x (flush_sent q qs known there closed) i = λ f.
     let n : ℕ = length (sent h) + 1 in
-    let y : Flush = flush_snap g n q.follows (first_mode (queued h g)) (writes h g) in
+    let y : Flush = flush_snap g n q.follows (queued_mode (queued h g)) (writes h g) in
     subst (λ m. Unacked f m (unacked h f) (sent h ++ y ∷ []) (λ k. acked h f k)) (sym (length-append (sent h) (y ∷ [])))
     (unacked_beside f (length (sent h)) (unacked h f) (sent h) (λ k. acked h f k) y refl (λ own. false≢true (sym own.head)) (i f))
 

@@ -1,5 +1,6 @@
 -- Messages on their way are of known files, and so are the flushes of the server's log.
-use Rattle.std.proofs.Common.{◌≡◌, refl, ℕ, true, List, [], ◌∷◌, ◌++◌, inl, drop}
+use Rattle.std.proofs.Common.{◌≡◌, refl, ℕ, true, List, [], ◌∷◌, ◌++◌, Option, Some, None, inl, drop}
+use Rattle.std.specs.Option.{option_map}
 use Rattle.std.proofs.lemmas.Bool.{cond_both}
 use Rattle.cs_bits.specs.declared.Caps.{Caps}
 use Rattle.cs_bits.specs.Bits.{is_empty}
@@ -17,23 +18,32 @@ use Rattle.cs_laws.specs.declared.records.Record.{Record}
 use Rattle.cs_laws.specs.declared.records.RecordBody.{RecordBody}
 use Rattle.cs_laws.specs.declared.records.RecordBody.TheVariants as bodies
 use Rattle.cs_laws.specs.Answers.{answer_check_of, answer_check, answer_grant, answer_revoke, sent_cap}
-use Rattle.cs_laws.specs.Realms.{changed_records}
+use Rattle.cs_laws.specs.Carried.{file_of, flush_in, flush_on, realms_of}
+use Rattle.cs_laws.specs.Flushes.{Flush}
+use Rattle.cs_laws.specs.Realms.{differing, realm_records}
 use Rattle.cs_laws.specs.Tree.{directories, path}
 use Rattle.cs_laws.specs.Events.{setup_file, setup_file_then, client_knows, server_knows}
-use Rattle.cs_laws.specs.History.{client, server, to_client, to_server, durable, fresh, used}
+use Rattle.cs_laws.specs.History.{client, durable, fresh, last_sent, server, to_client, to_server, used}
 use Rattle.cs_laws.specs.Journal.{entry}
-use Rattle.cs_laws.specs.Standing.{recorded, told_of, told}
-use Rattle.cs_theorems.specs.Runs.{IsRun}
-use Rattle.cs_theorems.specs.Underway.{ForClient, ForServer, IsKnown, IsToldClient, IsToldServer}
+use Rattle.cs_laws.specs.Standing.{news, news_of, news_on, recorded, recorded_of}
+use Rattle.cs_snapctx.specs.Records.{with_records}
+use Rattle.cs_laws.specs.Runs.{IsRun}
+use Rattle.cs_theorems.specs.Underway.{ForClient, ForServer, IfFile, IsToldClient, IsToldServer}
 use Rattle.cs_theorems.proofs.Inversions.{FlushIs, head_unknown, head_snap, head_clean, head_sent, flush_is, FlushSnapsIs, flush_unknown, flush_none, flush_writing, flush_sent, flush_snaps_is, FirstIs, first_idle, first_cap, first_flush_ack, first_snap, first_is, ReceivedIs, received_idle, received_ack, received_flush, received_is, SnapIs, snap_unknown, snap_exists, snap_taken, snap_is, RemoveIs, remove_none, remove_gone, removed, remove_is}
 use Rattle.cs_theorems.proofs.Known.{known_then}
 use Rattle.cs_theorems.proofs.Listed.{Each, each_nil, each_cons, each_append, each_end, each_tail}
 use Rattle.cs_theorems.proofs.Runs.{of_run}
 
+-- the file of the flush that a record tells of
+abbrev pub flush_file : RecordBody → Option ℕ
+flush_file b = option_map (λ (x : Flush). x.file) (flush_in b)
+
 -- a record of the log that is no flush, or one of a known file
 abbrev pub ForLog : (ℕ → Type 0) → RecordBody → Type 0
-ForLog Known (bodies.Flush snap f tid follows meta) = Known f
-ForLog Known _ = Unit {0}
+ForLog Known b = IfFile Known (flush_file b)
+
+abbrev pub IsKnown : List Entry → ℕ → Type 0
+IsKnown h f = setup_file h f ≡ true
 
 -- Known: there is a file of this number; q, p: the messages on their way to the
 -- client and to the server; ds, fs: the durable records and the others
@@ -49,61 +59,41 @@ each_drop P (x ∷ xs) ps = each_tail P x xs ps
 
 -- More files are known
 
-client_more : (Known More : ℕ → Type 0) → ((f : ℕ) → Known f → More f) → (m : Message) → ForClient Known m → ForClient More m
-client_more Known More more (messages.Cap f seq bits end) k = more f k
-client_more Known More more (messages.FlushAck f tid) k = more f k
-client_more Known More more (messages.Snap number d realms) k = k
-client_more Known More more (messages.CapAck f seq bits) k = absurd k
-client_more Known More more (messages.Flush f tid follows meta) k = absurd k
-client_more Known More more (messages.FlushSnap f tid follows meta) k = absurd k
-
-server_more : (Known More : ℕ → Type 0) → ((f : ℕ) → Known f → More f) → (m : Message) → ForServer Known m → ForServer More m
-server_more Known More more (messages.CapAck f seq bits) k = more f k
-server_more Known More more (messages.Flush f tid follows meta) k = more f k
-server_more Known More more (messages.FlushSnap f tid follows meta) k = more f k
-server_more Known More more (messages.Cap f seq bits end) k = absurd k
-server_more Known More more (messages.FlushAck f tid) k = absurd k
-server_more Known More more (messages.Snap number d realms) k = absurd k
-
-log_more : (Known More : ℕ → Type 0) → ((f : ℕ) → Known f → More f) → (b : RecordBody) → ForLog Known b → ForLog More b
-log_more Known More more (bodies.Flush snap f tid follows meta) k = more f k
-log_more Known More more (bodies.Snap number d name) k = k
-log_more Known More more (bodies.Removal t number) k = k
+if_more : (Known More : ℕ → Type 0) → ((f : ℕ) → Known f → More f) → (o : Option ℕ) → IfFile Known o → IfFile More o
+if_more Known More more None k = tt
+if_more Known More more (Some f) k = more f k
 
 flies_more : (Known More : ℕ → Type 0) → ((f : ℕ) → Known f → More f) → (q p : List Message) (ds fs : List Record)
     → Flies Known q p ds fs → Flies More q p ds fs
 flies_more Known More more q p ds fs i = record {
-  told = λ m there. client_more Known More more m (i.told m there);
-  received = λ m there. server_more Known More more m (i.received m there);
-  durable = λ x there. log_more Known More more x.body (i.durable x there);
-  fresh = λ x there. log_more Known More more x.body (i.fresh x there);
+  told = λ m there. let k = i.told m there in (k.0, if_more Known More more (file_of m) k.1);
+  received = λ m there. let k = i.received m there in (k.0, if_more Known More more (file_of m) k.1);
+  durable = λ x there. if_more Known More more (flush_file x.body) (i.durable x there);
+  fresh = λ x there. if_more Known More more (flush_file x.body) (i.fresh x there);
 }
 
 -- What is told and recorded
 
-of_told : (Known : ℕ → Type 0) (before : List Record) (realms : List RealmRecord) (b : RecordBody) → ForLog Known b → ForClient Known (told_of before realms b)
-of_told Known before realms (bodies.Flush snap f tid follows meta) k = k
-of_told Known before realms (bodies.Snap number d name) k = tt
-of_told Known before realms (bodies.Removal t number) k = tt
+of_told : (Known : ℕ → Type 0) (before : List Record) (realms : List RealmRecord) (b : RecordBody) → ForLog Known b → ForClient Known (news_of before realms b)
+of_told Known before realms (bodies.Flush snap f tid follows meta) k = (refl, k)
+of_told Known before realms (bodies.Snap number d name) k = (refl, tt)
+of_told Known before realms (bodies.Removal t number) k = (refl, tt)
 
-each_told : (Known : ℕ → Type 0) (up : ℕ → List ℕ) (dirs : List ℕ) (before rs : List Record) → Each (λ x. ForLog Known x.body) rs
-    → Each (ForClient Known) (told up dirs before rs)
-each_told Known up dirs before [] ks = each_nil (ForClient Known)
-each_told Known up dirs before (x ∷ rs) ks =
-    let realms : List RealmRecord = changed_records up dirs before (before ++ x ∷ []) in
-    each_cons (ForClient Known) _ _ (of_told Known before realms x.body (ks x (inl refl)))
-    (each_told Known up dirs (before ++ x ∷ []) rs (each_tail (λ y. ForLog Known y.body) x rs ks))
+each_told : (Known : ℕ → Type 0) (up : ℕ → List ℕ) (dirs : List ℕ) (ss : List RealmRecord) (before rs : List Record) → Each (λ x. ForLog Known x.body) rs
+    → Each (ForClient Known) (news up dirs ss before rs)
+each_told Known up dirs ss before [] ks = each_nil (ForClient Known)
+each_told Known up dirs ss before (x ∷ rs) ks =
+    each_cons (ForClient Known) _ _ (of_told Known before (differing ss (realm_records up dirs (before ++ x ∷ []))) x.body (ks x (inl refl)))
+    (each_told Known up dirs (with_records (realms_of (news_on up dirs ss before x)) ss) (before ++ x ∷ []) rs (each_tail (λ y. ForLog Known y.body) x rs ks))
+
+of_flush : (Known : ℕ → Type 0) (m : Message) → IfFile Known (file_of m) → Each (λ x. ForLog Known x.body) (recorded_of (flush_on m))
+of_flush Known (messages.Flush f tid follows meta) k = each_cons (λ x. ForLog Known x.body) _ [] k (each_nil (λ x. ForLog Known x.body))
+of_flush Known (messages.FlushSnap f tid follows meta) k = each_cons (λ x. ForLog Known x.body) _ [] k (each_nil (λ x. ForLog Known x.body))
+of_flush Known _ k = each_nil (λ x. ForLog Known x.body)
 
 each_recorded : (Known : ℕ → Type 0) (q : List Message) → Each (ForServer Known) q → Each (λ x. ForLog Known x.body) (recorded q)
 each_recorded Known [] ks = each_nil (λ x. ForLog Known x.body)
-each_recorded Known (messages.Flush f tid follows meta ∷ q) ks =
-    each_cons (λ x. ForLog Known x.body) _ [] (ks (messages.Flush f tid follows meta) (inl refl)) (each_nil (λ x. ForLog Known x.body))
-each_recorded Known (messages.FlushSnap f tid follows meta ∷ q) ks =
-    each_cons (λ x. ForLog Known x.body) _ [] (ks (messages.FlushSnap f tid follows meta) (inl refl)) (each_nil (λ x. ForLog Known x.body))
-each_recorded Known (messages.CapAck f seq bits ∷ q) ks = each_nil (λ x. ForLog Known x.body)
-each_recorded Known (messages.Cap f seq bits end ∷ q) ks = absurd (ks (messages.Cap f seq bits end) (inl refl))
-each_recorded Known (messages.FlushAck f tid ∷ q) ks = absurd (ks (messages.FlushAck f tid) (inl refl))
-each_recorded Known (messages.Snap number d realms ∷ q) ks = absurd (ks (messages.Snap number d realms) (inl refl))
+each_recorded Known (m ∷ q) ks = of_flush Known m (ks m (inl refl)).1
 
 -- Each kind of change
 
@@ -152,10 +142,10 @@ flies_recorded Known q p ds fs x k i = record {
   fresh = each_end (λ y. ForLog Known y.body) fs x i.fresh k;
 }
 
-flies_commit : (Known : ℕ → Type 0) (up : ℕ → List ℕ) (dirs : List ℕ) (q p : List Message) (ds fs : List Record)
-    → Flies Known q p ds fs → Flies Known (q ++ told up dirs ds fs) p (ds ++ fs) []
-flies_commit Known up dirs q p ds fs i = record {
-  told = each_append (ForClient Known) q (told up dirs ds fs) i.told (each_told Known up dirs ds fs i.fresh);
+flies_commit : (Known : ℕ → Type 0) (up : ℕ → List ℕ) (dirs : List ℕ) (ss : List RealmRecord) (q p : List Message) (ds fs : List Record)
+    → Flies Known q p ds fs → Flies Known (q ++ news up dirs ss ds fs) p (ds ++ fs) []
+flies_commit Known up dirs ss q p ds fs i = record {
+  told = each_append (ForClient Known) q (news up dirs ss ds fs) i.told (each_told Known up dirs ss ds fs i.fresh);
   received = i.received;
   durable = each_append (λ x. ForLog Known x.body) ds fs i.durable i.fresh;
   fresh = each_nil (λ x. ForLog Known x.body);
@@ -169,13 +159,13 @@ AllFly h = Flies (IsKnown h) (to_client h) (to_server h) (durable h) (fresh h)
 step_grant : (h : List Entry) (g : ℕ) (bits : Caps) (end : ℕ) → AllFly h → AllFly (record { event = e.Grant g bits end; answer = answer_grant h g bits end } ∷ h)
 step_grant h g bits end i =
     cond_both (server_knows h g) (sent_cap (granted (server h g) bits end)) a.Unknown (λ x. AllFly (record { event = e.Grant g bits end; answer = x } ∷ h))
-    (λ known. flies_told _ _ _ _ _ _ known i)
+    (λ known. flies_told _ _ _ _ _ _ (refl, known) i)
     (λ _. i)
 
 step_revoke : (h : List Entry) (g : ℕ) (bits : Caps) → AllFly h → AllFly (record { event = e.Revoke g bits; answer = answer_revoke h g bits } ∷ h)
 step_revoke h g bits i =
     cond_both (server_knows h g) (sent_cap (revoked (server h g) bits)) a.Unknown (λ x. AllFly (record { event = e.Revoke g bits; answer = x } ∷ h))
-    (λ known. flies_told _ _ _ _ _ _ known i)
+    (λ known. flies_told _ _ _ _ _ _ (refl, known) i)
     (λ _. i)
 
 step_checked : (h : List Entry) (g : ℕ) (c : ClientCaps) (in_use : Caps) → setup_file h g ≡ true → AllFly h
@@ -183,7 +173,7 @@ step_checked : (h : List Entry) (g : ℕ) (c : ClientCaps) (in_use : Caps) → s
 step_checked h g c in_use known i =
     cond_both (is_complete c) _ _ (λ x. AllFly (record { event = e.Check g; answer = x } ∷ h)) (λ _. i)
     (λ _. cond_both (is_empty (held_back c in_use)) _ _ (λ x. AllFly (record { event = e.Check g; answer = x } ∷ h))
-    (λ _. flies_sent _ _ _ _ _ _ known i)
+    (λ _. flies_sent _ _ _ _ _ _ (refl, known) i)
     (λ _. i))
 
 step_check : (h : List Entry) (g : ℕ) → AllFly h → AllFly (record { event = e.Check g; answer = answer_check h g } ∷ h)
@@ -196,13 +186,13 @@ step_flush_snaps : (h : List Entry) (g : ℕ) (x : Answer) → FlushSnapsIs h g 
 step_flush_snaps h g x flush_unknown i = i
 step_flush_snaps h g x flush_none i = i
 step_flush_snaps h g x flush_writing i = i
-step_flush_snaps h g x (flush_sent y ys known is closed) i = flies_sent _ _ _ _ _ _ known i
+step_flush_snaps h g x (flush_sent y ys known is closed) i = flies_sent _ _ _ _ _ _ (refl, known) i
 
 step_flush : (h : List Entry) (g : ℕ) (x : Answer) → FlushIs h g x → AllFly h → AllFly (record { event = e.Flush g; answer = x } ∷ h)
 step_flush h g x head_unknown i = i
 step_flush h g x head_snap i = i
 step_flush h g x head_clean i = i
-step_flush h g x (head_sent known free changed) i = flies_sent _ _ _ _ _ _ known i
+step_flush h g x (head_sent known free changed) i = flies_sent _ _ _ _ _ _ (refl, known) i
 
 step_to_client : (h : List Entry) (x : Answer) → FirstIs h x → AllFly h → AllFly (record { event = e.ToClient; answer = x } ∷ h)
 step_to_client h x first_idle i = i
@@ -250,7 +240,7 @@ fly_step p h e.ToClient i = step_to_client h _ (first_is h) i
 fly_step p h e.ToMds i = step_to_mds h _ (received_is h) i
 fly_step p h (e.Snap d name) i = step_snap h d name _ (snap_is h d name) i
 fly_step p h (e.RmSnap t) i = step_remove h t _ (remove_is h t) i
-fly_step p h e.Commit i = flies_commit (IsKnown h) (λ d. path h d) (directories h) (to_client h) (to_server h) (durable h) (fresh h) i
+fly_step p h e.Commit i = flies_commit (IsKnown h) (λ d. path h d) (directories h) (last_sent h) (to_client h) (to_server h) (durable h) (fresh h) i
 fly_step p h _ i = i
 
 pub nothing_flies : AllFly []

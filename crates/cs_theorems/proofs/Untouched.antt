@@ -27,9 +27,9 @@ use Rattle.cs_laws.specs.History.{client, server, to_client, to_server, live, wr
 use Rattle.cs_laws.specs.Image.{Write}
 use Rattle.cs_laws.specs.Journal.{entry}
 use Rattle.cs_laws.specs.References.{named}
+use Rattle.cs_laws.specs.Runs.{IsRun}
 use Rattle.cs_theorems.specs.Queues.{snaps, with_ended}
 use Rattle.cs_theorems.specs.Recorded.{told, with_first, with_message}
-use Rattle.cs_theorems.specs.Runs.{IsRun}
 use Rattle.cs_theorems.specs.Unacked.{unacked}
 use Rattle.cs_theorems.specs.Underway.{IsToldClient, IsToldServer}
 use Rattle.cs_theorems.proofs.Inversions.{ChmodIs, chmod_unknown, chmod_no_bit, chmod_snap, chmod_done, chmod_is, WriteIs, write_unknown, write_no_bit, write_past, wrote, write_is, EndIs, end_unknown, ended, end_is, FlushIs, head_unknown, head_snap, head_clean, head_sent, flush_is, FlushSnapsIs, flush_unknown, flush_none, flush_writing, flush_sent, flush_snaps_is, FirstIs, first_idle, first_cap, first_flush_ack, first_snap, first_is, ReceivedIs, received_idle, received_ack, received_flush, received_is}
@@ -173,10 +173,10 @@ step_to_client : (h : List Entry) (x : Answer) → FirstIs h x → Each (λ r. s
     → AllUntouched h → AllUntouched (record { event = e.ToClient; answer = x } ∷ h)
 step_to_client h x first_idle lives told i = i
 step_to_client h x (first_cap g seq bits end q is) lives told i = λ f unknown.
-    let known : setup_file h g ≡ true = first_known h (messages.Cap g seq bits end) q is told in
+    let known : setup_file h g ≡ true = (first_known h (messages.Cap g seq bits end) q is told).1 in
     rw (apart h g f known unknown) (i f unknown)
 step_to_client h x (first_flush_ack g tid q is) lives told i = λ f unknown.
-    let known : setup_file h g ≡ true = first_known h (messages.FlushAck g tid) q is told in
+    let known : setup_file h g ≡ true = (first_known h (messages.FlushAck g tid) q is told).1 in
     rw (apart h g f known unknown) (i f unknown)
 step_to_client h x (first_snap number d realms q is) lives told i = λ f unknown.
     let was : IsUntouchedAt h f = i f unknown in
@@ -189,8 +189,8 @@ flush_known : (h : List Entry) (y : Flush) → IsToldServer h (flush_message y) 
 flush_known h y known = at y.snap known
   where
     at : (b : Bool) → IsToldServer h (cond b (messages.FlushSnap y.file y.tid y.follows y.meta) (messages.Flush y.file y.tid y.follows y.meta)) → setup_file h y.file ≡ true
-    at true known = known
-    at false known = known
+    at true is = is.1
+    at false is = is.1
 
 -- another file's flush
 untold : (f : ℕ) (y : Flush) (xs : List (ℕ × FileMeta)) → (y.file == f) ≡ false → xs ≡ [] → with_message f (flush_message y) xs ≡ []
@@ -204,7 +204,7 @@ step_to_mds : (h : List Entry) (x : Answer) → ReceivedIs h x → Each (IsToldS
     → AllUntouched (record { event = e.ToMds; answer = x } ∷ h)
 step_to_mds h x received_idle received i = i
 step_to_mds h x (received_ack g seq bits q is) received i = λ f unknown.
-    let known : setup_file h g ≡ true = received_first h (messages.CapAck g seq bits) q is received in
+    let known : setup_file h g ≡ true = (received_first h (messages.CapAck g seq bits) q is received).1 in
     rw (apart h g f known unknown) (i f unknown)
 step_to_mds h x (received_flush y q is) received i = λ f unknown.
     let known : setup_file h y.file ≡ true = flush_known h y (received_first h (flush_message y) q is received) in

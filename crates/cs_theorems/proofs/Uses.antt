@@ -12,12 +12,14 @@ use Rattle.cs_laws.specs.declared.answers.Answer.{Answer}
 use Rattle.cs_laws.specs.declared.answers.Entry.{Entry}
 use Rattle.cs_laws.specs.Answers.{answer, may_change_mode, may_read, may_write}
 use Rattle.cs_laws.specs.History.{live}
-use Rattle.cs_laws.specs.Journal.{history, journal, entry}
+use Rattle.cs_laws.specs.Journal.{entry}
 use Rattle.cs_laws.specs.References.{named}
-use Rattle.cs_theorems.specs.Lists.{Member}
+use Rattle.cs_laws.specs.Lists.{Member}
+use Rattle.cs_laws.specs.Laws.{IsIssued, IsNamed, UseIsIssued, UsesAreIssued}
+use Rattle.cs_laws.specs.Runs.{IsRun}
+use Rattle.cs_theorems.proofs.Runs.{of_run}
 use Rattle.cs_theorems.specs.References.{LiveWereIssued}
-use Rattle.cs_theorems.specs.Uses.{IsIssued, IsNamed, UseIsIssued, UsesAreIssued}
-use Rattle.cs_theorems.proofs.Begun.{issued_step, nothing_issued}
+use Rattle.cs_theorems.proofs.Begun.{issued_step, nothing_issued, live_were_issued}
 use Rattle.cs_theorems.proofs.Inversions.{ChmodIs, chmod_unknown, chmod_no_bit, chmod_snap, chmod_done, chmod_is, ReadIs, read_unknown, read_no_bit, was_read, read_is, WriteIs, write_unknown, write_no_bit, write_past, wrote, write_is}
 
 -- what a caller and a number find
@@ -78,9 +80,6 @@ use_issued p h (e.Read c name off len) i = read_issued h c name off len _ (read_
 use_issued p h (e.Chmod c name mode) i = chmod_issued h c name mode _ (chmod_is h c name) i
 use_issued p h _ i = tt
 
-steps : (p : ℕ) (es : List Event) (h : List Entry) → LiveWereIssued h → UsesAreIssued h → UsesAreIssued (history p h es)
-steps p [] h i u = u
-steps p (x ∷ es) h i u = steps p es (entry p h x ∷ h) (issued_step p h x i) (use_issued p h x i, u)
-
-pub uses_issued : (p : ℕ) (es : List Event) → UsesAreIssued (journal p es)
-uses_issued p es = steps p es [] nothing_issued tt
+pub uses_issued : (p : ℕ) (h : List Entry) → IsRun p h → UsesAreIssued h
+uses_issued p h run =
+    of_run p UsesAreIssued tt (λ g x fit before issued. (use_issued p g x (live_were_issued p g before), issued)) h run

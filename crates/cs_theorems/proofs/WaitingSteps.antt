@@ -10,17 +10,17 @@ use Rattle.cs_laws.specs.declared.events.Event.TheVariants as e
 use Rattle.cs_laws.specs.declared.events.RefName.{RefName}
 use Rattle.cs_laws.specs.declared.answers.Answer.{Answer}
 use Rattle.cs_laws.specs.declared.answers.Entry.{Entry}
-use Rattle.cs_laws.specs.CapSnaps.{has_writer, makes}
-use Rattle.cs_laws.specs.Context.{first_told, path_context}
-use Rattle.cs_laws.specs.Tree.{file_path}
-use Rattle.cs_laws.specs.Flushes.{Flush, acked, first_mode, flush_snap, written_meta}
+use Rattle.cs_laws.specs.CapSnaps.{has_writer, makes, queued_mode}
+use Rattle.cs_laws.specs.Context.{with_first, path_context}
+use Rattle.cs_laws.specs.Tree.{client_file_path}
+use Rattle.cs_laws.specs.Flushes.{Flush, acked, flush_snap, written_meta}
 use Rattle.cs_laws.specs.History.{context, dirty, durable, fresh, live, mode, present, queued, realms, sent, stand, to_client, to_server, writes}
 use Rattle.cs_laws.specs.Image.{Write, size, mtime}
 use Rattle.cs_laws.specs.Journal.{entry}
 use Rattle.cs_laws.specs.References.{named, without_named}
-use Rattle.cs_theorems.specs.Flushes.{tids}
+use Rattle.cs_laws.specs.Laws.{tids}
+use Rattle.cs_laws.specs.Runs.{IsRun}
 use Rattle.cs_theorems.specs.Queues.{snaps, with_ended}
-use Rattle.cs_theorems.specs.Runs.{IsRun}
 use Rattle.cs_theorems.proofs.Acks.{run_acked}
 use Rattle.cs_theorems.proofs.Chains.{flight, run_rise, tids_append}
 use Rattle.cs_theorems.proofs.Inversions.{FlushIs, head_unknown, head_snap, head_clean, head_sent, flush_is, FlushSnapsIs, flush_unknown, flush_none, flush_writing, flush_sent, flush_snaps_is, FirstIs, first_idle, first_cap, first_flush_ack, first_snap, first_is, EndIs, end_unknown, ended, end_is}
@@ -74,7 +74,7 @@ step_client p h x run (first_flush_ack g tid q there) i = λ f.
     waiting_acked (g == f) f tid (snaps h f) (sent h) (λ n. acked h f n) (queue_order p h run f) (i f)
 step_client p h x run (first_snap n d now q there) i = λ f.
     let y : Snap = kept.queued (context h f) (has_writer f (live h)) (written_meta (mode h f) (writes h f)) in
-    cond_both (makes f (context h f) (path_context (file_path h f) (first_told (to_client h) (realms h))) (live h) (dirty h f) (queued h f)) (snaps h f ++ y ∷ []) (snaps h f)
+    cond_both (makes f (context h f) (path_context (client_file_path h f) (with_first (to_client h) (realms h))) (live h) (dirty h f) (queued h f)) (snaps h f ++ y ∷ []) (snaps h f)
     (λ ys. Waiting f ys (sent h) (λ k. acked h f k))
     (λ _. waiting_made f (snaps h f) (sent h) (λ k. acked h f k) y refl (i f)) (λ _. i f)
 
@@ -85,7 +85,7 @@ step_flush_snaps p h g x run flush_none i = i
 step_flush_snaps p h g x run flush_writing i = i
 step_flush_snaps p h g x run (flush_sent q qs known there closed) i = λ f.
     let n : ℕ = length (sent h) + 1 in
-    let y : Flush = flush_snap g n q.follows (first_mode (queued h g)) (writes h g) in
+    let y : Flush = flush_snap g n q.follows (queued_mode (queued h g)) (writes h g) in
     cond_both (g == f) (kept.with_first_sent n (snaps h f)) (snaps h f) (λ ys. Waiting f ys (sent h ++ y ∷ []) (λ k. acked h f k))
     (λ own.
     let first : IsFirst (live h) (writes h f) q (snaps h f) = queue_first p h run f q qs (subst (λ k. queued h k ≡ q ∷ qs) (eqb-true g f own) there) in

@@ -83,7 +83,7 @@ Stays d rs r = (own d (rs ++ r ∷ []) ≡ own d rs) × (is_realm (rs ++ r ∷ [
 abbrev pub Grows : ℕ → List Record → Record → Type 0
 Grows d rs r = ((own d (rs ++ r ∷ [])).seq ≡ number_of r.body) × (is_realm (rs ++ r ∷ []) d ≡ true)
 
-grown : (d : ℕ) (rs : List Record) (b : RecordBody) → Stays d rs (record { body = b }) ⊎ Grows d rs (record { body = b })
+pub grown : (d : ℕ) (rs : List Record) (b : RecordBody) → Stays d rs (record { body = b }) ⊎ Grows d rs (record { body = b })
 grown d rs (bodies.Flush snap f tid follows meta) =
     let r : Record = record { body = bodies.Flush snap f tid follows meta } in
     inl (own_append d (record { seq = 0; snaps = [] }) rs r, realm_stays d rs r refl)
@@ -116,7 +116,7 @@ flush_stays d rs r none same = (own_append d (record { seq = 0; snaps = [] }) rs
 
 -- A way
 
-abbrev step_context : List Record → ℕ → Context → Context
+abbrev pub step_context : List Record → ℕ → Context → Context
 step_context rs d c = cond (is_realm rs d) (merged (own d rs).snaps [] (own d rs).seq c 1) c
 
 pub way_low : (rs : List Record) (ds : List ℕ) → (way_context rs ds).seq ≤ greatest_number rs
@@ -129,7 +129,7 @@ pub greatest_more : (rs : List Record) (r : Record) → greatest_number (rs ++ r
 greatest_more [] r = omega arith
 greatest_more (x ∷ rs) r = omega (arith, greatest_more rs r)
 
-same_step : (rs : List Record) (r : Record) (d : ℕ) (c : Context) → Stays d rs r → step_context (rs ++ r ∷ []) d c ≡ step_context rs d c
+pub same_step : (rs : List Record) (r : Record) (d : ℕ) (c : Context) → Stays d rs r → step_context (rs ++ r ∷ []) d c ≡ step_context rs d c
 same_step rs r d c (same, realm) =
     ap (λ b. cond b (merged (own d (rs ++ r ∷ [])).snaps [] (own d (rs ++ r ∷ [])).seq c 1) c) realm
     ∙ ap (λ (o : Own). cond (is_realm rs d) (merged o.snaps [] o.seq c 1) c) same

@@ -21,10 +21,10 @@ use Rattle.cs_laws.specs.Image.{Write, size, mtime}
 use Rattle.cs_laws.specs.Journal.{entry}
 use Rattle.cs_laws.specs.Operations.{begun_under}
 use Rattle.cs_laws.specs.References.{named, without_named}
+use Rattle.cs_laws.specs.Runs.{IsRun}
 use Rattle.cs_theorems.specs.Contexts.{HadContext}
 use Rattle.cs_laws.specs.Flushes.{written_meta}
 use Rattle.cs_theorems.specs.Queues.{snaps, snaps_then, makes_snap, with_ended}
-use Rattle.cs_theorems.specs.Runs.{IsRun}
 use Rattle.cs_theorems.specs.Snapshots.{BeganUnderOne}
 use Rattle.cs_theorems.proofs.Blank.{AllBlank, makes_none, no_writer, none_live}
 use Rattle.cs_theorems.proofs.Contexts.{one_context}

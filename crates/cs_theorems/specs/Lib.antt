@@ -1,9 +1,6 @@
 pub mod Contents
 pub mod Contexts
 pub mod Flushes
-pub mod Held
-pub mod Lawful
-pub mod Lists
 pub mod Metadata
 pub mod Order
 pub mod Queues
@@ -11,9 +8,7 @@ pub mod Realms
 pub mod Recorded
 pub mod References
 pub mod Refusals
-pub mod Runs
 pub mod Snapshots
 pub mod Told
 pub mod Unacked
 pub mod Underway
-pub mod Uses

@@ -4,7 +4,7 @@ use Rattle.cs_parts.specs.declared.references.Live.{Live}
 use Rattle.cs_parts.specs.References.{is_writer_of}
 use Rattle.cs_laws.specs.CapSnaps.{CapSnap}
 use Rattle.cs_laws.specs.Image.{Write}
-use Rattle.cs_theorems.specs.Lists.{Member, Each}
+use Rattle.cs_laws.specs.Lists.{Member, Each}
 
 -- newest first, the tags never rise towards the older ones
 abbrev pub TagsFall : List Write → Type 0

@@ -1,26 +1,14 @@
 -- Laws of references.
-use Rattle.std.specs.Prelude.{◌≡◌, ◌==◌, ℕ, List, [], ◌∷◌, ◌⊎◌, true, if◌then◌else◌}
-use Rattle.cs_bits.specs.Bits.{covers}
+use Rattle.std.specs.Prelude.{◌==◌, ℕ, List, [], ◌∷◌, if◌then◌else◌}
 use Rattle.cs_parts.specs.declared.references.Live.{Live}
 use Rattle.cs_laws.specs.declared.events.Event.{Event}
 use Rattle.cs_laws.specs.declared.events.Event.TheVariants as events
 use Rattle.cs_laws.specs.declared.answers.Answer.{Answer}
 use Rattle.cs_laws.specs.declared.answers.Answer.TheVariants as answers
 use Rattle.cs_laws.specs.declared.answers.Entry.{Entry}
-use Rattle.cs_laws.specs.History.{client, context, live}
-use Rattle.cs_theorems.specs.Lists.{Each, Member}
-
--- the entry began the reference, and its bits were issued then
-abbrev pub BeganHere : Live → Event → Answer → List Entry → Type 0
-BeganHere r (events.Begin caller file bits end) (answers.Ref number) h =
-    (r ≡ record { caller = caller; number = number; file = file; bits = bits; end = end; tag = (context h file).seq })
-    × (covers (client h file).issued bits ≡ true)
-BeganHere r _ _ h = ⊥
-
--- some entry did
-abbrev pub WasIssued : List Entry → Live → Type 0
-WasIssued [] r = ⊥
-WasIssued (x ∷ h) r = BeganHere r x.event x.answer h ⊎ WasIssued h r
+use Rattle.cs_laws.specs.History.{live}
+use Rattle.cs_laws.specs.Laws.{WasIssued}
+use Rattle.cs_laws.specs.Lists.{Each, Member}
 
 abbrev pub LiveWereIssued : List Entry → Type 0
 LiveWereIssued h = Each (WasIssued h) (live h)

@@ -8,8 +8,8 @@ use Rattle.cs_laws.specs.CapSnaps.{CapSnap, is_open}
 use Rattle.cs_laws.specs.History.{context, live, queued, writes}
 use Rattle.cs_laws.specs.Image.{upto}
 use Rattle.cs_laws.specs.Operations.{begun_under}
+use Rattle.cs_laws.specs.Lists.{Member, Each}
 use Rattle.cs_theorems.specs.Contexts.{HadContext}
-use Rattle.cs_theorems.specs.Lists.{Member, Each}
 use Rattle.cs_theorems.specs.Order.{TagsFall, FollowsRise, HasOlder}
 
 -- newest first, no write's tag is below that of an older one

@@ -1,22 +1,24 @@
 // Laws of flushes.
 ghost use Rattle.std.specs.Prelude.{ℕ, List, ◌++◌};
-ghost use Rattle.cs_laws.specs.declared.events.Event.{Event};
-ghost use Rattle.cs_laws.specs.Journal.{journal};
-ghost use Rattle.cs_theorems.specs.Flushes.{AckedStandOnce, FlushesAreNumbered, FlushesStandOnce};
+ghost use Rattle.cs_laws.specs.declared.answers.Entry.{Entry};
+ghost use Rattle.cs_laws.specs.Laws.{AckedStandOnce, FlushesStandOnce};
+ghost use Rattle.cs_laws.specs.Runs.{IsRun};
+ghost use Rattle.cs_theorems.specs.Flushes.{FlushesAreNumbered};
 
-/// The standing flushes of a file have numbers that rise strictly, and each flush that the client was
-/// told is durable stands exactly once; so does each flush of a file's metadata that such a one retires.
+/// After each entry the standing flushes of a file have numbers that rise strictly, and a flush that
+/// is acknowledged stands exactly once there and ever after. A flush is acknowledged by its own number
+/// or, if it isn't that of a cap snap, by that of a later such flush of its file.
 pub fn flushes_stand_once()
-    ensures { (pages : ℕ) (es : List Event) → FlushesStandOnce (journal pages es) }
+    ensures { (pages : ℕ) (h : List Entry) → IsRun pages h → FlushesStandOnce h }
 {}
 
-/// A flush that the client was told is durable stands exactly once whatever events follow.
+/// A flush that is acknowledged stands exactly once whatever entries follow.
 pub fn acked_flushes_stay()
-    ensures { (pages : ℕ) (es more : List Event) → AckedStandOnce (journal pages es) (journal pages (es ++ more)) }
+    ensures { (pages : ℕ) (h new : List Entry) → IsRun pages (new ++ h) → AckedStandOnce h (new ++ h) }
 {}
 
 /// Flushes are sent under the numbers 1, 2, 3, .. in order; none stands, and none is on its way to the
 /// server, that wasn't sent.
 pub fn flushes_are_numbered()
-    ensures { (pages : ℕ) (es : List Event) → FlushesAreNumbered (journal pages es) }
+    ensures { (pages : ℕ) (h : List Entry) → IsRun pages h → FlushesAreNumbered h }
 {}

@@ -1,4 +1,4 @@
-//! The laws of every journal: facts about the definitions alone, for every list of events. Each is
+//! The laws of every run: facts about the definitions alone, for every journal that a run can have. Each is
 //! the contract of a public function without parameters and with an empty body. No code that does the
 //! work is in it; that the code keeps to the definitions is proved where it stands.
 #![tactic(auto)]
@@ -6,14 +6,16 @@
 mod capabilities;
 mod contents;
 mod flushes;
+mod laws;
 mod metadata;
 mod references;
 mod refusals;
 mod snapshots;
 
-pub use capabilities::{acks_are_free, held_covers_implemented, lawful_journals};
-pub use contents::objects_hold_the_writes;
+pub use capabilities::{acks_are_free, held_covers_implemented};
+pub use contents::{objects_hold_the_writes, states_hold_the_writes};
 pub use flushes::{acked_flushes_stay, flushes_are_numbered, flushes_stand_once};
+pub use laws::runs_are_lawful;
 pub use metadata::{metadata_is_of_the_writes, states_read_back};
 pub use references::{live_references_were_issued, numbers_are_drawn_once, uses_are_issued};
 pub use refusals::refused_events_change_the_journal_alone;

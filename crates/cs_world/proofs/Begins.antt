@@ -24,7 +24,7 @@ use Rattle.cs_laws.specs.Events.{begun, setup_file}
 use Rattle.cs_laws.specs.History.{client, context, live, queued}
 use Rattle.cs_laws.specs.Refusals.{is_refusal}
 use Rattle.cs_refs.specs.Table.{RefTable, writers_of}
-use Rattle.cs_theorems.specs.Runs.{IsRun}
+use Rattle.cs_laws.specs.Runs.{IsRun}
 use Rattle.cs_theorems.proofs.QueueAnswers.{queue_writing}
 use Rattle.cs_world.specs.declared.state.FileState.{FileState}
 use Rattle.cs_world.specs.Changed.{started}

@@ -17,7 +17,7 @@ use Rattle.cs_laws.specs.Answers.{answer_chmod, may_change_mode}
 use Rattle.cs_laws.specs.CapSnaps.{is_writing}
 use Rattle.cs_laws.specs.History.{live, queued}
 use Rattle.cs_laws.specs.References.{named}
-use Rattle.cs_theorems.specs.Runs.{IsRun}
+use Rattle.cs_laws.specs.Runs.{IsRun}
 use Rattle.cs_theorems.proofs.QueueAnswers.{queue_writing}
 use Rattle.cs_world.specs.Tables.{inode, row}
 

@@ -24,15 +24,15 @@ use Rattle.cs_laws.specs.declared.messages.Message.{Message}
 use Rattle.cs_laws.specs.declared.messages.Message.TheVariants as messages
 use Rattle.cs_laws.specs.Answers.{answer_to_client, count_made}
 use Rattle.cs_laws.specs.CapSnaps.{has_writer, makes}
-use Rattle.cs_laws.specs.Context.{differs, first_told, path_context}
+use Rattle.cs_laws.specs.Context.{differs, with_first, path_context}
 use Rattle.cs_laws.specs.Flushes.{written_meta}
-use Rattle.cs_laws.specs.Tree.{file_path, home}
+use Rattle.cs_laws.specs.Tree.{client_file_path, home}
 use Rattle.cs_laws.specs.Events.{files, setup_file}
 use Rattle.cs_laws.specs.History.{context, dirty, live, mode, queued, realms, to_client, writes}
+use Rattle.cs_laws.specs.Runs.{IsRun}
 use Rattle.cs_theorems.specs.Contexts.{Moves}
 use Rattle.cs_theorems.specs.References.{IsEachOnce}
 use Rattle.cs_theorems.specs.Queues.{snaps}
-use Rattle.cs_theorems.specs.Runs.{IsRun}
 use Rattle.cs_theorems.proofs.Contexts.{told_moves}
 use Rattle.cs_theorems.proofs.Course.{course_run}
 use Rattle.cs_theorems.proofs.Files.{listed, listed_once}
@@ -87,7 +87,7 @@ among_known h made f all known = any_true (λ k. k == f) made f ((all.known f).0
 -- How many cap snaps are made: ts are the realms' last records now
 
 abbrev new_context : List Entry → List RealmRecord → ℕ → Context
-new_context h ts f = path_context (file_path h f) ts
+new_context h ts f = path_context (client_file_path h f) ts
 
 -- the tables of the tree say the same
 same_context : (h : List Entry) (s : State) (ts : List RealmRecord) (f : ℕ) → Refines h s → told_context (path_of s.directories) ts (row h f) ≡ new_context h ts f
@@ -179,7 +179,7 @@ moves_to : (h : List Entry) (s : State) (number realm : ℕ) (ts : List RealmRec
     → Moves number (context h f) (new_context h ts f)
 moves_to h s number realm ts f run told =
     let there : to_client h ≡ messages.Snap number realm told.told ∷ drop 1 (to_client h) = first_is (to_client h) _ told.first in
-    let now : first_told (to_client h) (realms h) ≡ ts = ap (λ q. first_told q (realms h)) there ∙ sym told.after in
+    let now : with_first (to_client h) (realms h) ≡ ts = ap (λ q. with_first q (realms h)) there ∙ sym told.after in
     subst (λ us. Moves number (context h f) (new_context h us f)) now
     (told_moves h number realm told.told (drop 1 (to_client h)) f there (course_run s.pages h run).setting)
 
@@ -219,7 +219,7 @@ changed_is : (h : List Entry) (s : State) (number realm n : ℕ) (ts : List Real
     → told_row (path_of s.directories) ts (row h f) ≡ row (told_entry number realm n ∷ h) f
 changed_is h s number realm n ts f t run told =
     let now : new_context h ts f ≡ context (told_entry number realm n ∷ h) f =
-    ap (λ us. path_context (file_path h f) us) (sym (told_here h number realm n ts told)) in
+    ap (λ us. path_context (client_file_path h f) us) (sym (told_here h number realm n ts told)) in
     ap (λ c. changed_row c (row h f)) (same_context h s ts f t)
     ∙ (row_changed h f number (new_context h ts f) (differs (context h f) (new_context h ts f)) refl (moves_to h s number realm ts f run told)
     ∙ (ap (λ c. row_with h f c (needs_snap c (row h f))) now

@@ -8,8 +8,8 @@ use Rattle.cs_laws.specs.declared.messages.Message.{Message}
 use Rattle.cs_laws.specs.declared.messages.Message.TheVariants as messages
 use Rattle.cs_laws.specs.Events.{setup_file}
 use Rattle.cs_laws.specs.History.{realms, to_client, to_server}
+use Rattle.cs_laws.specs.Runs.{IsRun}
 use Rattle.cs_theorems.specs.Realms.{ParentsAreKnown, TellsKnownParents}
-use Rattle.cs_theorems.specs.Runs.{IsRun}
 use Rattle.cs_theorems.proofs.Applying.{run_tells_known}
 use Rattle.cs_theorems.specs.Underway.{IsToldClient, IsToldServer}
 use Rattle.cs_theorems.proofs.Listed.{Member}

@@ -16,8 +16,8 @@ use Rattle.cs_laws.specs.History.{live, writes}
 use Rattle.cs_laws.specs.Image.{size, mtime}
 use Rattle.cs_laws.specs.References.{can_end, named, without_named}
 use Rattle.cs_refs.specs.Table.{writers_of}
+use Rattle.cs_laws.specs.Runs.{IsRun}
 use Rattle.cs_theorems.specs.Queues.{snaps}
-use Rattle.cs_theorems.specs.Runs.{IsRun}
 use Rattle.cs_theorems.proofs.QueueAnswers.{writing_has_writer}
 use Rattle.cs_world.specs.declared.state.FileState.{FileState}
 use Rattle.cs_world.specs.Changed.{stopped}

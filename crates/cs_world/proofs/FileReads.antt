@@ -15,7 +15,7 @@ use Rattle.cs_laws.specs.Fits.{greatest_end, is_shown}
 use Rattle.cs_laws.specs.History.{live}
 use Rattle.cs_laws.specs.Operations.{applied}
 use Rattle.cs_laws.specs.References.{named}
-use Rattle.cs_theorems.specs.Runs.{IsRun}
+use Rattle.cs_laws.specs.Runs.{IsRun}
 use Rattle.cs_theorems.proofs.Ends.{states_end}
 use Rattle.cs_world.specs.declared.state.State.{State}
 use Rattle.cs_world.specs.declared.state.FileState.{FileState}

@@ -30,8 +30,8 @@ use Rattle.cs_laws.specs.Flushes.{flush_message}
 use Rattle.cs_laws.specs.History.{dirty, present, sent, snap as snap_of}
 use Rattle.cs_laws.specs.Refusals.{is_refusal}
 use Rattle.cs_theorems.specs.Queues as queues
+use Rattle.cs_laws.specs.Runs.{IsRun}
 use Rattle.cs_theorems.specs.Queues.{snaps}
-use Rattle.cs_theorems.specs.Runs.{IsRun}
 use Rattle.cs_theorems.proofs.QueueAnswers.{queue_answer, queue_message, queue_tids, queue_writing}
 use Rattle.cs_theorems.proofs.UnackedSteps.{unacked_tids}
 use Rattle.cs_world.specs.declared.state.State.{State}

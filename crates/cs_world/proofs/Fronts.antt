@@ -8,7 +8,7 @@ use Rattle.cs_laws.specs.declared.objects.ObjOp.{ObjOp}
 use Rattle.cs_laws.specs.Agreement.{Agrees, StatesReadBack}
 use Rattle.cs_laws.specs.Answers.{answer}
 use Rattle.cs_laws.specs.Operations.{applied, brought, operations_drawn}
-use Rattle.cs_theorems.specs.Runs.{IsRun}
+use Rattle.cs_laws.specs.Runs.{IsRun}
 use Rattle.cs_theorems.proofs.Agreeing.{reads_back}
 use Rattle.cs_world.specs.Storing.{AppliesFront, brings}
 

@@ -7,9 +7,9 @@ use Rattle.cs_laws.specs.declared.answers.Answer.{Answer}
 use Rattle.cs_laws.specs.declared.answers.Entry.{Entry}
 use Rattle.cs_laws.specs.Answers.{answer}
 use Rattle.cs_laws.specs.Fits.{fits}
-use Rattle.cs_theorems.specs.Runs.{IsRun}
 use Rattle.cs_world.specs.declared.state.State.{State}
 use Rattle.cs_world.specs.Tables.{Refines}
+use Rattle.cs_laws.specs.Runs.{IsRun}
 
 with_entries : (h : List Entry) (s : State) (es : Vec Entry Global) → Refines h s → Refines h (record s { entries = es })
 with_entries h s es i = record {

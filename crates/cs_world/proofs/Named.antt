@@ -6,7 +6,7 @@ use Rattle.cs_laws.specs.declared.events.RefName.{RefName}
 use Rattle.cs_laws.specs.Events.{setup_file}
 use Rattle.cs_laws.specs.History.{live}
 use Rattle.cs_laws.specs.References.{named}
-use Rattle.cs_theorems.specs.Runs.{IsRun}
+use Rattle.cs_laws.specs.Runs.{IsRun}
 use Rattle.cs_theorems.proofs.Known.{live_known}
 use Rattle.cs_theorems.proofs.Uses.{named_is}
 

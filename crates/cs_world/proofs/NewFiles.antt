@@ -15,8 +15,8 @@ use Rattle.cs_laws.specs.CapSnaps.{has_writer}
 use Rattle.cs_laws.specs.Context.{path_context}
 use Rattle.cs_laws.specs.Events.{setup_file, files}
 use Rattle.cs_laws.specs.History.{live, realms}
-use Rattle.cs_laws.specs.Tree.{directories, file_path, home, is_directory, path, setup_dir, with_directory}
-use Rattle.cs_theorems.specs.Runs.{IsRun}
+use Rattle.cs_laws.specs.Tree.{directories, client_file_path, home, is_directory, path, setup_dir, with_directory}
+use Rattle.cs_laws.specs.Runs.{IsRun}
 use Rattle.cs_theorems.proofs.Course.{course_run}
 use Rattle.cs_theorems.proofs.Known.{live_known}
 use Rattle.cs_theorems.proofs.Paths.{dir_path}
@@ -125,10 +125,10 @@ made_tree h ds now d p t members order paths = record {
     same k = paths k ∙ (λ i. cond (d == k) (d ∷ t.paths p i) (t.paths k i))
 
 -- the path of a file is as it was
-same_path : (h : List Entry) (d p f : ℕ) → is_in_use h d ≡ false → is_directory h p ≡ true → file_path (record { event = events.Dir d p; answer = answer_made h d p } ∷ h) f ≡ file_path h f
-    → file_path (dir_entry d p ∷ h) f ≡ file_path h f
+same_path : (h : List Entry) (d p f : ℕ) → is_in_use h d ≡ false → is_directory h p ≡ true → client_file_path (record { event = events.Dir d p; answer = answer_made h d p } ∷ h) f ≡ client_file_path h f
+    → client_file_path (dir_entry d p ∷ h) f ≡ client_file_path h f
 same_path h d p f free there stays =
-    subst (λ y. file_path (record { event = events.Dir d p; answer = y } ∷ h) f ≡ file_path h f) (sym (made_is h d p free there)) stays
+    subst (λ y. client_file_path (record { event = events.Dir d p; answer = y } ∷ h) f ≡ client_file_path h f) (sym (made_is h d p free there)) stays
 
 pub dir_refines : (h : List Entry) (s : State) (d p : ℕ) (table : List Directory) → Refines h s → IsRun s.pages h → is_in_use h d ≡ false → is_directory h p ≡ true
     → IsTree (λ k. is_directory (dir_entry d p ∷ h) k) (λ k. path (dir_entry d p ∷ h) k) (directories (dir_entry d p ∷ h)) table
@@ -149,7 +149,7 @@ dir_refines h s d p table t run free there tree = record {
   fresh = t.fresh;
 }
   where
-    way : (g : ℕ) → file_path (dir_entry d p ∷ h) g ≡ file_path h g
+    way : (g : ℕ) → client_file_path (dir_entry d p ∷ h) g ≡ client_file_path h g
     way g = same_path h d p g free there (dir_path h d p g (course_run s.pages h run).setting.housed)
 
 pub made_dir : (h : List Entry) (s : State) (d p : ℕ) (table : List Directory) → Refines h s → IsRun s.pages h → is_in_use h d ≡ false → is_directory h p ≡ true

@@ -24,10 +24,10 @@ use Rattle.cs_laws.specs.Operations.{applied}
 use Rattle.cs_laws.specs.Owed.{owed}
 use Rattle.cs_laws.specs.Shown.{writes_at}
 use Rattle.cs_laws.specs.Standing.{dir_of, is_removed}
-use Rattle.cs_laws.specs.Tree.{file_path, home}
+use Rattle.cs_laws.specs.Tree.{client_file_path, home}
 use Rattle.cs_tree.specs.Directories.{path_of}
 use Rattle.cs_records.specs.Records.{all}
-use Rattle.cs_theorems.specs.Runs.{IsRun}
+use Rattle.cs_laws.specs.Runs.{IsRun}
 use Rattle.cs_theorems.proofs.Agreeing.{run_holds}
 use Rattle.cs_theorems.proofs.Ends.{states_end}
 use Rattle.cs_theorems.proofs.Owing.{owed_head, owed_snap, writer_counted}
@@ -76,7 +76,7 @@ by_standing standing.Gone x = answers.Gone
 
 standing_snap : (p : ℕ) (h : List Entry) (f s : ℕ) (x : Answer) (o : Option ℕ) → IsRun p h → 1 ≤ s → dir_of s (stand h) ≡ o
     → cond (stands (at.Snap s) (stand h)) (cond (is_gone (at.Snap s) (stand h)) answers.Gone (cond (covers_file (at.Snap s) (standing_context h f)) x answers.NoSnap)) answers.NoSnap
-    ≡ by_standing (standing_in (stand h) (file_path h f) s o) x
+    ≡ by_standing (standing_in (stand h) (client_file_path h f) s o) x
 standing_snap p h f s x None run low is =
     cond-false (stands (at.Snap s) (stand h)) _ answers.NoSnap (stands_dir s (stand h) ∙ ap is_some is)
 standing_snap p h f s x (Some e) run low is =
@@ -84,11 +84,11 @@ standing_snap p h f s x (Some e) run low is =
   where
     by_removal : (b : Bool) → is_removed s (stand h) ≡ b
         → cond b answers.Gone (cond (covers_file (at.Snap s) (standing_context h f)) x answers.NoSnap)
-        ≡ by_standing (cond b standing.Gone (cond (list_any (λ d. d == e) (file_path h f)) standing.There standing.Absent)) x
+        ≡ by_standing (cond b standing.Gone (cond (list_any (λ d. d == e) (client_file_path h f)) standing.There standing.Absent)) x
     by_removal true gone = refl
     by_removal false stays =
         ap (λ c. cond c x answers.NoSnap) (covers_by p h f s e run low is stays)
-        ∙ cond_both (list_any (λ d. d == e) (file_path h f)) standing.There standing.Absent (λ t. cond (list_any (λ d. d == e) (file_path h f)) x answers.NoSnap ≡ by_standing t x)
+        ∙ cond_both (list_any (λ d. d == e) (client_file_path h f)) standing.There standing.Absent (λ t. cond (list_any (λ d. d == e) (client_file_path h f)) x answers.NoSnap ≡ by_standing t x)
         (λ yes_it. cond-true _ x answers.NoSnap yes_it) (λ no_it. cond-false _ x answers.NoSnap no_it)
 
 -- the answer where the server has the state
@@ -98,7 +98,7 @@ answer_there h f a off len = cond (owed h f a) answers.Pending (shown (meta_at f
 -- the answer to a show of a file that is known
 pub show_is : (p : ℕ) (h : List Entry) (f : ℕ) (a : At) (off len : ℕ) → IsRun p h → setup_file h f ≡ true → is_state a ≡ true
     → answer_show h f a off len
-    ≡ by_standing (standing_of (stand h) (file_path h f) a) (answer_there h f a off len)
+    ≡ by_standing (standing_of (stand h) (client_file_path h f) a) (answer_there h f a off len)
 show_is p h f at.Head off len run known state = cond-true (setup_file h f) _ answers.Unknown known
 show_is p h f (at.Snap s) off len run known state =
     cond-true (setup_file h f) _ answers.Unknown known ∙ standing_snap p h f s _ (dir_of s (stand h)) run (leb-true 1 s state) refl
@@ -106,7 +106,7 @@ show_is p h f (at.Snap s) off len run known state =
 -- The same of the tables
 
 pub table_standing : (h : List Entry) (s : State) (f : ℕ) (a : At) (r : FileState) (now : Standing) → Refines h s → get nat_cmp s.files f ≡ Some r
-    → now ≡ standing_of (all s.records) (path_of s.directories r.home) a → now ≡ standing_of (stand h) (file_path h f) a
+    → now ≡ standing_of (all s.records) (path_of s.directories r.home) a → now ≡ standing_of (stand h) (client_file_path h f) a
 table_standing h s f a r now t has is =
     let same : all s.records ≡ stand h = λ i. t.durable i ++ t.fresh i in
     is
@@ -114,33 +114,33 @@ table_standing h s f a r now t has is =
     ∙ ((λ i. standing_of (same i) (t.tree.paths (home h f) i) a)))
 
 pub pending_is : (p : ℕ) (h : List Entry) (f : ℕ) (a : At) (off len : ℕ) → IsRun p h → setup_file h f ≡ true → is_state a ≡ true
-    → standing.There ≡ standing_of (stand h) (file_path h f) a → owed h f a ≡ true → answers.Pending ≡ answer_show h f a off len
+    → standing.There ≡ standing_of (stand h) (client_file_path h f) a → owed h f a ≡ true → answers.Pending ≡ answer_show h f a off len
 pending_is p h f a off len run known state there owes =
     sym (show_is p h f a off len run known state ∙ (ap (λ t. by_standing t (answer_there h f a off len)) (sym there) ∙ cond-true (owed h f a) answers.Pending _ owes))
 
 shows_it : (p : ℕ) (h : List Entry) (f : ℕ) (a : At) (off len : ℕ) → IsRun p h → setup_file h f ≡ true → is_state a ≡ true
-    → standing.There ≡ standing_of (stand h) (file_path h f) a → owed h f a ≡ false → answer_show h f a off len ≡ shown (meta_at f a (stand h)) (writes_at a (writes h f)) off len
+    → standing.There ≡ standing_of (stand h) (client_file_path h f) a → owed h f a ≡ false → answer_show h f a off len ≡ shown (meta_at f a (stand h)) (writes_at a (writes h f)) off len
 shows_it p h f a off len run known state there free =
     show_is p h f a off len run known state ∙ (ap (λ t. by_standing t (answer_there h f a off len)) (sym there) ∙ cond-false (owed h f a) answers.Pending _ free)
 
 pub shown_is : (p : ℕ) (h : List Entry) (f : ℕ) (a : At) (off len : ℕ) (meta : FileMeta) (bytes : List ℕ) → IsRun p h → setup_file h f ≡ true → is_state a ≡ true
-    → standing.There ≡ standing_of (stand h) (file_path h f) a → owed h f a ≡ false → meta ≡ meta_at f a (stand h)
+    → standing.There ≡ standing_of (stand h) (client_file_path h f) a → owed h f a ≡ false → meta ≡ meta_at f a (stand h)
     → bytes ≡ bytes_from (images.image (writes_at a (writes h f))) off (shown_count meta.size off len) → answers.Size meta bytes ≡ answer_show h f a off len
 shown_is p h f a off len meta bytes run known state there free is held =
     let now : answers.Size meta bytes ≡ shown (meta_at f a (stand h)) (writes_at a (writes h f)) off len = rw (held, is) refl in
     now ∙ sym (shows_it p h f a off len run known state there free)
 
 pub absent_is : (p : ℕ) (h : List Entry) (f : ℕ) (a : At) (off len : ℕ) → IsRun p h → setup_file h f ≡ true → is_state a ≡ true
-    → standing.Absent ≡ standing_of (stand h) (file_path h f) a → answers.NoSnap ≡ answer_show h f a off len
+    → standing.Absent ≡ standing_of (stand h) (client_file_path h f) a → answers.NoSnap ≡ answer_show h f a off len
 absent_is p h f a off len run known state none = sym (show_is p h f a off len run known state ∙ ap (λ t. by_standing t (answer_there h f a off len)) (sym none))
 
 pub gone_is : (p : ℕ) (h : List Entry) (f : ℕ) (a : At) (off len : ℕ) → IsRun p h → setup_file h f ≡ true → is_state a ≡ true
-    → standing.Gone ≡ standing_of (stand h) (file_path h f) a → answers.Gone ≡ answer_show h f a off len
+    → standing.Gone ≡ standing_of (stand h) (client_file_path h f) a → answers.Gone ≡ answer_show h f a off len
 gone_is p h f a off len run known state gone = sym (show_is p h f a off len run known state ∙ ap (λ t. by_standing t (answer_there h f a off len)) (sym gone))
 
 -- it reads the store
 pub reads_store : (p : ℕ) (h : List Entry) (f : ℕ) (a : At) (off len : ℕ) → IsRun p h → setup_file h f ≡ true → is_state a ≡ true
-    → standing.There ≡ standing_of (stand h) (file_path h f) a → owed h f a ≡ false → calls_store (events.Show f a off len) (answer_show h f a off len) ≡ true
+    → standing.There ≡ standing_of (stand h) (client_file_path h f) a → owed h f a ≡ false → calls_store (events.Show f a off len) (answer_show h f a off len) ≡ true
 reads_store p h f a off len run known state there free =
     ap (λ y. calls_store (events.Show f a off len) y) (shows_it p h f a off len run known state there free)
 

@@ -25,7 +25,7 @@ use Rattle.cs_laws.specs.Image.{Write}
 use Rattle.cs_laws.specs.Operations.{begun_under, operations, written_on, operations_drawn, applied}
 use Rattle.cs_laws.specs.References.{named}
 use Rattle.cs_objstore.specs.Stores.{has_tid}
-use Rattle.cs_theorems.specs.Runs.{IsRun}
+use Rattle.cs_laws.specs.Runs.{IsRun}
 use Rattle.cs_theorems.specs.Unacked.{unacked}
 use Rattle.cs_theorems.proofs.Known.{live_known}
 use Rattle.cs_theorems.proofs.Listed.{Each, Member, each_tail}

@@ -21,8 +21,8 @@ use Rattle.cs_tree.specs.Directories.{has_directory, inos, path_of}
 use Rattle.cs_laws.specs.History.{client, context, server, to_client, to_server, realms, durable, fresh, live, writes, mode, dirty, sent}
 use Rattle.cs_laws.specs.Operations.{operations_drawn}
 use Rattle.cs_refs.specs.Table.{begun_of, writers_of}
+use Rattle.cs_laws.specs.Runs.{IsRun}
 use Rattle.cs_theorems.specs.Queues.{snaps}
-use Rattle.cs_theorems.specs.Runs.{IsRun}
 use Rattle.cs_theorems.specs.Recorded.{told}
 use Rattle.cs_theorems.specs.Unacked.{unacked}
 use Rattle.cs_world.specs.declared.state.State.{State}

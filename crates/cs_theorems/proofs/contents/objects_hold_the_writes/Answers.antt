@@ -1,5 +1,5 @@
-use Rattle.cs_theorems.proofs.Agreeing.{hold_writes}
+use Rattle.cs_theorems.proofs.Agreeing.{run_holds}
 use Rattle.cs_theorems.proofs.contents.objects_hold_the_writes.Goals as goal
 
 pub returns : goal.returns
-returns c = hold_writes
+returns c = run_holds

@@ -1,5 +1,5 @@
-use Rattle.cs_theorems.proofs.Sizes.{metadata}
+use Rattle.cs_theorems.proofs.Sizes.{meta_is}
 use Rattle.cs_theorems.proofs.metadata.metadata_is_of_the_writes.Goals as goal
 
 pub returns : goal.returns
-returns c = metadata
+returns c = meta_is

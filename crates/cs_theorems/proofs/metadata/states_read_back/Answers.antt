@@ -1,5 +1,5 @@
-use Rattle.cs_theorems.proofs.Agreeing.{read_back}
+use Rattle.cs_theorems.proofs.Agreeing.{reads_back}
 use Rattle.cs_theorems.proofs.metadata.states_read_back.Goals as goal
 
 pub returns : goal.returns
-returns c = read_back
+returns c = reads_back

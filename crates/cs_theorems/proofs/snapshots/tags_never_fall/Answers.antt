@@ -1,7 +1,6 @@
-use Rattle.cs_laws.specs.Journal.{journal}
-use Rattle.cs_theorems.proofs.Course.{course}
+use Rattle.cs_theorems.proofs.Course.{course_run}
 use Rattle.cs_theorems.proofs.Writers.{tags_fall}
 use Rattle.cs_theorems.proofs.snapshots.tags_never_fall.Goals as goal
 
 pub returns : goal.returns
-returns c = λ p es. tags_fall (journal p es) (course p es).order
+returns c = λ p h run. tags_fall h (course_run p h run).order

@@ -1,5 +1,5 @@
-use Rattle.cs_theorems.proofs.Applying.{all_tell_known}
+use Rattle.cs_theorems.proofs.Applying.{run_tells_known}
 use Rattle.cs_theorems.proofs.snapshots.told_parents_are_known.Goals as goal
 
 pub returns : goal.returns
-returns c = λ p es. all_tell_known p es
+returns c = λ p h run. run_tells_known p h run

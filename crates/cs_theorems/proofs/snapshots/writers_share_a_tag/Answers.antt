@@ -1,7 +1,6 @@
-use Rattle.cs_laws.specs.Journal.{journal}
-use Rattle.cs_theorems.proofs.Course.{course}
+use Rattle.cs_theorems.proofs.Course.{course_run}
 use Rattle.cs_theorems.proofs.Writers.{share_a_tag}
 use Rattle.cs_theorems.proofs.snapshots.writers_share_a_tag.Goals as goal
 
 pub returns : goal.returns
-returns c = λ p es. share_a_tag (journal p es) (course p es).order
+returns c = λ p h run. share_a_tag h (course_run p h run).order

@@ -1,9 +1,9 @@
 use Rattle.std.proofs.Common.{◌≡◌, ap, reverse}
-use Rattle.cs_theorems.specs.Runs.{IsRun}
 use Rattle.cs_world.proofs.Kept.{after_entry, after_run}
 use Rattle.cs_world.proofs.Fronts.{front_listed}
 use Rattle.cs_world.proofs.Fronts.{any_err}
 use Rattle.cs_world.specs.Tables.{past}
+use Rattle.cs_laws.specs.Runs.{IsRun}
 use Rattle.cs_world.proofs.step.step.Goals as goal
 
 pub returns-clause-kept : goal.returns-clause-kept

@@ -1,6 +1,6 @@
 use Rattle.std.proofs.Common.{◌≡◌, ◌++◌, ◌+◌, length}
-use Rattle.cs_laws.specs.Standing.{told}
 use Rattle.cs_tree.specs.Directories.{inos, path_of}
+use Rattle.cs_records.specs.Commits.{told}
 use Rattle.cs_records.specs.Records.{all}
 use Rattle.cs_records.proofs.records.Records.commit.Given as goal
 

@@ -1,8 +1,8 @@
 use Rattle.std.proofs.Common.{◌∙◌, ◌<◌, ◌++◌, length, take, drop, nat_eq, ap, arith}
 use Rattle.std.proofs.lemmas.List.{length-drop}
 use Rattle.indexmap.specs.IndexMap.{get}
-use Rattle.cs_laws.specs.Standing.{told}
 use Rattle.cs_tree.specs.Directories.{inos, path_of}
+use Rattle.cs_records.specs.Commits.{told}
 use Rattle.cs_records.specs.Realms.{own_in}
 use Rattle.cs_records.specs.Records.{Standing}
 use Rattle.cs_records.specs.Told.{message_by}

@@ -1,5 +1,5 @@
 use Rattle.cs_theorems.proofs.Together.{lawful}
-use Rattle.cs_theorems.proofs.capabilities.lawful_journals.Goals as goal
+use Rattle.cs_theorems.proofs.laws.runs_are_lawful.Goals as goal
 
 pub returns : goal.returns
 returns c = lawful

@@ -1,5 +1,7 @@
 -- A refused event changes the journal alone.
-use Rattle.std.proofs.Common.{◌≡◌, refl, ap, ◌∙◌, ℕ, Bool, true, List, [], ◌∷◌, ◌++◌, length, reverse}
+use Rattle.std.proofs.Common.{◌≡◌, refl, ap, ◌∙◌, ℕ, ◌==◌, ◌&&◌, ◌||◌, not, Bool, true, List, [], ◌∷◌, ◌++◌, length, reverse}
+use Rattle.std.specs.List.{list_any}
+use Rattle.std.proofs.lemmas.Bool.{cond-true}
 use Rattle.cs_bits.specs.declared.Caps.{Caps}
 use Rattle.cs_snapctx.specs.declared.realm.RealmRecord.{RealmRecord}
 use Rattle.cs_snapctx.specs.Context.{Context}
@@ -12,20 +14,23 @@ use Rattle.cs_laws.specs.declared.answers.Answer.{Answer}
 use Rattle.cs_laws.specs.declared.answers.Answer.TheVariants as a
 use Rattle.cs_laws.specs.declared.answers.Entry.{Entry}
 use Rattle.cs_laws.specs.declared.messages.Message.{Message}
+use Rattle.cs_laws.specs.declared.objects.At.{At}
+use Rattle.cs_laws.specs.declared.objects.At.TheVariants as at
 use Rattle.cs_laws.specs.Capabilities.{client_then, server_then}
 use Rattle.cs_laws.specs.declared.records.Record.{Record}
 use Rattle.cs_laws.specs.CapSnaps.{CapSnap, queued_then}
 use Rattle.cs_laws.specs.Context.{path_context, realms_then}
-use Rattle.cs_laws.specs.Tree.{directories, directories_then, file_path, home, home_then, path, path_then, setup_dir, setup_dir_then}
-use Rattle.cs_laws.specs.Events.{setup_file, setup_file_then, files, files_then, begun, begun_then, clock, clock_then}
+use Rattle.cs_laws.specs.Tree.{directories, directories_then, client_file_path, home, home_then, path, path_then, setup_dir, setup_dir_then}
+use Rattle.cs_laws.specs.Events.{client_knows, setup_file, setup_file_then, files, files_then, begun, begun_then, clock, clock_then}
 use Rattle.cs_laws.specs.Flight.{to_client_then, to_server_then}
-use Rattle.cs_laws.specs.Flushes.{Flush, sent_then}
-use Rattle.cs_laws.specs.History.{client, server, to_client, to_server, durable, fresh, realms, context, live, writes, mode, dirty, present, queued, sent, snap}
+use Rattle.cs_laws.specs.Flushes.{Flush, acked, acked_then, sent_then}
+use Rattle.cs_laws.specs.History.{client, server, to_client, to_server, durable, fresh, last_sent, realms, context, live, writes, mode, dirty, present, queued, sent, snap}
 use Rattle.cs_laws.specs.Image.{Write}
 use Rattle.cs_laws.specs.Operations.{begun_under, begun_under_then, brought, drawn_then, operations_drawn, applied}
+use Rattle.cs_laws.specs.Owed.{had_reached, is_changed, is_later, is_untold, is_written, mode_at, owed}
+use Rattle.cs_laws.specs.Shown.{is_before}
 use Rattle.cs_laws.specs.References.{live_then, mode_then, dirty_then}
-use Rattle.cs_laws.specs.Standing.{durable_then, fresh_then}
-use Rattle.cs_laws.specs.Standing.{told as tell}
+use Rattle.cs_laws.specs.Standing.{durable_then, fresh_then, last_sent_then, news}
 use Rattle.cs_laws.specs.Writes.{writes_then}
 use Rattle.cs_laws.specs.Refusals.{is_refusal}
 use Rattle.cs_theorems.specs.Refusals.{IsAsBefore}
@@ -149,35 +154,73 @@ none_drawn : (x : Event) (y : Answer) (h : List Entry) (n : ℕ) → is_refusal 
 none_drawn (e.Write c name off bytes) a.Wrote h n r = cc
 none_drawn _ _ h n r = refl
 
+last : (x : Event) (y : Answer) (q : List Message) (ss : List RealmRecord) → is_refusal x y ≡ true → last_sent_then x y q ss ≡ ss
+last e.Commit (a.Commit count) q ss r = cc
+last _ _ q ss r = refl
+
+acks : (x : Event) (y : Answer) (f tid : ℕ) (was : Bool) → is_refusal x y ≡ true → acked_then x y f tid was ≡ was
+acks e.ToClient (a.FlushAck g t) f tid was r = cc
+acks _ _ f tid was r = refl
+
+-- a state is owed by what the functions say
+owed_same : (h : List Entry) (x : Entry) (f : ℕ) (state : At) → ((g tid : ℕ) → acked (x ∷ h) g tid ≡ acked h g tid) → client_knows (x ∷ h) f ≡ client_knows h f
+    → context (x ∷ h) f ≡ context h f → live (x ∷ h) ≡ live h → dirty (x ∷ h) f ≡ dirty h f → queued (x ∷ h) f ≡ queued h f → sent (x ∷ h) ≡ sent h
+    → owed (x ∷ h) f state ≡ owed h f state
+owed_same h x f state told known now same marks queue flushes = λ i.
+    not (known i) || (is_untold state (now i).seq || (is_written state f (same i) || (is_changed state (marks i)
+    || (list_any (λ (y : CapSnap). is_before state y.follows) (queue i)
+    || list_any (λ y. ((y.file == f) && is_before state y.follows)
+    && not (told y.file y.tid i || (not y.snap && list_any (λ z. is_later y z && told z.file z.tid i) (flushes i)))) (flushes i)))))
+
 pub as_before : (h : List Entry) (x : Entry) → is_refusal x.event x.answer ≡ true → IsAsBefore h (x ∷ h)
 as_before h x r =
     let same_realms : realms (x ∷ h) ≡ realms h = told x.event x.answer (to_client h) (realms h) r in
     let same_path : (d : ℕ) → path (x ∷ h) d ≡ path h d = λ d. ways x.event x.answer (λ k. path h k) d r in
-    let same_way : (f : ℕ) → file_path (x ∷ h) f ≡ file_path h f = λ f. same_path (home (x ∷ h) f) ∙ ap (path h) (homes x.event x.answer f (home h f) r) in
+    let same_home : (f : ℕ) → home (x ∷ h) f ≡ home h f = λ f. homes x.event x.answer f (home h f) r in
+    let same_file : (f : ℕ) → setup_file (x ∷ h) f ≡ setup_file h f = λ f. made x.event x.answer f (setup_file h f) r in
+    let same_dir : (d : ℕ) → setup_dir (x ∷ h) d ≡ setup_dir h d = λ d. made_dir x.event x.answer d (setup_dir h d) r in
+    let same_context : (f : ℕ) → context (x ∷ h) f ≡ context h f
+    = λ f. ap (λ ps. path_context ps (realms (x ∷ h))) (same_path (home (x ∷ h) f) ∙ ap (path h) (same_home f)) ∙ ap (λ ts. path_context (client_file_path h f) ts) same_realms in
+    let same_live : live (x ∷ h) ≡ live h = references x.event x.answer (λ f. (context h f).seq) (live h) r in
+    let same_dirty : (f : ℕ) → dirty (x ∷ h) f ≡ dirty h f = λ f. dirtied x.event x.answer (live h) f (dirty h f) r in
+    let same_queue : (f : ℕ) → queued (x ∷ h) f ≡ queued h f
+    = λ f. queues x.event x.answer f (context h f) (context (x ∷ h) f) (live h) (dirty h f) (mode h f) (queued h f) r in
+    let same_sent : sent (x ∷ h) ≡ sent h = flushed x.event x.answer (present h) (snap h) (sent h) r in
+    let same_acked : (f tid : ℕ) → acked (x ∷ h) f tid ≡ acked h f tid = λ f tid. acks x.event x.answer f tid (acked h f tid) r in
+    let told_now : List Message = news (λ d. path h d) (directories h) (last_sent h) (durable h) (fresh h) in
     record {
-      setup_files = λ f. made x.event x.answer f (setup_file h f) r;
-      files = listed x.event x.answer (files h) r;
-      setup_dirs = λ d. made_dir x.event x.answer d (setup_dir h d) r;
-      paths = same_path;
-      directories = dirs x.event x.answer (λ d. length (path (x ∷ h) d)) (directories h) r;
-      file_paths = same_way;
+      client_knows = same_file;
+      server_knows = same_file;
+      client_files = listed x.event x.answer (files h) r;
+      client_dir = λ d. ap (λ b. (d == 1) || b) (same_dir d);
+      server_dir = λ d. ap (λ b. (d == 1) || b) (same_dir d);
+      server_dirs = dirs x.event x.answer (λ d. length (path (x ∷ h) d)) (directories h) r;
+      client_path = same_path;
+      server_path = same_path;
+      client_home = same_home;
+      server_home = same_home;
       client = λ f. clients x.event x.answer f (client h f) r;
       server = λ f. servers x.event x.answer f (server h f) r;
-      to_client = clients_way x.event x.answer (λ f. server h f) (tell (λ d. path h d) (directories h) (durable h) (fresh h)) (to_client h) r;
+      session = refl;
+      to_client = clients_way x.event x.answer (λ f. server h f) told_now (to_client h) r;
       to_server = servers_way x.event x.answer (present h) (snap h) (to_server h) r;
       durable = durables x.event x.answer (fresh h) (durable h) r;
       fresh = added x.event x.answer (to_server h) (fresh h) r;
       realms = same_realms;
+      last_sent = last x.event x.answer told_now (last_sent h) r;
       clock = clocks x.event x.answer (clock h) r;
       mode = λ f. modes x.event x.answer (live h) f (mode h f) r;
-      contexts = λ f. ap (λ ps. path_context ps (realms (x ∷ h))) (same_way f) ∙ ap (λ ts. path_context (file_path h f) ts) same_realms;
-      references = references x.event x.answer (λ f. (context h f).seq) (live h) r;
+      contexts = same_context;
+      references = same_live;
       begun = λ c. counts x.event x.answer c (begun h c) r;
       begun_under = λ c n. under x.event x.answer (λ f. context h f) c n (begun_under h c n) r;
       writes = λ f. written x.event x.answer (live h) (clock h) f (writes h f) r;
-      dirty = λ f. dirtied x.event x.answer (live h) f (dirty h f) r;
-      queued = λ f. queues x.event x.answer f (context h f) (context (x ∷ h) f) (live h) (dirty h f) (mode h f) (queued h f) r;
-      sent = flushed x.event x.answer (present h) (snap h) (sent h) r;
+      dirty = same_dirty;
+      queued = same_queue;
+      sent = same_sent;
+      acked = same_acked;
+      owed = λ f state. owed_same h x f state same_acked (same_file f) (same_context f) same_live (same_dirty f) (same_queue f) same_sent;
+      modes_at = λ f s is. cond-true (had_reached h f s) (mode_at h f (at.Snap s)) (mode h f) is;
       operations = ap (λ os. reverse os ++ applied h) (none_brought x.event x.answer h (operations_drawn h) r);
       drawn = none_drawn x.event x.answer h (operations_drawn h) r;
     }
