@@ -4,6 +4,7 @@ pub mod CapSnaps
 pub mod Carried
 pub mod Capabilities
 pub mod Context
+pub mod Devices
 pub mod Events
 pub mod Fits
 pub mod Flight

@@ -8,7 +8,9 @@ use Rattle.cs_laws.specs.declared.records.Record.{Record}
 use Rattle.cs_laws.specs.declared.records.RecordBody.{RecordBody}
 use Rattle.cs_laws.specs.declared.records.RecordBody.TheVariants as bodies
 use Rattle.cs_laws.specs.Realms.{differing, is_realm, realm_records}
-use Rattle.cs_laws.specs.Standing.{news, sent_with}
+use Rattle.cs_laws.specs.Standing.{news, news_on, sent_with}
+use Rattle.cs_laws.specs.Carried.{realms_of}
+use Rattle.cs_ids.specs.declared.objects.FileMeta.{FileMeta}
 use Rattle.cs_theorems.proofs.Along.{Along, grows, sends}
 use Rattle.cs_theorems.proofs.Fronts.{flush_none, same_realm}
 use Rattle.cs_theorems.proofs.Links.{carried, differing_at, realm_at}
@@ -35,28 +37,43 @@ module _ (up : ℕ → List ℕ) (dirs : List ℕ) (ts : List RealmRecord) where
   pub now_is : (ss : List RealmRecord) (vs : List Record) → differing ss (realm_records up dirs vs) ≡ differing_at (λ d. record_of d ss) (realm_at up vs) dirs
   now_is ss vs = differing_is ss (realm_at up vs) dirs (realm_named vs)
 
+  -- what was sent last, once the records that differ are sent
+  sent_changed : (ss : List RealmRecord) (ds : List Record) (r : Record) → ((d : ℕ) → is_realm (ds ++ r ∷ []) d ≡ true → Member d dirs) → HasRealms up ds ss
+      → HasRealms up (ds ++ r ∷ []) (with_records (differing ss (realm_records up dirs (ds ++ r ∷ []))) ss)
+  sent_changed ss ds r listed i =
+      subst (λ now. HasRealms up more (with_records now ss)) (sym (now_is ss more)) (sent_then up more ss dirs listed (λ d not. i.has d ∙ none d not))
+    where
+      more : List Record
+      more = ds ++ r ∷ []
+
+      none : (d : ℕ) → is_realm more d ≡ false → realm_at up ds d ≡ None
+      none d not =
+          cond-false (is_realm ds d) _ None
+          (false_from_ne_true (is_realm ds d) (λ is. both_ways (is_realm more d) not (front_realm ds more d (r ∷ [], refl) is)))
+
   told_change : (ss : List RealmRecord) (q : List (List RealmRecord)) (ds : List Record) (r : Record) → ((d : ℕ) → is_realm (ds ++ r ∷ []) d ≡ true → Member d dirs)
       → ParentsFirst up [] dirs → Told up ss ts q ds
       → Told up (with_records (differing ss (realm_records up dirs (ds ++ r ∷ []))) ss) ts (q ++ differing ss (realm_records up dirs (ds ++ r ∷ [])) ∷ []) (ds ++ r ∷ [])
-  told_change ss q ds r listed first i =
-      subst (λ now. Told up (with_records now ss) ts (q ++ now ∷ []) more) (sym (now_is ss more))
-      (record {
-        link = subst (λ g. Along up g ts (q ++ now ∷ []) more) (λ j d. sym (has.has d) j)
-            (sends up (λ d. record_of d ss) ts q more dirs listed first (grows up (λ d. record_of d ss) ts q ds (r ∷ []) i.link));
-        sent = has;
-      })
+  told_change ss q ds r listed first i = record {
+    link = subst (λ g. Along up g ts (q ++ now ∷ []) more) (λ j d. sym (has.has d) j)
+        (subst (λ list. Along up (realm_at up more) ts (q ++ list ∷ []) more) (sym (now_is ss more))
+        (sends up (λ d. record_of d ss) ts q more dirs listed first (grows up (λ d. record_of d ss) ts q ds (r ∷ []) i.link)));
+    sent = has;
+  }
     where
       more : List Record
       more = ds ++ r ∷ []
 
       now : List RealmRecord
-      now = differing_at (λ d. record_of d ss) (realm_at up more) dirs
+      now = differing ss (realm_records up dirs more)
 
       has : HasRealms up more (with_records now ss)
-      has = sent_then up more ss dirs listed (λ d not. i.sent.has d ∙ none d not)
-        where
-          none : (d : ℕ) → is_realm more d ≡ false → realm_at up ds d ≡ None
-          none d not = cond-false (is_realm ds d) _ None (false_from_ne_true (is_realm ds d) (λ is. both_ways (is_realm more d) not (front_realm ds more d (r ∷ [], refl) is)))
+      has = sent_changed ss ds r listed i.sent
+
+  same_by : (ds : List Record) (snap : Bool) (f tid follows : ℕ) (meta : FileMeta)
+      → realm_at up (ds ++ record { body = bodies.Flush snap f tid follows meta } ∷ []) ≡ realm_at up ds
+  same_by ds snap f tid follows meta =
+      λ j d. same_realm (up d) ds (record { body = bodies.Flush snap f tid follows meta }) d (λ k. flush_none k ds snap f tid follows meta) j
 
   told_quiet : (ss : List RealmRecord) (q : List (List RealmRecord)) (ds : List Record) (r : Record) → realm_at up (ds ++ r ∷ []) ≡ realm_at up ds → Told up ss ts q ds
       → Told up ss ts q (ds ++ r ∷ [])
@@ -70,6 +87,17 @@ module _ (up : ℕ → List ℕ) (dirs : List ℕ) (ts : List RealmRecord) where
 
   abbrev told_with : List RealmRecord → List Record → RecordBody → List RealmRecord
   told_with ss ds b = differing ss (realm_records up dirs (with_body ds b))
+
+  -- what was sent last, once the message on a record is sent
+  pub sent_after : (ss : List RealmRecord) (ds : List Record) (r : Record) → ((d : ℕ) → is_realm (ds ++ r ∷ []) d ≡ true → Member d dirs) → HasRealms up ds ss
+      → HasRealms up (ds ++ r ∷ []) (with_records (realms_of (news_on up dirs ss ds r)) ss)
+  sent_after ss ds r listed has = at r.body listed
+    where
+      at : (b : RecordBody) → ((d : ℕ) → is_realm (with_body ds b) d ≡ true → Member d dirs)
+          → HasRealms up (with_body ds b) (with_records (realms_of (news_on up dirs ss ds (record { body = b }))) ss)
+      at (bodies.Flush snap f tid follows meta) inside = record { has = λ d. has.has d ∙ sym (ap (λ g. g d) (same_by ds snap f tid follows meta)) }
+      at (bodies.Snap n e name) inside = sent_changed ss ds (record { body = bodies.Snap n e name }) inside has
+      at (bodies.Removal t n) inside = sent_changed ss ds (record { body = bodies.Removal t n }) inside has
 
   -- what holds once these records more are told of; us, p: what was sent last and what flies before them
   abbrev TellsRest : List RealmRecord → List (List RealmRecord) → List Record → List Record → Type 0
@@ -104,6 +132,6 @@ module _ (up : ℕ → List ℕ) (dirs : List ℕ) (ts : List RealmRecord) where
           → ((us : List RealmRecord) (p : List (List RealmRecord)) → Told up us ts p (with_body ds b) → TellsRest us p (with_body ds b) rs)
           → Told up (sent_with (news up dirs ss ds (record { body = b } ∷ rs)) ss) ts (q ++ carried (news up dirs ss ds (record { body = b } ∷ rs))) (with_body ds b ++ rs)
       at (bodies.Flush snap f tid follows meta) inside go =
-          go ss q (told_quiet ss q ds _ (λ j d. same_realm (up d) ds (record { body = bodies.Flush snap f tid follows meta }) d (λ k. flush_none k ds snap f tid follows meta) j) i)
+          go ss q (told_quiet ss q ds _ (same_by ds snap f tid follows meta) i)
       at (bodies.Snap n e name) inside go = changed (bodies.Snap n e name) inside go
       at (bodies.Removal s n) inside go = changed (bodies.Removal s n) inside go

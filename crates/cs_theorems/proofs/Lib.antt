@@ -85,8 +85,8 @@ pub mod Settled
 pub mod Sizes
 pub mod Owing
 pub mod Recorded
-pub mod Told
-pub mod ToldPlaces
+pub mod RecordedSteps
+pub mod RecordedPlaces
 
 -- Contents, and all together
 pub mod Images

@@ -24,23 +24,24 @@ use Rattle.cs_laws.specs.Standing.{recorded, recorded_of}
 use Rattle.cs_laws.specs.Laws.{tids}
 use Rattle.cs_laws.specs.Runs.{IsRun}
 use Rattle.cs_laws.specs.Carried.{flush_on}
-use Rattle.cs_theorems.specs.Recorded.{AreRising, told, told_then, with_first, with_message, with_told}
-use Rattle.cs_theorems.specs.Told.{last_told}
+use Rattle.cs_theorems.proofs.Places.{recorded_one}
+use Rattle.cs_theorems.specs.Recorded.{AreRising, recorded_meta, recorded_meta_then, with_first, with_message, with_recorded}
+use Rattle.cs_theorems.specs.RecordedAt.{last_recorded}
 use Rattle.cs_theorems.proofs.Chains.{flight, flight_tid, run_rise}
 use Rattle.cs_theorems.proofs.Inversions.{ReceivedIs, received_idle, received_ack, received_flush, received_is, RemoveIs, remove_none, remove_gone, removed, remove_is, SnapIs, snap_unknown, snap_exists, snap_taken, snap_is}
 use Rattle.cs_theorems.proofs.Listed.{Each, member_right}
 use Rattle.cs_theorems.proofs.Rising.{RisesTo, rises_member}
 use Rattle.cs_theorems.proofs.Runs.{of_run}
-use Rattle.cs_theorems.proofs.Told.{IsBeside, Rises, are_rising, last_before_is, last_beside, last_end, last_pair, last_with, newer, pair_newer, pair_of, rises_with}
+use Rattle.cs_theorems.proofs.RecordedSteps.{IsBeside, Rises, are_rising, last_before_is, last_beside, last_end, last_pair, last_with, newer, pair_newer, pair_of, rises_with}
 use Rattle.cs_theorems.proofs.Untouched.{untouched}
 
 -- The numbers rise
 
 rises_message : (f : ℕ) (m : Message) (xs : List (ℕ × FileMeta)) → Rises 0 xs → Rises 0 (with_message f m xs)
 rises_message f (messages.Flush g tid follows meta) xs up =
-    cond_both (g == f) (with_told (follows, meta) xs) xs (Rises 0) (λ _. rises_with 0 (follows, meta) xs (omega arith) up) (λ _. up)
+    cond_both (g == f) (with_recorded (follows, meta) xs) xs (Rises 0) (λ _. rises_with 0 (follows, meta) xs (omega arith) up) (λ _. up)
 rises_message f (messages.FlushSnap g tid follows meta) xs up =
-    cond_both (g == f) (with_told (follows, meta) xs) xs (Rises 0) (λ _. rises_with 0 (follows, meta) xs (omega arith) up) (λ _. up)
+    cond_both (g == f) (with_recorded (follows, meta) xs) xs (Rises 0) (λ _. rises_with 0 (follows, meta) xs (omega arith) up) (λ _. up)
 rises_message f (messages.Cap g seq bits end) xs up = up
 rises_message f (messages.CapAck g seq bits) xs up = up
 rises_message f (messages.FlushAck g tid) xs up = up
@@ -50,32 +51,21 @@ rises_first : (f : ℕ) (q : List Message) (xs : List (ℕ × FileMeta)) → Ris
 rises_first f [] xs up = up
 rises_first f (m ∷ q) xs up = rises_message f m xs up
 
-rises_then : (x : Event) (y : Answer) (f : ℕ) (q : List Message) (xs : List (ℕ × FileMeta)) → Rises 0 xs → Rises 0 (told_then x y f q xs)
+rises_then : (x : Event) (y : Answer) (f : ℕ) (q : List Message) (xs : List (ℕ × FileMeta)) → Rises 0 xs → Rises 0 (recorded_meta_then x y f q xs)
 rises_then e.ToMds (a.Flushed g tid) f q xs up = rises_first f q xs up
 rises_then _ _ f q xs up = up
 
-rises : (h : List Entry) (f : ℕ) → Rises 0 (told h f)
+rises : (h : List Entry) (f : ℕ) → Rises 0 (recorded_meta h f)
 rises [] f = tt
-rises (x ∷ h) f = rises_then x.event x.answer f (to_server h) (told h f) (rises h f)
-
-pub told_rises : (h : List Entry) (f : ℕ) → AreRising (told h f)
-told_rises h f = are_rising 0 (told h f) (rises h f)
+rises (x ∷ h) f = rises_then x.event x.answer f (to_server h) (recorded_meta h f) (rises h f)
 
 -- A flush that is delivered
 
-pub recorded_own : (x : Flush) → recorded_of (flush_on (flush_message x)) ≡ flush_record x ∷ []
-recorded_own x = at x.snap
-  where
-    at : (b : Bool) → recorded_of (flush_on (cond b (messages.FlushSnap x.file x.tid x.follows x.meta) (messages.Flush x.file x.tid x.follows x.meta)))
-        ≡ record { body = bodies.Flush b x.file x.tid x.follows x.meta } ∷ []
-    at true = refl
-    at false = refl
-
-pub told_own : (f : ℕ) (x : Flush) (xs : List (ℕ × FileMeta)) → with_message f (flush_message x) xs ≡ cond (x.file == f) (with_told (x.follows, x.meta) xs) xs
-told_own f x xs = at x.snap
+pub recorded_meta_own : (f : ℕ) (x : Flush) (xs : List (ℕ × FileMeta)) → with_message f (flush_message x) xs ≡ cond (x.file == f) (with_recorded (x.follows, x.meta) xs) xs
+recorded_meta_own f x xs = at x.snap
   where
     at : (b : Bool) → with_message f (cond b (messages.FlushSnap x.file x.tid x.follows x.meta) (messages.Flush x.file x.tid x.follows x.meta)) xs
-        ≡ cond (x.file == f) (with_told (x.follows, x.meta) xs) xs
+        ≡ cond (x.file == f) (with_recorded (x.follows, x.meta) xs) xs
     at true = refl
     at false = refl
 
@@ -109,11 +99,11 @@ abbrev pub Agrees : ℕ → List (ℕ × FileMeta) → List Record → Type 0
 Agrees f xs rs = (at : At) → last_pair at xs ≡ pair_of (last_flush f at rs)
 
 abbrev AllAgree : List Entry → Type 0
-AllAgree h = (f : ℕ) → Agrees f (told h f) (stand h)
+AllAgree h = (f : ℕ) → Agrees f (recorded_meta h f) (stand h)
 
 agrees_end : (f : ℕ) (xs : List (ℕ × FileMeta)) (rs : List Record) (x : Flush) → (b : Bool) → (x.file == f) ≡ b → Rises 0 xs
     → (b ≡ true → Each (λ t. t < x.tid) (tids f rs)) → Agrees f xs rs
-    → Agrees f (cond b (with_told (x.follows, x.meta) xs) xs) (rs ++ flush_record x ∷ [])
+    → Agrees f (cond b (with_recorded (x.follows, x.meta) xs) xs) (rs ++ flush_record x ∷ [])
 agrees_end f xs rs x true own up low i at =
     last_with at 0 (x.follows, x.meta) xs up
     ∙ (ap (λ o. cond (is_before at x.follows) (newer (x.follows, x.meta) o) o) (i at)
@@ -131,28 +121,28 @@ step_server : (p : ℕ) (h : List Entry) (x : Answer) → IsRun p h → Received
 step_server p h x run received_idle i = i
 step_server p h x run (received_ack g seq bits q there) i = i
 step_server p h x run (received_flush y q there) i = λ f.
-    subst (λ ms. Agrees f (with_first f ms (told h f)) (durable h ++ (fresh h ++ recorded ms))) (sym there)
-    (subst (λ rs. Agrees f (with_message f (flush_message y) (told h f)) (durable h ++ (fresh h ++ rs))) (sym (recorded_own y))
-    (subst (λ xs. Agrees f xs (durable h ++ (fresh h ++ flush_record y ∷ []))) (sym (told_own f y (told h f)))
-    (subst (λ rs. Agrees f (cond (y.file == f) (with_told (y.follows, y.meta) (told h f)) (told h f)) rs) (append_assoc (durable h) (fresh h) (flush_record y ∷ []))
-    (agrees_end f (told h f) (stand h) y (y.file == f) refl (rises h f)
+    subst (λ ms. Agrees f (with_first f ms (recorded_meta h f)) (durable h ++ (fresh h ++ recorded ms))) (sym there)
+    (subst (λ rs. Agrees f (with_message f (flush_message y) (recorded_meta h f)) (durable h ++ (fresh h ++ rs))) (sym (recorded_one y))
+    (subst (λ xs. Agrees f xs (durable h ++ (fresh h ++ flush_record y ∷ []))) (sym (recorded_meta_own f y (recorded_meta h f)))
+    (subst (λ rs. Agrees f (cond (y.file == f) (with_recorded (y.follows, y.meta) (recorded_meta h f)) (recorded_meta h f)) rs) (append_assoc (durable h) (fresh h) (flush_record y ∷ []))
+    (agrees_end f (recorded_meta h f) (stand h) y (y.file == f) refl (rises h f)
     (λ own. sent_behind h f y q there (eqb-true y.file f own) (run_rise p h run f).rises) (i f)))))
 
 step_snap : (h : List Entry) (d : ℕ) (name : List ℕ) (x : Answer) → SnapIs h d name x → AllAgree h → AllAgree (record { event = e.Snap d name; answer = x } ∷ h)
 step_snap h d name x snap_unknown i = i
 step_snap h d name x snap_exists i = i
-step_snap h d name x (snap_taken directory free) i = λ f. agrees_beside f (told h f) (durable h) (fresh h) _ (λ at o. refl) (i f)
+step_snap h d name x (snap_taken directory free) i = λ f. agrees_beside f (recorded_meta h f) (durable h) (fresh h) _ (λ at o. refl) (i f)
 
 step_remove : (h : List Entry) (t : ℕ) (x : Answer) → RemoveIs h t x → AllAgree h → AllAgree (record { event = e.RmSnap t; answer = x } ∷ h)
 step_remove h t x remove_none i = i
 step_remove h t x remove_gone i = i
-step_remove h t x (removed there stays) i = λ f. agrees_beside f (told h f) (durable h) (fresh h) _ (λ at o. refl) (i f)
+step_remove h t x (removed there stays) i = λ f. agrees_beside f (recorded_meta h f) (durable h) (fresh h) _ (λ at o. refl) (i f)
 
 agree_step : (p : ℕ) (h : List Entry) (x : Event) → IsRun p h → AllAgree h → AllAgree (entry p h x ∷ h)
 agree_step p h e.ToMds run i = step_server p h _ run (received_is h) i
 agree_step p h (e.Snap d name) run i = step_snap h d name _ (snap_is h d name) i
 agree_step p h (e.RmSnap t) run i = step_remove h t _ (remove_is h t) i
-agree_step p h e.Commit run i = λ f. subst (λ rs. Agrees f (told h f) rs) (sym (append-nil (stand h))) (i f)
+agree_step p h e.Commit run i = λ f. subst (λ rs. Agrees f (recorded_meta h f) rs) (sym (append-nil (stand h))) (i f)
 agree_step p h _ run i = i
 
 all_agree : (p : ℕ) (h : List Entry) → IsRun p h → AllAgree h
@@ -163,11 +153,9 @@ found_meta None = refl
 found_meta (Some x) = refl
 
 -- a file's metadata at a state is what the table tells of it
-pub last_told_is : (p : ℕ) (h : List Entry) → IsRun p h → (f : ℕ) (at : At) → last_told at (told h f) ≡ meta_at f at (stand h)
-last_told_is p h run f at =
-    ap (λ o. unwrap_or o no_meta) (last_before_is at (told h f) ∙ ap (λ o. option_map (λ x. x.1) o) (all_agree p h run f at))
+pub last_recorded_is : (p : ℕ) (h : List Entry) → IsRun p h → (f : ℕ) (at : At) → last_recorded at (recorded_meta h f) ≡ meta_at f at (stand h)
+last_recorded_is p h run f at =
+    ap (λ o. unwrap_or o no_meta) (last_before_is at (recorded_meta h f) ∙ ap (λ o. option_map (λ x. x.1) o) (all_agree p h run f at))
     ∙ sym (found_meta (last_flush f at (stand h)))
 
 -- a file that isn't known has none
-pub told_none : (p : ℕ) (h : List Entry) → IsRun p h → (f : ℕ) → setup_file h f ≡ false → told h f ≡ []
-told_none p h run f unknown = (untouched p h run f unknown).told

@@ -29,7 +29,7 @@ use Rattle.cs_laws.specs.Journal.{entry}
 use Rattle.cs_laws.specs.References.{named}
 use Rattle.cs_laws.specs.Runs.{IsRun}
 use Rattle.cs_theorems.specs.Queues.{snaps, with_ended}
-use Rattle.cs_theorems.specs.Recorded.{told, with_first, with_message}
+use Rattle.cs_theorems.specs.Recorded.{recorded_meta, with_first, with_message}
 use Rattle.cs_theorems.specs.Unacked.{unacked}
 use Rattle.cs_theorems.specs.Underway.{IsToldClient, IsToldServer}
 use Rattle.cs_theorems.proofs.Inversions.{ChmodIs, chmod_unknown, chmod_no_bit, chmod_snap, chmod_done, chmod_is, WriteIs, write_unknown, write_no_bit, write_past, wrote, write_is, EndIs, end_unknown, ended, end_is, FlushIs, head_unknown, head_snap, head_clean, head_sent, flush_is, FlushSnapsIs, flush_unknown, flush_none, flush_writing, flush_sent, flush_snaps_is, FirstIs, first_idle, first_cap, first_flush_ack, first_snap, first_is, ReceivedIs, received_idle, received_ack, received_flush, received_is}
@@ -48,10 +48,10 @@ pub record IsUntouched (c : ClientCaps) (s : ServerCaps) (ws : List Write) (m : 
   pub queued : qs ≡ []
   pub snaps : xs ≡ []
   pub unacked : us ≡ []
-  pub told : ts ≡ []
+  pub recorded : ts ≡ []
 
 abbrev pub IsUntouchedAt : List Entry → ℕ → Type 0
-IsUntouchedAt h f = IsUntouched (client h f) (server h f) (writes h f) (mode h f) (dirty h f) (queued h f) (snaps h f) (unacked h f) (told h f)
+IsUntouchedAt h f = IsUntouched (client h f) (server h f) (writes h f) (mode h f) (dirty h f) (queued h f) (snaps h f) (unacked h f) (recorded_meta h f)
 
 abbrev AllUntouched : List Entry → Type 0
 AllUntouched h = (f : ℕ) → setup_file h f ≡ false → IsUntouchedAt h f
@@ -153,7 +153,7 @@ step_end h c name x (ended there) i = λ f unknown.
       queued = was.queued;
       snaps = ended_nothing (named c name (live h)) f _ (writes h f) (snaps h f) was.snaps;
       unacked = was.unacked;
-      told = was.told;
+      recorded = was.recorded;
     }
 
 -- no writer of it lives
@@ -209,7 +209,7 @@ step_to_mds h x (received_ack g seq bits q is) received i = λ f unknown.
 step_to_mds h x (received_flush y q is) received i = λ f unknown.
     let known : setup_file h y.file ≡ true = flush_known h y (received_first h (flush_message y) q is received) in
     let was : IsUntouchedAt h f = i f unknown in
-    let still : told (record { event = e.ToMds; answer = x } ∷ h) f ≡ [] = ap (λ ms. with_first f ms (told h f)) is ∙ untold f y (told h f) (apart h y.file f known unknown) was.told in
+    let still : recorded_meta (record { event = e.ToMds; answer = x } ∷ h) f ≡ [] = ap (λ ms. with_first f ms (recorded_meta h f)) is ∙ untold f y (recorded_meta h f) (apart h y.file f known unknown) was.recorded in
     record {
       client = was.client;
       server = was.server;
@@ -219,7 +219,7 @@ step_to_mds h x (received_flush y q is) received i = λ f unknown.
       queued = was.queued;
       snaps = was.snaps;
       unacked = was.unacked;
-      told = still;
+      recorded = still;
     }
 
 untouched_step : (p : ℕ) (h : List Entry) (x : Event) → IsRun p h → AllUntouched h → AllUntouched (entry p h x ∷ h)
@@ -238,7 +238,7 @@ untouched_step p h _ run i = i
 
 nothing_touched : AllUntouched []
 nothing_touched = λ f unknown.
-    record { client = refl; server = refl; writes = refl; mode = refl; dirty = refl; queued = refl; snaps = refl; unacked = refl; told = refl }
+    record { client = refl; server = refl; writes = refl; mode = refl; dirty = refl; queued = refl; snaps = refl; unacked = refl; recorded = refl }
 
 pub untouched : (p : ℕ) (h : List Entry) → IsRun p h → (f : ℕ) → setup_file h f ≡ false → IsUntouchedAt h f
 untouched p h run = of_run p AllUntouched nothing_touched (λ g x fit before i. untouched_step p g x before i) h run

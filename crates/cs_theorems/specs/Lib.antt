@@ -9,6 +9,6 @@ pub mod Recorded
 pub mod References
 pub mod Refusals
 pub mod Snapshots
-pub mod Told
+pub mod RecordedAt
 pub mod Unacked
 pub mod Underway

@@ -15,14 +15,14 @@ abbrev pub AreRising : List (ℕ × FileMeta) → Type 0
 AreRising = AllPairs (λ x y. x.0 < y.0)
 
 -- the metadata under a number takes the place of what stands under it, or else goes to its place in the order of the numbers
-abbrev pub with_told : ℕ × FileMeta → List (ℕ × FileMeta) → List (ℕ × FileMeta)
-with_told x [] = x ∷ []
-with_told x (y ∷ ys) = if nat_lt y.0 x.0 then y ∷ with_told x ys else if y.0 == x.0 then x ∷ ys else x ∷ y ∷ ys
+abbrev pub with_recorded : ℕ × FileMeta → List (ℕ × FileMeta) → List (ℕ × FileMeta)
+with_recorded x [] = x ∷ []
+with_recorded x (y ∷ ys) = if nat_lt y.0 x.0 then y ∷ with_recorded x ys else if y.0 == x.0 then x ∷ ys else x ∷ y ∷ ys
 
 -- a message with a flush of the file is recorded
 abbrev pub with_message : ℕ → Message → List (ℕ × FileMeta) → List (ℕ × FileMeta)
-with_message f (messages.Flush g tid follows meta) xs = if g == f then with_told (follows, meta) xs else xs
-with_message f (messages.FlushSnap g tid follows meta) xs = if g == f then with_told (follows, meta) xs else xs
+with_message f (messages.Flush g tid follows meta) xs = if g == f then with_recorded (follows, meta) xs else xs
+with_message f (messages.FlushSnap g tid follows meta) xs = if g == f then with_recorded (follows, meta) xs else xs
 with_message f _ xs = xs
 
 -- the first of these messages is
@@ -31,10 +31,10 @@ with_first f [] xs = xs
 with_first f (m ∷ q) xs = with_message f m xs
 
 -- q: the messages to the server before the entry
-abbrev pub told_then : Event → Answer → ℕ → List Message → List (ℕ × FileMeta) → List (ℕ × FileMeta)
-told_then events.ToMds (answers.Flushed g tid) f q xs = with_first f q xs
-told_then _ _ f q xs = xs
+abbrev pub recorded_meta_then : Event → Answer → ℕ → List Message → List (ℕ × FileMeta) → List (ℕ × FileMeta)
+recorded_meta_then events.ToMds (answers.Flushed g tid) f q xs = with_first f q xs
+recorded_meta_then _ _ f q xs = xs
 
-abbrev pub told : List Entry → ℕ → List (ℕ × FileMeta)
-told [] f = []
-told (x ∷ h) f = told_then x.event x.answer f (to_server h) (told h f)
+abbrev pub recorded_meta : List Entry → ℕ → List (ℕ × FileMeta)
+recorded_meta [] f = []
+recorded_meta (x ∷ h) f = recorded_meta_then x.event x.answer f (to_server h) (recorded_meta h f)

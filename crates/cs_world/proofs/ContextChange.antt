@@ -30,7 +30,7 @@ use Rattle.cs_laws.specs.Tree.{client_file_path, home}
 use Rattle.cs_laws.specs.Events.{files, setup_file}
 use Rattle.cs_laws.specs.History.{context, dirty, live, mode, queued, realms, to_client, writes}
 use Rattle.cs_laws.specs.Runs.{IsRun}
-use Rattle.cs_theorems.specs.Contexts.{Moves}
+use Rattle.cs_theorems.specs.Contexts.{Rises}
 use Rattle.cs_theorems.specs.References.{IsEachOnce}
 use Rattle.cs_theorems.specs.Queues.{snaps}
 use Rattle.cs_theorems.proofs.Contexts.{told_moves}
@@ -168,19 +168,19 @@ not_risen a b up alike =
     let same : a.seq ≡ b.seq = eqb-true a.seq b.seq parts.0 in
     omega arith
 
-stays : (n : ℕ) (old new : Context) → Moves n old new → differs old new ≡ false → new ≡ old
-stays n old new moves alike = ⊎_elim (λ same. same) (λ up. absurd (not_risen old new up.0 alike)) moves
+stays : (old new : Context) → Rises old new → differs old new ≡ false → new ≡ old
+stays old new moves alike = ⊎_elim (λ same. same) (λ up. absurd (not_risen old new up alike)) moves
 
-rises : (n : ℕ) (old new : Context) → Moves n old new → differs old new ≡ true → old.seq < new.seq
-rises n old new moves other = ⊎_elim (λ same. absurd (both_ways (differs old new) (not_other old new same) other)) (λ up. up.0) moves
+rises : (old new : Context) → Rises old new → differs old new ≡ true → old.seq < new.seq
+rises old new moves other = ⊎_elim (λ same. absurd (both_ways (differs old new) (not_other old new same) other)) (λ up. up) moves
 
--- the context of each file moves to the number that is told
+-- the context of each file stays, or rises
 moves_to : (h : List Entry) (s : State) (number realm : ℕ) (ts : List RealmRecord) (f : ℕ) → IsRun s.pages h → TellsRealms h number realm ts
-    → Moves number (context h f) (new_context h ts f)
+    → Rises (context h f) (new_context h ts f)
 moves_to h s number realm ts f run told =
     let there : to_client h ≡ messages.Snap number realm told.told ∷ drop 1 (to_client h) = first_is (to_client h) _ told.first in
     let now : with_first (to_client h) (realms h) ≡ ts = ap (λ q. with_first q (realms h)) there ∙ sym told.after in
-    subst (λ us. Moves number (context h f) (new_context h us f)) now
+    subst (λ us. Rises (context h f) (new_context h us f)) now
     (told_moves h number realm told.told (drop 1 (to_client h)) f there (course_run s.pages h run).setting)
 
 pub contexts_rise : (h : List Entry) (s : State) (number realm : ℕ) (ts : List RealmRecord) → Refines h s → IsRun s.pages h → TellsRealms h number realm ts
@@ -190,7 +190,7 @@ contexts_rise h s number realm ts t run told f = subst (λ o. RisesIn (path_of s
     at : (known : Bool) → RisesIn (path_of s.directories) ts (cond known (Some (row h f)) None)
     at true =
         subst (λ c. differs (context h f) c ≡ true → (context h f).seq < c.seq) (sym (same_context h s ts f t))
-        (rises number (context h f) (new_context h ts f) (moves_to h s number realm ts f run told))
+        (rises (context h f) (new_context h ts f) (moves_to h s number realm ts f run told))
     at false = tt
 
 -- the row under another context, and with one cap snap more, or not
@@ -202,9 +202,9 @@ row_with h f new made = record (row h f) {
   };
 }
 
-row_changed : (h : List Entry) (f number : ℕ) (new : Context) (b : Bool) → differs (context h f) new ≡ b → Moves number (context h f) new
+row_changed : (h : List Entry) (f : ℕ) (new : Context) (b : Bool) → differs (context h f) new ≡ b → Rises (context h f) new
     → record (row h f) { inode = cond b (with_context new (inode h f)) (inode h f) } ≡ row_with h f new (b && inodes.needs_snap (inode h f))
-row_changed h f number new true is moves =
+row_changed h f new true is moves =
     ap (λ w. let r : FileState = record (row h f) {
       inode = record (inode h f) {
         context = new;
@@ -212,8 +212,8 @@ row_changed h f number new true is moves =
             cond (inodes.needs_snap (inode h f)) (snaps h f ++ queued_snap (context h f) w (written_meta (mode h f) (writes h f)) ∷ []) (snaps h f);
       };
     } in r) (writer_counted f (live h))
-row_changed h f number new false is moves =
-    ap (λ c. let r : FileState = record (row h f) { inode = record (inode h f) { context = c } } in r) (sym (stays number (context h f) new moves is))
+row_changed h f new false is moves =
+    ap (λ c. let r : FileState = record (row h f) { inode = record (inode h f) { context = c } } in r) (sym (stays (context h f) new moves is))
 
 changed_is : (h : List Entry) (s : State) (number realm n : ℕ) (ts : List RealmRecord) (f : ℕ) → Refines h s → IsRun s.pages h → TellsRealms h number realm ts
     → told_row (path_of s.directories) ts (row h f) ≡ row (told_entry number realm n ∷ h) f
@@ -221,7 +221,7 @@ changed_is h s number realm n ts f t run told =
     let now : new_context h ts f ≡ context (told_entry number realm n ∷ h) f =
     ap (λ us. path_context (client_file_path h f) us) (sym (told_here h number realm n ts told)) in
     ap (λ c. changed_row c (row h f)) (same_context h s ts f t)
-    ∙ (row_changed h f number (new_context h ts f) (differs (context h f) (new_context h ts f)) refl (moves_to h s number realm ts f run told)
+    ∙ (row_changed h f (new_context h ts f) (differs (context h f) (new_context h ts f)) refl (moves_to h s number realm ts f run told)
     ∙ (ap (λ c. row_with h f c (needs_snap c (row h f))) now
     ∙ ap (λ b. row_with h f (context (told_entry number realm n ∷ h) f) b) (needs_made s.pages h f (context (told_entry number realm n ∷ h) f) run)))
 

@@ -6,10 +6,9 @@ use Rattle.cs_laws.specs.declared.events.Event.{Event}
 use Rattle.cs_laws.specs.declared.answers.Answer.{Answer}
 use Rattle.cs_laws.specs.declared.answers.Entry.{Entry}
 use Rattle.cs_laws.specs.Answers.{answer}
-use Rattle.cs_laws.specs.Fits.{fits}
 use Rattle.cs_world.specs.declared.state.State.{State}
 use Rattle.cs_world.specs.Tables.{Refines}
-use Rattle.cs_laws.specs.Runs.{IsRun}
+use Rattle.cs_laws.specs.Runs.{CanFollow, IsRun}
 
 with_entries : (h : List Entry) (s : State) (es : Vec Entry Global) → Refines h s → Refines h (record s { entries = es })
 with_entries h s es i = record {
@@ -40,7 +39,7 @@ after_entry s es old e copied a told grown same_event same_answer kept i =
 
 -- and the history with the entry is one of a run
 pub after_run : (pages : ℕ) (es old : List Entry) (e copied : Event) (a told : Answer) → es ≡ old ++ record { event = copied; answer = told } ∷ []
-    → copied ≡ e → told ≡ a → fits e ≡ true → a ≡ answer pages (reverse old) e → IsRun pages (reverse old) → IsRun pages (reverse es)
+    → copied ≡ e → told ≡ a → CanFollow (reverse old) e → a ≡ answer pages (reverse old) e → IsRun pages (reverse old) → IsRun pages (reverse es)
 after_run pages es old e copied a told grown same_event same_answer fit is run =
     let x : Entry = record { event = copied; answer = told } in
     let entered : reverse es ≡ x ∷ reverse old = ap (λ xs. reverse xs) grown ∙ reverse-append old (x ∷ []) in

@@ -16,11 +16,12 @@ pub mod Kept
 pub mod Nearest
 pub mod Named
 pub mod NewFiles
+pub mod News
 pub mod Reading
 pub mod Received
 pub mod Refused
 pub mod Rows
 pub mod Showing
 pub mod TakenIn
-pub mod ToldAt
+pub mod RecordedAt
 pub mod Written

@@ -67,7 +67,7 @@ made_row h f d = record (row h f) { inode = record (inode h f) { context = path_
 
 -- a file that isn't known has the new row
 row_is_new : (h : List Entry) (f d : ℕ) → IsUntouchedAt h f → writers_of f (live h) ≡ 0 → new_row f d (path_context (path h d) (realms h)) ≡ made_row h f d
-row_is_new h f d i none = rw (i.client, i.server, i.writes, i.mode, i.dirty, i.snaps, i.unacked, i.told, none) refl
+row_is_new h f d i none = rw (i.client, i.server, i.writes, i.mode, i.dirty, i.snaps, i.unacked, i.recorded, none) refl
 
 row_made : (b : Bool) (h : List Entry) (f d g : ℕ) → (f == g) ≡ b → new_row f d (path_context (path h d) (realms h)) ≡ made_row h f d
     → cond b (Some (new_row f d (path_context (path h d) (realms h)))) (row_of h g)

@@ -15,9 +15,10 @@ use Rattle.cs_laws.specs.Events.{setup_file}
 use Rattle.cs_laws.specs.Flushes.{Flush, flush_message, flush_record}
 use Rattle.cs_laws.specs.History.{fresh, to_server}
 use Rattle.cs_laws.specs.Standing.{recorded}
-use Rattle.cs_theorems.specs.Recorded.{told, with_first, with_told}
+use Rattle.cs_theorems.proofs.Places.{recorded_one}
+use Rattle.cs_theorems.specs.Recorded.{recorded_meta, with_first, with_recorded}
 use Rattle.cs_theorems.specs.Underway.{IsToldServer}
-use Rattle.cs_theorems.proofs.Recorded.{recorded_own, told_own}
+use Rattle.cs_theorems.proofs.Recorded.{recorded_meta_own}
 use Rattle.cs_world.specs.declared.state.State.{State}
 use Rattle.cs_world.specs.declared.state.FileState.{FileState}
 use Rattle.cs_world.specs.Delivered.{IsFirst}
@@ -31,8 +32,8 @@ flush_known h x = at x.snap
   where
     at : (b : Bool) → IsToldServer h (cond b (messages.FlushSnap x.file x.tid x.follows x.meta) (messages.Flush x.file x.tid x.follows x.meta))
         → setup_file h x.file ≡ true
-    at true known = known
-    at false known = known
+    at true is = is.1
+    at false is = is.1
 
 abbrev flushed : Flush → List Entry → List Entry
 flushed x h = record { event = events.ToMds; answer = answers.Flushed x.file x.tid } ∷ h
@@ -40,25 +41,25 @@ flushed x h = record { event = events.ToMds; answer = answers.Flushed x.file x.t
 -- The row of its file has it, and no other
 
 told_first : (f : ℕ) (x : Flush) (q : List Message) (xs : List (ℕ × FileMeta)) → IsFirst (flush_message x) q
-    → with_first f q xs ≡ cond (x.file == f) (with_told (x.follows, x.meta) xs) xs
-told_first f x q xs is = ap (λ ms. with_first f ms xs) (first_of (flush_message x) q is) ∙ told_own f x xs
+    → with_first f q xs ≡ cond (x.file == f) (with_recorded (x.follows, x.meta) xs) xs
+told_first f x q xs is = ap (λ ms. with_first f ms xs) (first_of (flush_message x) q is) ∙ recorded_meta_own f x xs
 
 told_by : (h : List Entry) (x : Flush) (g : ℕ) → (b : Bool) → (x.file == g) ≡ b → IsFirst (flush_message x) (to_server h)
-    → told (flushed x h) g ≡ cond b (with_told (x.follows, x.meta) (told h g)) (told h g)
+    → recorded_meta (flushed x h) g ≡ cond b (with_recorded (x.follows, x.meta) (recorded_meta h g)) (recorded_meta h g)
 told_by h x g b same first =
-    told_first g x (to_server h) (told h g) first ∙ ap (λ c. cond c (with_told (x.follows, x.meta) (told h g)) (told h g)) same
+    told_first g x (to_server h) (recorded_meta h g) first ∙ ap (λ c. cond c (with_recorded (x.follows, x.meta) (recorded_meta h g)) (recorded_meta h g)) same
 
 pub received_rows : (h : List Entry) (s : State) (x : Flush) (new : Files) (r : FileState) (xs : List (ℕ × FileMeta)) → Refines h s
-    → IsFirst (flush_message x) (to_server h) → setup_file h x.file ≡ true → r ≡ row h x.file → xs ≡ with_told (x.follows, x.meta) r.told
-    → PutsRow s.files new x.file (record r { told = xs }) → (g : ℕ) → get nat_cmp new g ≡ row_of (flushed x h) g
+    → IsFirst (flush_message x) (to_server h) → setup_file h x.file ≡ true → r ≡ row h x.file → xs ≡ with_recorded (x.follows, x.meta) r.recorded
+    → PutsRow s.files new x.file (record r { recorded = xs }) → (g : ℕ) → get nat_cmp new g ≡ row_of (flushed x h) g
 received_rows h s x new r xs t first known is after put =
-    put_rows h (flushed x h) s.files new x.file (record r { told = xs }) t.rows (λ g. refl) known own others put
+    put_rows h (flushed x h) s.files new x.file (record r { recorded = xs }) t.rows (λ g. refl) known own others put
   where
-    own : record r { told = xs } ≡ row (flushed x h) x.file
-    own = rw (after, is) (ap (λ ys. record (row h x.file) { told = ys }) (sym (told_by h x x.file true (eq-eqb x.file x.file refl) first)))
+    own : record r { recorded = xs } ≡ row (flushed x h) x.file
+    own = rw (after, is) (ap (λ ys. record (row h x.file) { recorded = ys }) (sym (told_by h x x.file true (eq-eqb x.file x.file refl) first)))
 
     others : (g : ℕ) → (x.file == g) ≡ false → row (flushed x h) g ≡ row h g
-    others g other = ap (λ ys. record (row h g) { told = ys }) (told_by h x g false other first)
+    others g other = ap (λ ys. record (row h g) { recorded = ys }) (told_by h x g false other first)
 
 -- The answer, and what is recorded
 
@@ -76,4 +77,4 @@ received_is h x is = sym (ap (λ q. answer_to_mds_of h q) (first_of (flush_messa
 pub recorded_is : (h : List Entry) (x : Flush) (old new : List Record) → IsFirst (flush_message x) (to_server h) → old ≡ fresh h
     → new ≡ old ++ flush_record x ∷ [] → new ≡ fresh h ++ recorded (to_server h)
 recorded_is h x old new first was is =
-    is ∙ (ap (λ rs. rs ++ flush_record x ∷ []) was ∙ ap (λ rs. fresh h ++ rs) (sym (ap recorded (first_of (flush_message x) (to_server h) first) ∙ recorded_own x)))
+    is ∙ (ap (λ rs. rs ++ flush_record x ∷ []) was ∙ ap (λ rs. fresh h ++ rs) (sym (ap recorded (first_of (flush_message x) (to_server h) first) ∙ recorded_one x)))

@@ -6,7 +6,7 @@ use Rattle.cs_laws.specs.declared.answers.Entry.{Entry}
 use Rattle.cs_laws.specs.Refusals.{is_refusal}
 use Rattle.cs_refs.specs.Table.{RefTable, begun_of}
 use Rattle.cs_theorems.specs.Refusals.{IsAsBefore}
-use Rattle.cs_theorems.proofs.Kept.{as_before}
+use Rattle.cs_theorems.proofs.Refused.{as_before}
 use Rattle.cs_world.specs.declared.state.State.{State}
 use Rattle.cs_world.specs.Tables.{Files, Refines, row_of}
 
@@ -17,14 +17,14 @@ refused h x s new refs t turned rows same =
     let b : IsAsBefore h (x ∷ h) = as_before h x turned in
     record {
       rows = rows;
-      made = t.made ∙ ap reverse (sym b.files);
+      made = t.made ∙ ap reverse (sym b.client_files);
       sent_to_client = t.sent_to_client ∙ sym b.to_client;
       sent_to_server = t.sent_to_server ∙ sym b.to_server;
       clock = t.clock ∙ sym b.clock;
       tree = record {
-        known = λ d. t.tree.known d ∙ ap (λ k. (d == 1) || k) (sym (b.setup_dirs d));
-        paths = λ d. t.tree.paths d ∙ sym (b.paths d);
-        order = t.tree.order ∙ sym b.directories;
+        known = λ d. t.tree.known d ∙ sym (b.client_dir d);
+        paths = λ d. t.tree.paths d ∙ sym (b.client_path d);
+        order = t.tree.order ∙ sym b.server_dirs;
       };
       realms = t.realms ∙ sym b.realms;
       live = ap (λ r. r.live) same ∙ (t.live ∙ sym b.references);

@@ -28,21 +28,21 @@ use Rattle.cs_laws.specs.Tree.{client_file_path, home}
 use Rattle.cs_tree.specs.Directories.{path_of}
 use Rattle.cs_records.specs.Records.{all}
 use Rattle.cs_laws.specs.Runs.{IsRun}
-use Rattle.cs_theorems.proofs.Agreeing.{run_holds}
+use Rattle.cs_theorems.proofs.Agreeing.{states_hold}
 use Rattle.cs_theorems.proofs.Ends.{states_end}
 use Rattle.cs_theorems.proofs.Owing.{owed_head, owed_snap, writer_counted}
-use Rattle.cs_theorems.proofs.Recorded.{last_told_is}
+use Rattle.cs_theorems.proofs.Recorded.{last_recorded_is}
 use Rattle.cs_theorems.proofs.Sizes.{meta_is}
 use Rattle.cs_theorems.proofs.Covering.{covers_by, stands_dir}
 use Rattle.cs_theorems.specs.Queues.{snaps}
 use Rattle.cs_theorems.specs.Unacked.{unacked}
-use Rattle.cs_theorems.specs.Told.{last_told}
+use Rattle.cs_theorems.specs.RecordedAt.{last_recorded}
 use Rattle.cs_world.specs.declared.state.State.{State}
 use Rattle.cs_world.specs.declared.state.FileState.{FileState}
-use Rattle.cs_world.specs.declared.shows.Standing.{Standing}
-use Rattle.cs_world.specs.declared.shows.Standing.TheVariants as standing
-use Rattle.cs_world.specs.Storing.{calls_store}
-use Rattle.cs_world.specs.Shown.{file_byte, shown_count, snapshot_of, standing_in, standing_of}
+use Rattle.cs_world.specs.declared.shows.Shown.{Shown}
+use Rattle.cs_world.specs.declared.shows.Shown.TheVariants as states
+use Rattle.cs_world.specs.Storing.{calls_store, has_some}
+use Rattle.cs_world.specs.Shown.{file_byte, shown_count, snapshot_of, shown_in, shown_of}
 use Rattle.cs_world.specs.Tables.{Refines, inode}
 use Rattle.cs_world.proofs.Rows.{row_is, row_known}
 
@@ -64,19 +64,19 @@ bytes_alike F G off (suc n) same = rw (same off) (ap (λ bs. G off ∷ bs) (byte
 
 pub stored_bytes : (p : ℕ) (h : List Entry) (f : ℕ) (a : At) (ops : List ObjOp) (off n : ℕ) → IsRun p h → ops ≡ applied h
     → bytes_from (file_byte a f ops) off n ≡ bytes_from (images.image (writes_at a (writes h f))) off n
-stored_bytes p h f a ops off n run is = rw is (bytes_alike (file_byte a f (applied h)) (images.image (writes_at a (writes h f))) off n (λ i. run_holds p h run a f i))
+stored_bytes p h f a ops off n run is = rw is (bytes_alike (file_byte a f (applied h)) (images.image (writes_at a (writes h f))) off n (λ i. states_hold p h run a f i))
 
 -- Whether the server has the state
 
 -- the answer where it doesn't, and where it does
-abbrev pub by_standing : Standing → Answer → Answer
-by_standing standing.There x = x
-by_standing standing.Absent x = answers.NoSnap
-by_standing standing.Gone x = answers.Gone
+abbrev pub by_shown : Shown → Answer → Answer
+by_shown states.There x = x
+by_shown states.Absent x = answers.NoSnap
+by_shown states.Gone x = answers.Gone
 
 standing_snap : (p : ℕ) (h : List Entry) (f s : ℕ) (x : Answer) (o : Option ℕ) → IsRun p h → 1 ≤ s → dir_of s (stand h) ≡ o
     → cond (stands (at.Snap s) (stand h)) (cond (is_gone (at.Snap s) (stand h)) answers.Gone (cond (covers_file (at.Snap s) (standing_context h f)) x answers.NoSnap)) answers.NoSnap
-    ≡ by_standing (standing_in (stand h) (client_file_path h f) s o) x
+    ≡ by_shown (shown_in (stand h) (client_file_path h f) s o) x
 standing_snap p h f s x None run low is =
     cond-false (stands (at.Snap s) (stand h)) _ answers.NoSnap (stands_dir s (stand h) ∙ ap is_some is)
 standing_snap p h f s x (Some e) run low is =
@@ -84,11 +84,11 @@ standing_snap p h f s x (Some e) run low is =
   where
     by_removal : (b : Bool) → is_removed s (stand h) ≡ b
         → cond b answers.Gone (cond (covers_file (at.Snap s) (standing_context h f)) x answers.NoSnap)
-        ≡ by_standing (cond b standing.Gone (cond (list_any (λ d. d == e) (client_file_path h f)) standing.There standing.Absent)) x
+        ≡ by_shown (cond b states.Gone (cond (list_any (λ d. d == e) (client_file_path h f)) states.There states.Absent)) x
     by_removal true gone = refl
     by_removal false stays =
         ap (λ c. cond c x answers.NoSnap) (covers_by p h f s e run low is stays)
-        ∙ cond_both (list_any (λ d. d == e) (client_file_path h f)) standing.There standing.Absent (λ t. cond (list_any (λ d. d == e) (client_file_path h f)) x answers.NoSnap ≡ by_standing t x)
+        ∙ cond_both (list_any (λ d. d == e) (client_file_path h f)) states.There states.Absent (λ t. cond (list_any (λ d. d == e) (client_file_path h f)) x answers.NoSnap ≡ by_shown t x)
         (λ yes_it. cond-true _ x answers.NoSnap yes_it) (λ no_it. cond-false _ x answers.NoSnap no_it)
 
 -- the answer where the server has the state
@@ -98,51 +98,62 @@ answer_there h f a off len = cond (owed h f a) answers.Pending (shown (meta_at f
 -- the answer to a show of a file that is known
 pub show_is : (p : ℕ) (h : List Entry) (f : ℕ) (a : At) (off len : ℕ) → IsRun p h → setup_file h f ≡ true → is_state a ≡ true
     → answer_show h f a off len
-    ≡ by_standing (standing_of (stand h) (client_file_path h f) a) (answer_there h f a off len)
+    ≡ by_shown (shown_of (stand h) (client_file_path h f) a) (answer_there h f a off len)
 show_is p h f at.Head off len run known state = cond-true (setup_file h f) _ answers.Unknown known
 show_is p h f (at.Snap s) off len run known state =
     cond-true (setup_file h f) _ answers.Unknown known ∙ standing_snap p h f s _ (dir_of s (stand h)) run (leb-true 1 s state) refl
 
 -- The same of the tables
 
-pub table_standing : (h : List Entry) (s : State) (f : ℕ) (a : At) (r : FileState) (now : Standing) → Refines h s → get nat_cmp s.files f ≡ Some r
-    → now ≡ standing_of (all s.records) (path_of s.directories r.home) a → now ≡ standing_of (stand h) (client_file_path h f) a
+pub table_standing : (h : List Entry) (s : State) (f : ℕ) (a : At) (r : FileState) (now : Shown) → Refines h s → get nat_cmp s.files f ≡ Some r
+    → now ≡ shown_of (all s.records) (path_of s.directories r.home) a → now ≡ shown_of (stand h) (client_file_path h f) a
 table_standing h s f a r now t has is =
     let same : all s.records ≡ stand h = λ i. t.durable i ++ t.fresh i in
     is
-    ∙ (ap (λ x. standing_of (all s.records) (path_of s.directories x.home) a) (row_is h s f r t has)
-    ∙ ((λ i. standing_of (same i) (t.tree.paths (home h f) i) a)))
+    ∙ (ap (λ x. shown_of (all s.records) (path_of s.directories x.home) a) (row_is h s f r t has)
+    ∙ ((λ i. shown_of (same i) (t.tree.paths (home h f) i) a)))
 
 pub pending_is : (p : ℕ) (h : List Entry) (f : ℕ) (a : At) (off len : ℕ) → IsRun p h → setup_file h f ≡ true → is_state a ≡ true
-    → standing.There ≡ standing_of (stand h) (client_file_path h f) a → owed h f a ≡ true → answers.Pending ≡ answer_show h f a off len
+    → states.There ≡ shown_of (stand h) (client_file_path h f) a → owed h f a ≡ true → answers.Pending ≡ answer_show h f a off len
 pending_is p h f a off len run known state there owes =
-    sym (show_is p h f a off len run known state ∙ (ap (λ t. by_standing t (answer_there h f a off len)) (sym there) ∙ cond-true (owed h f a) answers.Pending _ owes))
+    sym (show_is p h f a off len run known state ∙ (ap (λ t. by_shown t (answer_there h f a off len)) (sym there) ∙ cond-true (owed h f a) answers.Pending _ owes))
 
 shows_it : (p : ℕ) (h : List Entry) (f : ℕ) (a : At) (off len : ℕ) → IsRun p h → setup_file h f ≡ true → is_state a ≡ true
-    → standing.There ≡ standing_of (stand h) (client_file_path h f) a → owed h f a ≡ false → answer_show h f a off len ≡ shown (meta_at f a (stand h)) (writes_at a (writes h f)) off len
+    → states.There ≡ shown_of (stand h) (client_file_path h f) a → owed h f a ≡ false → answer_show h f a off len ≡ shown (meta_at f a (stand h)) (writes_at a (writes h f)) off len
 shows_it p h f a off len run known state there free =
-    show_is p h f a off len run known state ∙ (ap (λ t. by_standing t (answer_there h f a off len)) (sym there) ∙ cond-false (owed h f a) answers.Pending _ free)
+    show_is p h f a off len run known state ∙ (ap (λ t. by_shown t (answer_there h f a off len)) (sym there) ∙ cond-false (owed h f a) answers.Pending _ free)
 
 pub shown_is : (p : ℕ) (h : List Entry) (f : ℕ) (a : At) (off len : ℕ) (meta : FileMeta) (bytes : List ℕ) → IsRun p h → setup_file h f ≡ true → is_state a ≡ true
-    → standing.There ≡ standing_of (stand h) (client_file_path h f) a → owed h f a ≡ false → meta ≡ meta_at f a (stand h)
+    → states.There ≡ shown_of (stand h) (client_file_path h f) a → owed h f a ≡ false → meta ≡ meta_at f a (stand h)
     → bytes ≡ bytes_from (images.image (writes_at a (writes h f))) off (shown_count meta.size off len) → answers.Size meta bytes ≡ answer_show h f a off len
 shown_is p h f a off len meta bytes run known state there free is held =
     let now : answers.Size meta bytes ≡ shown (meta_at f a (stand h)) (writes_at a (writes h f)) off len = rw (held, is) refl in
     now ∙ sym (shows_it p h f a off len run known state there free)
 
 pub absent_is : (p : ℕ) (h : List Entry) (f : ℕ) (a : At) (off len : ℕ) → IsRun p h → setup_file h f ≡ true → is_state a ≡ true
-    → standing.Absent ≡ standing_of (stand h) (client_file_path h f) a → answers.NoSnap ≡ answer_show h f a off len
-absent_is p h f a off len run known state none = sym (show_is p h f a off len run known state ∙ ap (λ t. by_standing t (answer_there h f a off len)) (sym none))
+    → states.Absent ≡ shown_of (stand h) (client_file_path h f) a → answers.NoSnap ≡ answer_show h f a off len
+absent_is p h f a off len run known state none = sym (show_is p h f a off len run known state ∙ ap (λ t. by_shown t (answer_there h f a off len)) (sym none))
 
 pub gone_is : (p : ℕ) (h : List Entry) (f : ℕ) (a : At) (off len : ℕ) → IsRun p h → setup_file h f ≡ true → is_state a ≡ true
-    → standing.Gone ≡ standing_of (stand h) (client_file_path h f) a → answers.Gone ≡ answer_show h f a off len
-gone_is p h f a off len run known state gone = sym (show_is p h f a off len run known state ∙ ap (λ t. by_standing t (answer_there h f a off len)) (sym gone))
+    → states.Gone ≡ shown_of (stand h) (client_file_path h f) a → answers.Gone ≡ answer_show h f a off len
+gone_is p h f a off len run known state gone = sym (show_is p h f a off len run known state ∙ ap (λ t. by_shown t (answer_there h f a off len)) (sym gone))
 
--- it reads the store
-pub reads_store : (p : ℕ) (h : List Entry) (f : ℕ) (a : At) (off len : ℕ) → IsRun p h → setup_file h f ≡ true → is_state a ≡ true
-    → standing.There ≡ standing_of (stand h) (client_file_path h f) a → owed h f a ≡ false → calls_store (events.Show f a off len) (answer_show h f a off len) ≡ true
-reads_store p h f a off len run known state there free =
+-- it reads the store where some bytes are shown
+
+pub none_counted : (F : ℕ → ℕ) (off n : ℕ) → has_some (bytes_from F off n) ≡ false → n ≡ 0
+none_counted F off zero none = refl
+none_counted F off (suc n) none = absurd cc
+
+pub some_counted : (F : ℕ → ℕ) (off n : ℕ) → nat_lt 0 n ≡ true → has_some (bytes_from F off n) ≡ true
+some_counted F off zero some = absurd cc
+some_counted F off (suc n) some = refl
+
+pub calls_by_count : (p : ℕ) (h : List Entry) (f : ℕ) (a : At) (off len : ℕ) (meta : FileMeta) (count : ℕ) → IsRun p h → setup_file h f ≡ true → is_state a ≡ true
+    → states.There ≡ shown_of (stand h) (client_file_path h f) a → owed h f a ≡ false → meta ≡ meta_at f a (stand h) → count ≡ shown_count meta.size off len
+    → calls_store (events.Show f a off len) (answer_show h f a off len) ≡ has_some (bytes_from (images.image (writes_at a (writes h f))) off count)
+calls_by_count p h f a off len meta count run known state there free is counted =
     ap (λ y. calls_store (events.Show f a off len) y) (shows_it p h f a off len run known state there free)
+    ∙ ap (λ n. has_some (bytes_from (images.image (writes_at a (writes h f))) off n)) (sym (counted ∙ ap (λ m. shown_count m.size off len) is))
 
 -- What is asked of the store lies in the file
 
@@ -170,5 +181,5 @@ owes h s f a r t run has b is =
     owed_is s.pages h f a run (row_known h s f r t has) ∙ (ap (λ (q : FileState). inodes.owed (snapshot_of a) q.inode) (sym (row_is h s f r t has)) ∙ is)
 
 pub told_meta : (h : List Entry) (s : State) (f : ℕ) (a : At) (r : FileState) (meta : FileMeta) → Refines h s → IsRun s.pages h → get nat_cmp s.files f ≡ Some r
-    → meta ≡ last_told a r.told → meta ≡ meta_at f a (stand h)
-told_meta h s f a r meta t run has is = is ∙ (ap (λ (q : FileState). last_told a q.told) (row_is h s f r t has) ∙ last_told_is s.pages h run f a)
+    → meta ≡ last_recorded a r.recorded → meta ≡ meta_at f a (stand h)
+told_meta h s f a r meta t run has is = is ∙ (ap (λ (q : FileState). last_recorded a q.recorded) (row_is h s f r t has) ∙ last_recorded_is s.pages h run f a)

@@ -10,6 +10,7 @@ use Rattle.cs_laws.specs.declared.answers.Entry.{Entry}
 use Rattle.cs_laws.specs.declared.objects.ObjOp.{ObjOp}
 use Rattle.cs_laws.specs.Answers.{answer}
 use Rattle.cs_laws.specs.Operations.{brought, operations_drawn}
+use Rattle.cs_geom.specs.declared.places.TheConstants.{OBJECT_SIZE}
 
 -- the operations that an event brings after a history
 abbrev pub brings : ℕ → List Entry → Event → List ObjOp
@@ -24,7 +25,7 @@ pub record AppliesFront (ops old new : List ObjOp) : Type 0 where
 
 -- the operation's bytes lie within its object
 abbrev pub FitsObject : ObjOp → Type 0
-FitsObject o = o.off + length o.bytes ≤ 65536
+FitsObject o = o.off + length o.bytes ≤ OBJECT_SIZE
 
 -- the operations have numbers of their own, and none that the store has
 pub record AreNew (ops old : List ObjOp) : Type 0 where
@@ -39,5 +40,5 @@ has_some (b ∷ bs) = true
 abbrev pub calls_store : Event → Answer → Bool
 calls_store (events.Write caller name off bytes) answers.Wrote = true
 calls_store (events.Read caller name off len) (answers.Bytes bytes) = has_some bytes
-calls_store (events.Show f a off len) (answers.Size meta bytes) = true
+calls_store (events.Show f a off len) (answers.Size meta bytes) = has_some bytes
 calls_store _ _ = false

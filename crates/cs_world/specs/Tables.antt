@@ -23,7 +23,7 @@ use Rattle.cs_laws.specs.Operations.{operations_drawn}
 use Rattle.cs_refs.specs.Table.{begun_of, writers_of}
 use Rattle.cs_laws.specs.Runs.{IsRun}
 use Rattle.cs_theorems.specs.Queues.{snaps}
-use Rattle.cs_theorems.specs.Recorded.{told}
+use Rattle.cs_theorems.specs.Recorded.{recorded_meta}
 use Rattle.cs_theorems.specs.Unacked.{unacked}
 use Rattle.cs_world.specs.declared.state.State.{State}
 use Rattle.cs_world.specs.declared.state.FileState.{FileState}
@@ -45,11 +45,11 @@ inode h f = record {
 }
 
 abbrev pub row : List Entry → ℕ → FileState
-row h f = record { inode = inode h f; server = server h f; home = home h f; told = told h f }
+row h f = record { inode = inode h f; server = server h f; home = home h f; recorded = recorded_meta h f }
 
 -- the row of a file of which nothing was granted, and to which nothing was written
 abbrev pub new_row : ℕ → ℕ → Context → FileState
-new_row f d ctx = record { inode = new_inode f ctx; server = no_server_caps; home = d; told = [] }
+new_row f d ctx = record { inode = new_inode f ctx; server = no_server_caps; home = d; recorded = [] }
 
 -- what the table of files has at a file
 abbrev pub row_of : List Entry → ℕ → Option FileState

@@ -5,6 +5,7 @@
 mod client;
 mod contexts;
 mod objects;
+mod recorded;
 mod references;
 mod server;
 mod setup;
@@ -14,7 +15,6 @@ mod state;
 mod step;
 #[cfg(test)]
 mod tests;
-mod told;
 mod world;
 mod writes;
 

@@ -1,7 +1,7 @@
 // The object store's part in the events: it applies the operations of a write, and reads files.
-ghost use Rattle.std.specs.Prelude.{◌≡◌, ◌+◌, ◌≤◌, ◌∷◌, ◌++◌, false, length, reverse, All, IfOk, OnOk, OnErr, IsErrOf};
-ghost use Rattle.cs_ids.specs.Devices.{Rose};
+ghost use Rattle.std.specs.Prelude.{◌≡◌, ◌+◌, ◌≤◌, ◌∷◌, ◌++◌, true, false, nat_lt, length, reverse, All, IfOk, OnOk, OnErr, IsErrOf};
 ghost use Rattle.cs_laws.specs.Answers.{bytes_from};
+ghost use Rattle.cs_laws.specs.Devices.{FaultsOf};
 ghost use Rattle.cs_laws.specs.Objects.{object_byte};
 ghost use Rattle.cs_objstore.specs.Stores.{has_tid};
 ghost use Rattle.cs_world.specs.Shown.{file_byte};
@@ -19,8 +19,7 @@ pub fn apply_all<O: ObjStore>(store: &mut O, ops: &[ObjOp]) -> Result<(), StepFa
     requires fresh { AreNew ops.now (O.ops store.old) }
     ensures ok { OnOk result (O.ops store.new ≡ reverse ops.now ++ O.ops store.old) }
     ensures front { OnErr result (AppliesFront ops.now (O.ops store.old) (O.ops store.new)) }
-    ensures later { O.faults store.old ≤ O.faults store.new }
-    ensures cause { IsErrOf result StepFault.Store → Rose (O.faults store.old) (O.faults store.new) }
+    ensures faults { FaultsOf StepFault.Store true (O.faults store.old) (O.faults store.new) result }
     ensures unlogged { IsErrOf result StepFault.Log → ⊥ }
 {
     for op in ops {
@@ -35,8 +34,7 @@ fn apply<O: ObjStore>(store: &mut O, op: &ObjOp) -> Result<(), StepFault>
     requires fresh { has_tid op.now.tid (O.ops store.old) ≡ false }
     ensures ok { OnOk result (O.ops store.new ≡ op.now ∷ O.ops store.old) }
     ensures err { OnErr result (O.ops store.new ≡ O.ops store.old) }
-    ensures later { O.faults store.old ≤ O.faults store.new }
-    ensures cause { IsErrOf result StepFault.Store → Rose (O.faults store.old) (O.faults store.new) }
+    ensures faults { FaultsOf StepFault.Store true (O.faults store.old) (O.faults store.new) result }
     ensures unlogged { IsErrOf result StepFault.Log → ⊥ }
 {
     match store.apply(op) {
@@ -46,7 +44,8 @@ fn apply<O: ObjStore>(store: &mut O, op: &ObjOp) -> Result<(), StepFault>
     }
 }
 
-/// The file's bytes from a place on, as its objects have them.
+/// The file's bytes from a place on, as its objects have them: one call of the store for each object
+/// that they touch.
 pub fn read_file<O: ObjStore>(
     alloc: Global,
     store: &mut O,
@@ -59,11 +58,14 @@ pub fn read_file<O: ObjStore>(
     requires within { off + count ≤ 1048576 }
     ensures bytes { IfOk result (λ b. b ≡ bytes_from (file_byte at file (O.ops store.old)) off count) }
     ensures kept { O.ops store.new ≡ O.ops store.old }
-    ensures later { O.faults store.old ≤ O.faults store.new }
-    ensures cause { IsErrOf result StepFault.Store → Rose (O.faults store.old) (O.faults store.new) }
+    ensures quiet { count ≡ 0 → store.new ≡ store.old }
+    ensures faults { FaultsOf StepFault.Store (nat_lt 0 count) (O.faults store.old) (O.faults store.new) result }
     ensures unlogged { IsErrOf result StepFault.Log → ⊥ }
 {
     let mut bytes = Bytes::from_slice(alloc, &[])?;
+    if count == 0 {
+        return Ok(bytes);
+    }
     for piece in split_objects(u64::from(off), u64::from(count)) {
         let obj = Obj {
             ino: file,
@@ -87,8 +89,7 @@ fn read_part<O: ObjStore>(
     requires { off + count ≤ 65536 }
     ensures bytes { IfOk result (λ b. b.items ≡ bytes_from (object_byte at.now obj (O.ops store.old)) off count) }
     ensures kept { O.ops store.new ≡ O.ops store.old }
-    ensures later { O.faults store.old ≤ O.faults store.new }
-    ensures cause { IsErrOf result StepFault.Store → Rose (O.faults store.old) (O.faults store.new) }
+    ensures faults { FaultsOf StepFault.Store true (O.faults store.old) (O.faults store.new) result }
     ensures unlogged { IsErrOf result StepFault.Log → ⊥ }
 {
     let mut part = zeros(alloc, count)?;

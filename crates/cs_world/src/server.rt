@@ -145,7 +145,7 @@ fn receive_flush(
         unreachable!()
     };
     state.records.add_flush(snap, file, tid, follows, meta)?;
-    row.told.record(follows, meta)?;
+    row.recorded.record(follows, meta)?;
     let _ = state.to_server.pop_front();
     Ok(Answer::Flushed { file, tid })
 }

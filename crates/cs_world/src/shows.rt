@@ -1,16 +1,16 @@
 // What the store and the server's records hold of a file.
 ghost use Rattle.std.specs.Prelude.{◌≡◌, ℕ, ◌+◌, ◌==◌, ◌≤◌, ◌/◌, ◌%◌, true, false, length, IfOk, OnErr, IsErrOf};
 ghost use Rattle.std.specs.List.{list_any};
-ghost use Rattle.cs_ids.specs.Devices.{Rose};
 ghost use Rattle.cs_laws.specs.declared.events.Event.TheVariants as events;
 ghost use Rattle.cs_laws.specs.declared.answers.Answer.TheVariants as answers;
 ghost use Rattle.cs_laws.specs.Answers.{answer_show, bytes_from};
+ghost use Rattle.cs_laws.specs.Devices.{FaultsOf};
 ghost use Rattle.cs_laws.specs.Fits.{fits};
 ghost use Rattle.cs_tree.specs.Directories.{path_of};
 ghost use Rattle.cs_records.specs.Records.{all};
 ghost use Rattle.cs_laws.specs.Objects.{object_byte};
 ghost use Rattle.cs_laws.specs.Operations.{applied};
-ghost use Rattle.cs_world.specs.Shown.{shown_count, snapshot_of, standing_of};
+ghost use Rattle.cs_world.specs.Shown.{shown_count, shown_of, snapshot_of};
 ghost use Rattle.cs_world.specs.Storing.{calls_store};
 ghost use Rattle.cs_world.specs.Tables.{Steps, KeepsJournal, IsReady, past};
 
@@ -37,24 +37,22 @@ pub fn show<O: ObjStore>(
     requires listed { O.ops store.old ≡ applied (past state.old) }
     ensures ok { IfOk result (λ a. Steps state.old state.new (events.Show file at.now off len) a) }
     ensures listed { O.ops store.new ≡ O.ops store.old }
-    ensures quiet { IfOk result (λ a. calls_store (events.Show file at.now off len) a ≡ false → store.new ≡ store.old) }
+    ensures quiet { calls_store (events.Show file at.now off len) (answer_show (past state.old) file at.now off len) ≡ false → store.new ≡ store.old }
     ensures err { OnErr result (KeepsJournal state.old state.new) }
-    ensures called { OnErr result (calls_store (events.Show file at.now off len) (answer_show (past state.old) file at.now off len) ≡ true) }
-    ensures later { O.faults store.old ≤ O.faults store.new }
-    ensures cause { IsErrOf result StepFault.Store → Rose (O.faults store.old) (O.faults store.new) }
+    ensures faults { FaultsOf StepFault.Store (calls_store (events.Show file at.now off len) (answer_show (past state.old) file at.now off len)) (O.faults store.old) (O.faults store.new) result }
     ensures unlogged { IsErrOf result StepFault.Log → ⊥ }
 {
     let Some(row) = state.files.get(&file) else {
         return Ok(Answer::Unknown);
     };
-    match standing_of(&state.records, &state.directories, row.home, *at) {
-        Standing::Absent => Ok(Answer::NoSnap),
-        Standing::Gone => Ok(Answer::Gone),
-        Standing::There => {
+    match shown_of(&state.records, &state.directories, row.home, *at) {
+        Shown::Absent => Ok(Answer::NoSnap),
+        Shown::Gone => Ok(Answer::Gone),
+        Shown::There => {
             if row.inode.owed(snapshot_of(*at)) {
                 return Ok(Answer::Pending);
             }
-            let meta = row.told.at(*at);
+            let meta = row.recorded.at(*at);
             let count = shown_count(meta.size, off, len);
             let bytes = read_file(state.alloc, store, file, *at, off, count)?;
             Ok(Answer::Size { meta, bytes })
@@ -64,7 +62,7 @@ pub fn show<O: ObjStore>(
 
 // Whether the server has a state of a file.
 #[derive(Clone, Copy)]
-pub enum Standing {
+pub enum Shown {
     // The head, or a snapshot that covers the file.
     There,
     // No such snapshot, or none that covers the file.
@@ -74,21 +72,21 @@ pub enum Standing {
 }
 
 // Whether the server has a state of a file in a directory.
-fn standing_of(records: &Records, directories: &Directories, home: Ino, at: At) -> Standing
-    ensures { result ≡ standing_of (all records.now) (path_of directories.now home) at }
+fn shown_of(records: &Records, directories: &Directories, home: Ino, at: At) -> Shown
+    ensures { result ≡ shown_of (all records.now) (path_of directories.now home) at }
 {
     let At::Snap(snap) = at else {
-        return Standing::There;
+        return Shown::There;
     };
     let Some(dir) = records.snap_dir(snap) else {
-        return Standing::Absent;
+        return Shown::Absent;
     };
     if records.is_removed(snap) {
-        Standing::Gone
+        Shown::Gone
     } else if is_below(directories, home, dir) {
-        Standing::There
+        Shown::There
     } else {
-        Standing::Absent
+        Shown::Absent
     }
 }
 

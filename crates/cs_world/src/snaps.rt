@@ -1,26 +1,29 @@
 // Cap snaps and flushes: cap snaps are queued where a file's context changes, and what the client has of a
 // file is sent to the server.
-ghost use Rattle.std.specs.Prelude.{◌≡◌, ◌<◌, ◌≤◌, true, length, IfOk, OnOk, OnErr};
+ghost use Rattle.std.specs.Prelude.{◌≡◌, ◌+◌, ◌<◌, ◌≤◌, [], ◌∷◌, ◌++◌, true, length, IfOk, OnOk, OnErr};
 ghost use Rattle.std.specs.BTreeMap.{get};
 ghost use Rattle.std.specs.Ordering.{nat_cmp};
 ghost use Rattle.cs_laws.specs.declared.events.Event.TheVariants as events;
 ghost use Rattle.cs_theorems.specs.References.{IsEachOnce};
 ghost use Rattle.cs_laws.specs.Context.{differs};
+ghost use Rattle.cs_laws.specs.Flushes.{flush_message};
 ghost use Rattle.cs_snapctx.specs.Context.{empty_context};
 ghost use Rattle.cs_tree.specs.Directories.{path_of};
 ghost use Rattle.cs_world.specs.Changed.{Changes, ChangesAll, ContextsRise, RisesIn, changed_row, count_changed, needs_snap};
+ghost use Rattle.cs_world.specs.Sending.{flush_of};
 ghost use Rattle.cs_world.specs.Tables.{Steps, KeepsJournal, IsReady};
 
 use crate::contexts::home_context;
-use crate::state::{FileState, State, following};
-use cs_ids::{Ino, Memory};
+use crate::state::{FileState, State};
+use cs_flush::Sent;
+use cs_ids::{Ino, Memory, Tid};
 use cs_inode::{FlushStep, SnapStep};
 use cs_laws::{Answer, Message, Why};
 use cs_realms::Realms;
 use cs_snapctx::SnapContext;
 use cs_tree::Directories;
 use std::alloc::Global;
-use std::collections::BTreeMap;
+use std::collections::{BTreeMap, VecDeque};
 
 /// The client was told of realms: each of these files that has another context now, and has a writer or
 /// dirty metadata, gets a cap snap with the one before, unless one is writing. How many do.
@@ -88,17 +91,11 @@ pub fn flush(state: &mut State, file: Ino) -> Result<Answer, Memory>
     let Some(row) = state.files.get_mut(&file) else {
         return Ok(Answer::Unknown);
     };
-    match row.inode.flush(following(state.flushes))? {
+    match row.inode.flush(Tid::after(state.flushes))? {
         FlushStep::Snap => Ok(Answer::Again(Why::Snap)),
         FlushStep::Clean => Ok(Answer::Clean),
         FlushStep::Sent(sent) => {
-            state.to_server.push_back(Message::Flush {
-                file,
-                tid: sent.tid,
-                follows: sent.follows,
-                meta: sent.meta,
-            })?;
-            state.flushes += 1;
+            send(&mut state.to_server, &mut state.flushes, file, &sent, false)?;
             Ok(Answer::Flush { tid: sent.tid })
         }
     }
@@ -113,21 +110,48 @@ pub fn flush_snaps(state: &mut State, file: Ino) -> Result<Answer, Memory>
     let Some(row) = state.files.get_mut(&file) else {
         return Ok(Answer::Unknown);
     };
-    match row.inode.flush_snaps(following(state.flushes)) {
+    match row.inode.flush_snaps(Tid::after(state.flushes)) {
         SnapStep::None => Ok(Answer::NoneQueued),
         SnapStep::Writing => Ok(Answer::Writing),
         SnapStep::Sent(sent) => {
-            state.to_server.push_back(Message::FlushSnap {
-                file,
-                tid: sent.tid,
-                follows: sent.follows,
-                meta: sent.meta,
-            })?;
-            state.flushes += 1;
+            send(&mut state.to_server, &mut state.flushes, file, &sent, true)?;
             Ok(Answer::FlushSnap {
                 tid: sent.tid,
                 follows: sent.follows,
             })
         }
     }
+}
+
+// A flush goes to the server, and is counted; `snap` tells whether it is that of a cap snap.
+fn send(
+    to_server: &mut VecDeque<Message>,
+    flushes: &mut u64,
+    file: Ino,
+    sent: &Sent,
+    snap: bool,
+) -> Result<(), Memory>
+    requires { flushes.old < 99999 }
+    ensures message { OnOk result (to_server.new.items ≡ to_server.old.items ++ flush_message (flush_of file sent.now snap) ∷ []) }
+    ensures count { OnOk result (flushes.new ≡ flushes.old + 1) }
+{
+    let Sent { tid, follows, meta } = *sent;
+    let message = if snap {
+        Message::FlushSnap {
+            file,
+            tid,
+            follows,
+            meta,
+        }
+    } else {
+        Message::Flush {
+            file,
+            tid,
+            follows,
+            meta,
+        }
+    };
+    to_server.push_back(message)?;
+    *flushes += 1;
+    Ok(())
 }

@@ -1,12 +1,12 @@
 // The journal so far, and the tables that are kept beside it.
-ghost use Rattle.std.specs.Prelude.{◌≡◌, ◌+◌, ◌<◌, [], ◌∷◌, ◌++◌, OnOk, IfOk};
+ghost use Rattle.std.specs.Prelude.{◌≡◌, [], ◌∷◌, ◌++◌, OnOk, IfOk};
 ghost use Rattle.cs_laws.specs.Answers.{sent_cap};
 ghost use Rattle.cs_laws.specs.Flight.{cap_message};
 ghost use Rattle.cs_world.specs.Tables.{Refines, PutsRow, new_row};
 
-use crate::told::Told;
+use crate::recorded::Recorded;
 use cs_caps::Held;
-use cs_ids::{Ino, Memory, Tid};
+use cs_ids::{Ino, Memory};
 use cs_inode::Inode;
 use cs_laws::{Answer, Entry, Message};
 use cs_realms::Realms;
@@ -27,7 +27,7 @@ pub struct FileState {
     /// The directory in which it was made.
     pub home: Ino,
     /// Its flushes that the server recorded.
-    pub told: Told,
+    pub recorded: Recorded,
 }
 
 /// The entries of the journal, the oldest first, and what each event reads and writes of them.
@@ -94,7 +94,7 @@ pub fn add_file(
         inode: Inode::new(alloc, file, context),
         server: Held::new(),
         home,
-        told: Told::new(alloc),
+        recorded: Recorded::new(alloc),
     };
     files.insert(file, state)?;
     Ok(())
@@ -119,15 +119,4 @@ pub fn send_cap(
         seq: server.seq(),
         held: server.held(),
     })
-}
-
-/// The number of the next operation, or of the next flush, behind so many.
-pub fn following(count: u64) -> Tid
-    requires { count < 99998 }
-    ensures { result ≡ count + 1 }
-{
-    let Some(tid) = Tid::new(count + 1) else {
-        unreachable!()
-    };
-    tid
 }

@@ -1,8 +1,9 @@
 // One step: the answer to an event, and its entry.
 ghost use Rattle.std.specs.Prelude.{◌≡◌, ◌∷◌, [], ◌++◌, ◌<◌, ◌≤◌, true, false, IfOk, OnOk, OnErr, IsErrOf, vec_len, vec_capacity};
-ghost use Rattle.cs_ids.specs.Devices.{Rose};
 ghost use Rattle.cs_laws.specs.Answers.{answer};
+ghost use Rattle.cs_laws.specs.Devices.{FaultsOf};
 ghost use Rattle.cs_laws.specs.Fits.{fits};
+ghost use Rattle.cs_laws.specs.Runs.{CanFollow};
 ghost use Rattle.cs_laws.specs.Journal.{entry};
 ghost use Rattle.cs_laws.specs.Operations.{applied};
 ghost use Rattle.cs_world.specs.Storing.{AppliesFront, brings, calls_store};
@@ -31,12 +32,10 @@ pub fn answer<O: ObjStore>(
     requires listed { O.ops store.old ≡ applied (past state.old) }
     ensures ok { IfOk result (λ a. Steps state.old state.new event.now a) }
     ensures listed { IfOk result (λ a. O.ops store.new ≡ applied (record { event = event.now; answer = a } ∷ past state.old)) }
-    ensures quiet { IfOk result (λ a. calls_store event.now a ≡ false → store.new ≡ store.old) }
+    ensures quiet { calls_store event.now (answer state.old.pages (past state.old) event.now) ≡ false → store.new ≡ store.old }
     ensures err { OnErr result (KeepsJournal state.old state.new) }
     ensures front { OnErr result (AppliesFront (brings state.old.pages (past state.old) event.now) (O.ops store.old) (O.ops store.new)) }
-    ensures later { O.faults store.old ≤ O.faults store.new }
-    ensures cause { IsErrOf result StepFault.Store → Rose (O.faults store.old) (O.faults store.new) }
-    ensures called { IsErrOf result StepFault.Store → calls_store event.now (answer state.old.pages (past state.old) event.now) ≡ true }
+    ensures faults { FaultsOf StepFault.Store (calls_store event.now (answer state.old.pages (past state.old) event.now)) (O.faults store.old) (O.faults store.new) result }
     ensures unlogged { IsErrOf result StepFault.Log → ⊥ }
 {
     // The proof of a move of an event needs the type of a reference's name named, here and below.
@@ -108,19 +107,17 @@ pub fn step<O: ObjStore>(
     event: &Event,
 ) -> Result<Answer, StepFault>
     requires ready { IsReady state.old }
-    requires fits { fits event.now ≡ true }
+    requires allowed { CanFollow (past state.old) event.now }
     requires listed { O.ops store.old ≡ applied (past state.old) }
     ensures answer { IfOk result (λ a. a ≡ answer state.old.pages (past state.old) event.now) }
     ensures history { OnOk result (past state.new ≡ entry state.old.pages (past state.old) event.now ∷ past state.old) }
     ensures kept { OnOk result (IsKept state.new) }
     ensures listed { OnOk result (O.ops store.new ≡ applied (past state.new)) }
-    ensures quiet { IfOk result (λ a. calls_store event.now a ≡ false → store.new ≡ store.old) }
+    ensures quiet { calls_store event.now (answer state.old.pages (past state.old) event.now) ≡ false → store.new ≡ store.old }
     ensures pages { state.new.pages ≡ state.old.pages }
     ensures err { OnErr result (past state.new ≡ past state.old) }
     ensures front { OnErr result (AppliesFront (brings state.old.pages (past state.old) event.now) (O.ops store.old) (O.ops store.new)) }
-    ensures later { O.faults store.old ≤ O.faults store.new }
-    ensures cause { IsErrOf result StepFault.Store → Rose (O.faults store.old) (O.faults store.new) }
-    ensures called { IsErrOf result StepFault.Store → calls_store event.now (answer state.old.pages (past state.old) event.now) ≡ true }
+    ensures faults { FaultsOf StepFault.Store (calls_store event.now (answer state.old.pages (past state.old) event.now)) (O.faults store.old) (O.faults store.new) result }
     ensures unlogged { IsErrOf result StepFault.Log → ⊥ }
 {
     let _told: Option<RefName> = None;

@@ -1,12 +1,14 @@
 // The world, as the layer above sees it.
-ghost use Rattle.std.specs.Prelude.{◌≡◌, ◌<◌, ◌≤◌, [], ◌∷◌, true, false, reverse, length, IfOk, OnOk, IfErr, OnErr, IsErrOf};
-ghost use Rattle.cs_ids.specs.Devices.{Rose};
+ghost use Rattle.std.specs.Prelude.{◌≡◌, ◌<◌, [], ◌∷◌, true, false, reverse, length, IfOk, OnOk, IfErr, OnErr, IsErrOf};
 ghost use Rattle.cs_laws.specs.Agreement.{Agrees};
 ghost use Rattle.cs_laws.specs.Answers.{answer};
+ghost use Rattle.cs_laws.specs.Devices.{FaultsOf};
+ghost use Rattle.cs_laws.specs.Events.{is_setup};
 ghost use Rattle.cs_laws.specs.Fits.{fits};
 ghost use Rattle.cs_laws.specs.Journal.{entry};
 ghost use Rattle.cs_laws.specs.Operations.{applied};
 ghost use Rattle.cs_laws.specs.Refusals.{is_refusal};
+ghost use Rattle.cs_laws.specs.Runs.{all_setup};
 ghost use Rattle.cs_theorems.specs.Refusals.{IsAsBefore};
 ghost use Rattle.cs_world.specs.Storing.{AppliesFront, brings, calls_store};
 
@@ -51,11 +53,10 @@ impl<O: ObjStore, L> Model for World<O, L> {
 }
 
 impl<O: ObjStore, L> World<O, L> {
-    /// A world before its first event, in which 1 to 1,024 pages may be cached, over a store to which
-    /// nothing was applied.
+    /// A world before its first event, in which so many pages may be cached, over a store to which
+    /// nothing was applied. The fault is want of memory.
     pub fn make(alloc: Global, pages: u32, store: O, log: L) -> Result<World<O, L>, MakeFault<O, L>>
-        requires pages { (1 ≤ pages) × (pages ≤ 1024) }
-        requires empty { O.ops store ≡ [] }
+        requires { O.ops store ≡ [] }
         ensures ok { IfOk result (λ w. w ≡ record { pages = pages; history = []; live = true; store = store; log = log }) }
         ensures err { IfErr result (λ f. f ≡ record { store = store; log = log }) }
     {
@@ -70,32 +71,48 @@ impl<O: ObjStore, L> World<O, L> {
         }
     }
 
-    /// Does one event, and enters it with its answer. A line of a script has to spell the event. The
-    /// store then has the operations that the journal implies, and agrees with the journal: each file,
-    /// at present and at each snapshot that isn't owed, reads back as exactly the writes of before. It
-    /// is called only at a write that is answered `wrote`, at a read that is answered by some bytes, and
-    /// at a `show` that is answered `size`.
+    /// Does one event, and enters it with its answer. A line of a script has to spell the event, and a
+    /// line that makes a directory or a file has to come before all other events. The store then has the
+    /// operations that the journal implies, and agrees with the journal: each file, at each state where
+    /// it isn't pending, at present and at each snapshot that stands, reads back as exactly the writes
+    /// that belong to that state. It is called only at a write that is answered `wrote`, and at a read or
+    /// a `show` that is answered by some bytes.
     ///
     /// `Store` comes only where the store's count of faults rose in this step, and only where it is
-    /// called; `Log` never comes. After a fault the history and the log are
-    /// as before, the store has a front of the event's operations behind those before, and the world
-    /// is no longer live. The room for the entry is taken first, so that a refused event meets
-    /// `Memory` only there.
+    /// called; `Log` never comes. After a fault the history and the log are as before, the store has a
+    /// front of the event's operations behind those before, and the world is no longer live. The room for
+    /// the entry is taken first.
     pub fn step(&mut self, event: &Event) -> Result<Answer, StepFault>
         requires live { self.old.live ≡ true }
         requires room { length self.old.history < 10000 }
         requires fits { fits event.now ≡ true }
+        requires setup { is_setup event.now ≡ true → all_setup self.old.history ≡ true }
+
+        // What is answered and entered, and how the store agrees with it.
         ensures answer { IfOk result (λ a. a ≡ answer self.old.pages self.old.history event.now) }
-        ensures history { OnOk result (self.new ≡ record self.old { history = entry self.old.pages self.old.history event.now ∷ self.old.history; store = self.new.store }) }
-        ensures listed { OnOk result (O.ops self.new.store ≡ applied self.new.history) }
+        ensures history {
+            OnOk result (self.new ≡ record self.old {
+                history = entry self.old.pages self.old.history event.now ∷ self.old.history;
+                store = self.new.store
+            })
+        }
         ensures agrees { OnOk result (Agrees (O.ops self.new.store) self.new.history) }
-        ensures quiet { IfOk result (λ a. calls_store event.now a ≡ false → self.new.store ≡ self.old.store) }
         ensures refused { IfOk result (λ a. is_refusal event.now a ≡ true → IsAsBefore self.old.history self.new.history) }
+
+        // What a fault leaves.
         ensures err { OnErr result (self.new ≡ record self.old { live = false; store = self.new.store }) }
-        ensures front { OnErr result (AppliesFront (brings self.old.pages self.old.history event.now) (applied self.old.history) (O.ops self.new.store)) }
-        ensures later { O.faults self.old.store ≤ O.faults self.new.store }
-        ensures cause { IsErrOf result StepFault.Store → Rose (O.faults self.old.store) (O.faults self.new.store) }
-        ensures called { IsErrOf result StepFault.Store → calls_store event.now (answer self.old.pages self.old.history event.now) ≡ true }
+        ensures front {
+            OnErr result (AppliesFront (brings self.old.pages self.old.history event.now) (applied self.old.history) (O.ops self.new.store))
+        }
+
+        // When the devices are called, and why they fail.
+        ensures quiet {
+            calls_store event.now (answer self.old.pages self.old.history event.now) ≡ false → self.new.store ≡ self.old.store
+        }
+        ensures faults {
+            FaultsOf StepFault.Store (calls_store event.now (answer self.old.pages self.old.history event.now))
+                (O.faults self.old.store) (O.faults self.new.store) result
+        }
         ensures unlogged { IsErrOf result StepFault.Log → ⊥ }
     {
         self.is_live = false;

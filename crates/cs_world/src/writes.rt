@@ -1,10 +1,10 @@
 // The callers' writes and reads.
 ghost use Rattle.std.specs.Prelude.{◌≡◌, ◌+◌, ◌-◌, ◌≤◌, ◌∷◌, ◌++◌, true, false, length, min, take, IfOk, OnErr, IsErrOf};
-ghost use Rattle.cs_ids.specs.Devices.{Rose};
 ghost use Rattle.cs_laws.specs.declared.events.Event.TheVariants as events;
 ghost use Rattle.cs_laws.specs.declared.answers.Answer.TheVariants as answers;
 ghost use Rattle.cs_laws.specs.declared.objects.At.TheVariants as at;
 ghost use Rattle.cs_laws.specs.Answers.{answer_read, answer_write, bytes_from};
+ghost use Rattle.cs_laws.specs.Devices.{FaultsOf};
 ghost use Rattle.cs_laws.specs.Fits.{greatest_end, is_shown, is_write};
 ghost use Rattle.cs_laws.specs.Operations.{brought, applied, operations_drawn};
 ghost use Rattle.cs_world.specs.Shown.{file_byte};
@@ -14,9 +14,9 @@ ghost use Rattle.cs_world.specs.Tables.{Steps, KeepsJournal, IsReady, past};
 use crate::objects::{apply_all, read_file, zeros};
 use crate::references::find;
 use crate::shows::shown_count;
-use crate::state::{State, following};
+use crate::state::State;
 use cs_bits::Caps;
-use cs_ids::{Bytes, Caller, Ino};
+use cs_ids::{Bytes, Caller, Ino, Tid};
 use cs_inode::WriteStep;
 use cs_laws::{Answer, At, RefName, StepFault};
 use cs_objstore::ObjStore;
@@ -37,12 +37,11 @@ pub fn write<O: ObjStore>(
     requires listed { O.ops store.old ≡ applied (past state.old) }
     ensures ok { IfOk result (λ a. Steps state.old state.new (events.Write caller name off bytes.now) a) }
     ensures listed { IfOk result (λ a. O.ops store.new ≡ applied (record { event = events.Write caller name off bytes.now; answer = a } ∷ past state.old)) }
-    ensures quiet { IfOk result (λ a. calls_store (events.Write caller name off bytes.now) a ≡ false → store.new ≡ store.old) }
+    ensures quiet { calls_store (events.Write caller name off bytes.now) (answer_write (past state.old) caller name off bytes.now) ≡ false → store.new ≡ store.old }
     ensures err { OnErr result (KeepsJournal state.old state.new) }
     ensures written { OnErr result (answer_write (past state.old) caller name off bytes.now ≡ answers.Wrote) }
     ensures front { OnErr result (AppliesFront (brought (events.Write caller name off bytes.now) answers.Wrote (past state.old) (operations_drawn (past state.old))) (O.ops store.old) (O.ops store.new)) }
-    ensures later { O.faults store.old ≤ O.faults store.new }
-    ensures cause { IsErrOf result StepFault.Store → Rose (O.faults store.old) (O.faults store.new) }
+    ensures faults { FaultsOf StepFault.Store (calls_store (events.Write caller name off bytes.now) (answer_write (past state.old) caller name off bytes.now)) (O.faults store.old) (O.faults store.new) result }
     ensures unlogged { IsErrOf result StepFault.Log → ⊥ }
 {
     let Some(live) = find(&state.refs, caller, name) else {
@@ -55,7 +54,7 @@ pub fn write<O: ObjStore>(
     if live.end < end {
         return Ok(Answer::Past);
     }
-    let tid = following(state.operations);
+    let tid = Tid::after(state.operations);
     let Some(row) = state.files.get_mut(&live.file) else {
         unreachable!()
     };
@@ -81,11 +80,9 @@ pub fn read<O: ObjStore>(
     requires listed { O.ops store.old ≡ applied (past state.old) }
     ensures ok { IfOk result (λ a. Steps state.old state.new (events.Read caller name off len) a) }
     ensures listed { O.ops store.new ≡ O.ops store.old }
-    ensures quiet { IfOk result (λ a. calls_store (events.Read caller name off len) a ≡ false → store.new ≡ store.old) }
+    ensures quiet { calls_store (events.Read caller name off len) (answer_read (past state.old) caller name off len) ≡ false → store.new ≡ store.old }
     ensures err { OnErr result (KeepsJournal state.old state.new) }
-    ensures called { IsErrOf result StepFault.Store → calls_store (events.Read caller name off len) (answer_read (past state.old) caller name off len) ≡ true }
-    ensures later { O.faults store.old ≤ O.faults store.new }
-    ensures cause { IsErrOf result StepFault.Store → Rose (O.faults store.old) (O.faults store.new) }
+    ensures faults { FaultsOf StepFault.Store (calls_store (events.Read caller name off len) (answer_read (past state.old) caller name off len)) (O.faults store.old) (O.faults store.new) result }
     ensures unlogged { IsErrOf result StepFault.Log → ⊥ }
 {
     let Some(live) = find(&state.refs, caller, name) else {
@@ -122,8 +119,7 @@ fn read_base<O: ObjStore>(
     ensures length { IfOk result (λ b. length b ≡ min len (greatest_end - off)) }
     ensures front { IfOk result (λ b. take count b ≡ bytes_from (file_byte at.Head file (O.ops store.old)) off count) }
     ensures kept { O.ops store.new ≡ O.ops store.old }
-    ensures later { O.faults store.old ≤ O.faults store.new }
-    ensures cause { IsErrOf result StepFault.Store → Rose (O.faults store.old) (O.faults store.new) }
+    ensures faults { FaultsOf StepFault.Store true (O.faults store.old) (O.faults store.new) result }
     ensures unlogged { IsErrOf result StepFault.Log → ⊥ }
 {
     let mut base = read_file(alloc, store, file, At::Head, off, count)?;

@@ -8,4 +8,4 @@ pub unreachable-requires : goal.unreachable-requires
 unreachable-requires c =
     let s = c.args.state.now in
     let ready = c.requires.ready in
-    never_absent (past s) s c.args.file ready.tables (first_told s.pages (past s) (messages.FlushAck c.args.file c.args.tid) ready.run c.requires.first) (sym c.in_default.ensures.value)
+    never_absent (past s) s c.args.file ready.tables (first_told s.pages (past s) (messages.FlushAck c.args.file c.args.tid) ready.run c.requires.first).1 (sym c.in_default.ensures.value)

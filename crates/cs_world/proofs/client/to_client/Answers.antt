@@ -1,5 +1,7 @@
-use Rattle.std.proofs.Common.{◌∙◌, sym, ap, subst, ⊎_elim}
+use Rattle.std.proofs.Common.{◌∙◌, sym, ap, subst, ⊎_elim, ◌≡◌, true, false}
 use Rattle.cs_snapctx.specs.Records.{with_records}
+use Rattle.cs_laws.specs.Carried.{is_for_client}
+use Rattle.std.proofs.lemmas.Bool.{false≢true}
 use Rattle.cs_theorems.specs.Realms.{ParentsAreKnown}
 use Rattle.cs_laws.specs.declared.messages.Message.TheVariants as messages
 use Rattle.cs_laws.specs.History.{to_client}
@@ -43,6 +45,6 @@ unreachable-requires c =
     front_is c.in-Some.message.now s.to_client.items (to_client (past s)) c.in-Some.ensures.item.3.0 c.in-Some.ensures.lookup c.requires.tables.sent_to_client in
     let told = first_told s.pages (past s) c.in-Some.message.now c.requires.run first in
     ⊎_elim
-    (λ ack. subst (λ m. IsToldClient (past s) m) ack.3 told)
-    (λ rest. ⊎_elim (λ flush. subst (λ m. IsToldClient (past s) m) flush.4 told) (λ snap. subst (λ m. IsToldClient (past s) m) snap.4 told) rest)
+    (λ ack. false≢true (subst (λ m. is_for_client m ≡ true) ack.3 told.0))
+    (λ rest. ⊎_elim (λ flush. false≢true (subst (λ m. is_for_client m ≡ true) flush.4 told.0)) (λ snap. false≢true (subst (λ m. is_for_client m ≡ true) snap.4 told.0)) rest)
     c.in-CapAck.is

@@ -19,5 +19,5 @@ loop-op-preserved g c = record {
   applied =
       one_more c.args.ops.now (g.O.ObjStore.ops c.args.store.now) (g.O.ObjStore.ops c.loop-op.store) (g.O.ObjStore.ops c.apply.new.store)
       c.loop-op.op-index c.op-item.result c.loop-op-test.true c.op-item.is c.loop-op.invariant.applied c.in_ok-apply.ensures.ok;
-  later = omega (arith, c.loop-op.invariant.later, c.in_ok-apply.ensures.later);
+  later = omega (arith, c.loop-op.invariant.later, c.in_ok-apply.ensures.faults.later);
 }

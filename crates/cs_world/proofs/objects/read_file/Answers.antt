@@ -46,5 +46,5 @@ loop-piece-preserved g c =
       left = rw long (left_next c.args.off c.args.count got p c.next.new.self left);
       bytes = rw long bytes;
       kept = c.in_ok-part.ensures.kept ∙ i.kept;
-      later = omega (arith, i.later, c.in_ok-part.ensures.later);
+      later = omega (arith, i.later, c.in_ok-part.ensures.faults.later);
     }

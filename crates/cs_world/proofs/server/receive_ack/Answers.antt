@@ -9,4 +9,4 @@ unreachable-requires c =
     let s = c.args.state.now in
     let ready = c.requires.ready in
     never_absent (past s) s c.args.file ready.tables
-    (first_received s.pages (past s) (messages.CapAck c.args.file c.args.seq c.args.bits) ready.run c.requires.first) (sym c.in_default.ensures.value)
+    (first_received s.pages (past s) (messages.CapAck c.args.file c.args.seq c.args.bits) ready.run c.requires.first).1 (sym c.in_default.ensures.value)

@@ -27,8 +27,8 @@ returns-clause-ok c =
     let r = c.in-Some.row.now in
     let has = sym c.in-Some.ensures.value in
     let is : r ≡ row h a.file = row_is h s a.file r t has in
-    let new : Files = c.get_mut.follows.lender (record r { told = c.«record».new.self }) in
-    let put : PutsRow s.files new a.file (record r { told = c.«record».new.self }) = λ g. search rules in
+    let new : Files = c.get_mut.follows.lender (record r { recorded = c.«record».new.self }) in
+    let put : PutsRow s.files new a.file (record r { recorded = c.«record».new.self }) = λ g. search rules in
     record {
       answer = received_is h x c.requires.first;
       entries = refl;

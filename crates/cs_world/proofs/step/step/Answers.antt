@@ -19,7 +19,7 @@ returns-clause-kept g c =
           rw step.pages
           (after_run c.args.state.now.pages c.enter.new.entries.items c.reserve.new.entries.items c.args.event.now c.in_ok-entered.entered
           c.in_ok-answer.answer c.in_ok-told.told (rw entries at c.enter.ensures) c.in_ok-entered.ensures c.in_ok-told.ensures
-          c.requires.fits step.answer before);
+          (rw c.reserve.ensures.entries c.requires.allowed) step.answer before);
     }
 
 pub returns-in_err-told-clause-front : goal.returns-in_err-told-clause-front

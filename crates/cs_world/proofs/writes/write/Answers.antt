@@ -10,8 +10,8 @@ use Rattle.cs_world.proofs.Fronts.{any_err}
 use Rattle.cs_world.proofs.Written.{brought_is, file_there, fitting, new_numbers, operations_on, written_refines, wrote_is}
 use Rattle.cs_world.proofs.writes.write.Goals as goal
 
-pub following-tid-requires : goal.following-tid-requires
-following-tid-requires g c =
+pub after-tid-requires : goal.after-tid-requires
+after-tid-requires g c =
     let s = c.args.state.now in
     let ready = c.requires.ready in
     omega (arith, ready.tables.operations, few_drawn s.pages (past s) ready.run, ready.room, length-reverse s.entries.items)
@@ -29,20 +29,20 @@ pub write-requires-clause-number : goal.write-requires-clause-number
 write-requires-clause-number g c =
     let s = c.args.state.now in
     let ready = c.requires.ready in
-    omega (arith, c.following-tid.ensures, ready.tables.operations, few_drawn s.pages (past s) ready.run, ready.room, length-reverse s.entries.items)
+    omega (arith, c.after-tid.ensures, ready.tables.operations, few_drawn s.pages (past s) ready.run, ready.room, length-reverse s.entries.items)
 
 pub apply_all-requires-clause-fits : goal.apply_all-requires-clause-fits
 apply_all-requires-clause-fits g c κs within =
     let i = c.in-Some-get_mut.row.now.inode in
-    let ops : c.as_slice-3.result.now ≡ write_operations c.following-tid.result c.args.off c.as_slice-2.result.now i = cc (c.in_ok-ops.ensures.operations) in
-    rw ops (fitting c.following-tid.result c.args.off c.as_slice-2.result.now i)
+    let ops : c.as_slice-3.result.now ≡ write_operations c.after-tid.result c.args.off c.as_slice-2.result.now i = cc (c.in_ok-ops.ensures.operations) in
+    rw ops (fitting c.after-tid.result c.args.off c.as_slice-2.result.now i)
 
 pub apply_all-requires-clause-fresh : goal.apply_all-requires-clause-fresh
 apply_all-requires-clause-fresh g c κs within =
     let s = c.args.state.now in
     let i = c.in-Some-get_mut.row.now.inode in
-    let ops : c.as_slice-3.result.now ≡ write_operations c.following-tid.result c.args.off c.as_slice-2.result.now i = cc (c.in_ok-ops.ensures.operations) in
-    rw (ops, c.following-tid.ensures)
+    let ops : c.as_slice-3.result.now ≡ write_operations c.after-tid.result c.args.off c.as_slice-2.result.now i = cc (c.in_ok-ops.ensures.operations) in
+    rw (ops, c.after-tid.ensures)
     (new_numbers (past s) s.operations c.args.off c.as_slice-2.result.now i (g.O.ObjStore.ops c.args.store.now) c.requires.ready.tables.operations c.requires.listed)
 
 pub returns-in_err-apply_all-clause-front : goal.returns-in_err-apply_all-clause-front
@@ -51,9 +51,9 @@ returns-in_err-apply_all-clause-front g c =
     let x = c.in-Some-get_mut.row.now in
     let found : named c.args.caller c.args.name s.refs.live ≡ Some c.in-Some.live = sym c.find.ensures ∙ c.in-Some.is in
     let may : may_write c.in-Some.live.bits ≡ true = sym c.has_write.ensures ∙ c.if-not-has_write.false in
-    let ops : c.as_slice-3.result.now ≡ write_operations c.following-tid.result c.args.off c.as_slice-2.result.now x.inode = cc (c.in_ok-ops.ensures.operations) in
+    let ops : c.as_slice-3.result.now ≡ write_operations c.after-tid.result c.args.off c.as_slice-2.result.now x.inode = cc (c.in_ok-ops.ensures.operations) in
     let same : c.as_slice-3.result.now ≡ operations_on (past s) c.args.caller c.args.name c.args.off c.args.bytes.now =
-    rw (c.following-tid.ensures, c.as_slice-2.ensures) at ops
+    rw (c.after-tid.ensures, c.as_slice-2.ensures) at ops
     ∙ brought_is (past s) s c.args.caller c.args.name c.args.off c.args.bytes.now c.in-Some.live x c.requires.ready.tables c.requires.ready.run found may
     (sym c.in-Some-get_mut.ensures.value) in
     any_err c.from_residual-in_err-apply_all.result (rw same at c.in_err-apply_all.ensures.front)
@@ -67,9 +67,9 @@ returns-clause-ok g c =
     let found : named c.args.caller c.args.name s.refs.live ≡ Some c.in-Some.live = sym c.find.ensures ∙ c.in-Some.is in
     let may : may_write c.in-Some.live.bits ≡ true = sym c.has_write.ensures ∙ c.if-not-has_write.false in
     let within : c.args.off + length c.args.bytes.now ≤ c.in-Some.live.end = rw c.as_slice.ensures at c.if-live-end.false in
-    let ops : c.as_slice-3.result.now ≡ write_operations c.following-tid.result c.args.off c.as_slice-2.result.now x.inode = cc (c.in_ok-ops.ensures.operations) in
+    let ops : c.as_slice-3.result.now ≡ write_operations c.after-tid.result c.args.off c.as_slice-2.result.now x.inode = cc (c.in_ok-ops.ensures.operations) in
     let same : c.as_slice-3.result.now ≡ operations_on (past s) c.args.caller c.args.name c.args.off c.args.bytes.now =
-    rw (c.following-tid.ensures, c.as_slice-2.ensures) at ops
+    rw (c.after-tid.ensures, c.as_slice-2.ensures) at ops
     ∙ brought_is (past s) s c.args.caller c.args.name c.args.off c.args.bytes.now c.in-Some.live x ready.tables ready.run found may has in
     let counted : c.len.result ≡ length (operations_on (past s) c.args.caller c.args.name c.args.off c.args.bytes.now) =
     c.len.ensures ∙ ap length (sym c.as_slice-3.ensures ∙ same) in
@@ -91,9 +91,9 @@ returns-clause-listed g c =
     let x = c.in-Some-get_mut.row.now in
     let found : named c.args.caller c.args.name s.refs.live ≡ Some c.in-Some.live = sym c.find.ensures ∙ c.in-Some.is in
     let may : may_write c.in-Some.live.bits ≡ true = sym c.has_write.ensures ∙ c.if-not-has_write.false in
-    let ops : c.as_slice-3.result.now ≡ write_operations c.following-tid.result c.args.off c.as_slice-2.result.now x.inode = cc (c.in_ok-ops.ensures.operations) in
+    let ops : c.as_slice-3.result.now ≡ write_operations c.after-tid.result c.args.off c.as_slice-2.result.now x.inode = cc (c.in_ok-ops.ensures.operations) in
     let same : c.as_slice-3.result.now ≡ operations_on (past s) c.args.caller c.args.name c.args.off c.args.bytes.now =
-    rw (c.following-tid.ensures, c.as_slice-2.ensures) at ops
+    rw (c.after-tid.ensures, c.as_slice-2.ensures) at ops
     ∙ brought_is (past s) s c.args.caller c.args.name c.args.off c.args.bytes.now c.in-Some.live x c.requires.ready.tables c.requires.ready.run found may
     (sym c.in-Some-get_mut.ensures.value) in
     rw (c.in_ok-apply_all.ensures.ok, same, c.requires.listed) refl

@@ -1,5 +1,5 @@
 use Rattle.cs_laws.specs.Journal.{entry}
-use Rattle.cs_theorems.proofs.Kept.{as_before}
+use Rattle.cs_theorems.proofs.Refused.{as_before}
 use Rattle.cs_world.specs.Tables.{past}
 use Rattle.cs_world.proofs.Fronts.{agrees_of}
 use Rattle.cs_world.specs.Tables.{past}

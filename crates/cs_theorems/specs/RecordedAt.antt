@@ -15,5 +15,5 @@ abbrev pub last_before : At → List (ℕ × FileMeta) → Option FileMeta
 last_before a [] = None
 last_before a (x ∷ xs) = last_of (last_before a xs) (is_before a x.0) x.1
 
-abbrev pub last_told : At → List (ℕ × FileMeta) → FileMeta
-last_told a xs = unwrap_or (last_before a xs) no_meta
+abbrev pub last_recorded : At → List (ℕ × FileMeta) → FileMeta
+last_recorded a xs = unwrap_or (last_before a xs) no_meta

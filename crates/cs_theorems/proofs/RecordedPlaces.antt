@@ -4,8 +4,8 @@ use Rattle.std.specs.List.{insert}
 use Rattle.std.proofs.lemmas.Bool.{cond-false, cond-true, eq-eqb, le-ltb, lt-ltb, ne_eqb}
 use Rattle.std.proofs.Math.ListN.{set}
 use Rattle.cs_ids.specs.declared.objects.FileMeta.{FileMeta}
-use Rattle.cs_theorems.specs.Recorded.{AreRising, with_told}
-use Rattle.cs_theorems.proofs.Told.{Rises, are_rising, rises_with}
+use Rattle.cs_theorems.specs.Recorded.{AreRising, with_recorded}
+use Rattle.cs_theorems.proofs.RecordedSteps.{Rises, are_rising, rises_with}
 
 -- The order is kept
 
@@ -18,8 +18,8 @@ rises_of n (x ∷ xs) low rising = (
       (λ i j d less within. rising (suc i) (suc j) d (omega arith) (omega arith)),
 )
 
-pub rising_with : (x : ℕ × FileMeta) (xs : List (ℕ × FileMeta)) → AreRising xs → AreRising (with_told x xs)
-rising_with x xs rising = are_rising 0 (with_told x xs) (rises_with 0 x xs (omega arith) (rises_of 0 xs (λ k d within. omega arith) rising))
+pub rising_with : (x : ℕ × FileMeta) (xs : List (ℕ × FileMeta)) → AreRising xs → AreRising (with_recorded x xs)
+rising_with x xs rising = are_rising 0 (with_recorded x xs) (rises_with 0 x xs (omega arith) (rises_of 0 xs (λ k d within. omega arith) rising))
 
 -- The place
 
@@ -30,15 +30,15 @@ pub record IsPlace (s : ℕ) (xs : List (ℕ × FileMeta)) (k : ℕ) : Type 0 wh
   pub greater : (j : ℕ) (d : ℕ × FileMeta) → k ≤ j → j < length xs → s < (get_or xs j d).0
 
 -- a smaller number stands in front
-with_behind : (x y : ℕ × FileMeta) (ys : List (ℕ × FileMeta)) → y.0 < x.0 → with_told x (y ∷ ys) ≡ y ∷ with_told x ys
-with_behind x y ys less = cond-true (nat_lt y.0 x.0) (y ∷ with_told x ys) (cond (y.0 == x.0) (x ∷ ys) (x ∷ y ∷ ys)) (lt-ltb y.0 x.0 less)
+with_behind : (x y : ℕ × FileMeta) (ys : List (ℕ × FileMeta)) → y.0 < x.0 → with_recorded x (y ∷ ys) ≡ y ∷ with_recorded x ys
+with_behind x y ys less = cond-true (nat_lt y.0 x.0) (y ∷ with_recorded x ys) (cond (y.0 == x.0) (x ∷ ys) (x ∷ y ∷ ys)) (lt-ltb y.0 x.0 less)
 
-not_behind : (x y : ℕ × FileMeta) (ys : List (ℕ × FileMeta)) → x.0 ≤ y.0 → with_told x (y ∷ ys) ≡ cond (y.0 == x.0) (x ∷ ys) (x ∷ y ∷ ys)
-not_behind x y ys high = cond-false (nat_lt y.0 x.0) (y ∷ with_told x ys) (cond (y.0 == x.0) (x ∷ ys) (x ∷ y ∷ ys)) (le-ltb y.0 x.0 high)
+not_behind : (x y : ℕ × FileMeta) (ys : List (ℕ × FileMeta)) → x.0 ≤ y.0 → with_recorded x (y ∷ ys) ≡ cond (y.0 == x.0) (x ∷ ys) (x ∷ y ∷ ys)
+not_behind x y ys high = cond-false (nat_lt y.0 x.0) (y ∷ with_recorded x ys) (cond (y.0 == x.0) (x ∷ ys) (x ∷ y ∷ ys)) (le-ltb y.0 x.0 high)
 
 -- the number stands there already
 pub with_set : (x : ℕ × FileMeta) (xs : List (ℕ × FileMeta)) (k : ℕ) (d : ℕ × FileMeta) → AreRising xs → k < length xs → (get_or xs k d).0 ≡ x.0
-    → set xs k x ≡ with_told x xs
+    → set xs k x ≡ with_recorded x xs
 with_set x [] k d rising within same = absurd (omega arith)
 with_set x (y ∷ ys) zero d rising within same =
     sym (not_behind x y ys (omega arith) ∙ cond-true (y.0 == x.0) (x ∷ ys) (x ∷ y ∷ ys) (eq-eqb y.0 x.0 same))
@@ -48,7 +48,7 @@ with_set x (y ∷ ys) (suc k) d rising within same =
     ∙ sym (with_behind x y ys (omega arith))
 
 -- or it doesn't
-pub with_inserted : (x : ℕ × FileMeta) (xs : List (ℕ × FileMeta)) (k : ℕ) → IsPlace x.0 xs k → insert xs k x ≡ with_told x xs
+pub with_inserted : (x : ℕ × FileMeta) (xs : List (ℕ × FileMeta)) (k : ℕ) → IsPlace x.0 xs k → insert xs k x ≡ with_recorded x xs
 with_inserted x [] zero i = refl
 with_inserted x [] (suc k) i = absurd (omega (arith, i.within))
 with_inserted x (y ∷ ys) zero i =

@@ -11,9 +11,9 @@ use Rattle.cs_ids.specs.declared.objects.FileMeta.{FileMeta}
 use Rattle.cs_laws.specs.declared.objects.At.{At}
 use Rattle.cs_laws.specs.Metadata.{no_meta}
 use Rattle.cs_laws.specs.Shown.{is_before}
-use Rattle.cs_theorems.specs.Recorded.{AreRising, with_told}
-use Rattle.cs_theorems.specs.Told.{last_told, last_before, last_of}
-use Rattle.cs_theorems.proofs.ToldPlaces.{with_inserted}
+use Rattle.cs_theorems.specs.Recorded.{AreRising, with_recorded}
+use Rattle.cs_theorems.specs.RecordedAt.{last_recorded, last_before, last_of}
+use Rattle.cs_theorems.proofs.RecordedPlaces.{with_inserted}
 
 -- the metadata of the last flush
 abbrev last_meta : List (ℕ × FileMeta) → Option FileMeta
@@ -42,7 +42,7 @@ before_front a (suc n) (x ∷ xs) few cut =
     ) in
     rw (early, rest) refl
 
-told_front : (a : At) (n : ℕ) (xs : List (ℕ × FileMeta)) → n ≤ length xs → CutsAt a xs n → last_told a xs ≡ unwrap_or (last_meta (take n xs)) no_meta
+told_front : (a : At) (n : ℕ) (xs : List (ℕ × FileMeta)) → n ≤ length xs → CutsAt a xs n → last_recorded a xs ≡ unwrap_or (last_meta (take n xs)) no_meta
 told_front a n xs few cut = ap (λ o. unwrap_or o no_meta) (before_front a n xs few cut)
 
 last_is : (x : ℕ × FileMeta) (xs : List (ℕ × FileMeta)) → slice_get xs (length xs - 1) ≡ Some x → last_meta xs ≡ Some x.1
@@ -56,9 +56,9 @@ last_is x (y ∷ z ∷ xs) there =
     rw rest refl
 
 -- the one at the end of the front
-pub last_told_some : (a : At) (n : ℕ) (xs : List (ℕ × FileMeta)) (x : ℕ × FileMeta) → n ≤ length xs → CutsAt a xs n
-    → slice_get (take n xs) (length (take n xs) - 1) ≡ Some x → x.1 ≡ last_told a xs
-last_told_some a n xs x few cut there = sym (told_front a n xs few cut ∙ ap (λ o. unwrap_or o no_meta) (last_is x (take n xs) there))
+pub last_recorded_some : (a : At) (n : ℕ) (xs : List (ℕ × FileMeta)) (x : ℕ × FileMeta) → n ≤ length xs → CutsAt a xs n
+    → slice_get (take n xs) (length (take n xs) - 1) ≡ Some x → x.1 ≡ last_recorded a xs
+last_recorded_some a n xs x few cut there = sym (told_front a n xs few cut ∙ ap (λ o. unwrap_or o no_meta) (last_is x (take n xs) there))
 
 filled : (y : ℕ × FileMeta) (xs : List (ℕ × FileMeta)) → slice_get (y ∷ xs) (length xs) ≡ None → ⊥
 filled y [] e = cc e
@@ -71,9 +71,9 @@ last_none (y ∷ xs) e =
     absurd (filled y xs (rw less at e))
 
 -- and where the front is empty
-pub last_told_none : (a : At) (n : ℕ) (xs : List (ℕ × FileMeta)) → n ≤ length xs → CutsAt a xs n
-    → slice_get (take n xs) (length (take n xs) - 1) ≡ None → no_meta ≡ last_told a xs
-last_told_none a n xs few cut e = sym (told_front a n xs few cut ∙ ap (λ o. unwrap_or o no_meta) (last_none (take n xs) e))
+pub last_recorded_none : (a : At) (n : ℕ) (xs : List (ℕ × FileMeta)) → n ≤ length xs → CutsAt a xs n
+    → slice_get (take n xs) (length (take n xs) - 1) ≡ None → no_meta ≡ last_recorded a xs
+last_recorded_none a n xs few cut e = sym (told_front a n xs few cut ∙ ap (λ o. unwrap_or o no_meta) (last_none (take n xs) e))
 
 -- the numbers rise, so those below one stand in front
 pub rising_parts : (s : ℕ) (xs : List (ℕ × FileMeta)) → AreRising xs → IsPartitionedBy (λ x. nat_lt x.0 s) xs
@@ -92,7 +92,7 @@ found_there s k xs d at = ranked (get_or xs k d).0 s _ (sym (at d))
 
 -- or at the place for it
 pub inserted_there : (x : ℕ × FileMeta) (k : ℕ) (xs : List (ℕ × FileMeta)) → AreRising xs → k ≤ length xs
-    → IsBinarySearchResult (λ y. nat_cmp y.0 x.0) xs (Err k) → insert xs k x ≡ with_told x xs
+    → IsBinarySearchResult (λ y. nat_cmp y.0 x.0) xs (Err k) → insert xs k x ≡ with_recorded x xs
 inserted_there x k xs rising within parted =
     let parts = parted (comparisons_rise x.0 xs rising) in
     with_inserted x xs k (record {

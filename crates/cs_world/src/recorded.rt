@@ -2,8 +2,8 @@
 ghost use Rattle.std.specs.Prelude.{◌≡◌, ◌≤◌, true, false, [], length, OnOk, OnErr};
 ghost use Rattle.std.specs.List.Sorted.{IsPartitionPoint};
 ghost use Rattle.cs_laws.specs.Shown.{is_before};
-ghost use Rattle.cs_theorems.specs.Recorded.{with_told};
-ghost use Rattle.cs_theorems.specs.Told.{last_told};
+ghost use Rattle.cs_theorems.specs.Recorded.{with_recorded};
+ghost use Rattle.cs_theorems.specs.RecordedAt.{last_recorded};
 
 use cs_ids::{FileMeta, Memory, Seq};
 use cs_inode::FIRST_MODE;
@@ -14,28 +14,28 @@ use std::marker::Model;
 /// The flushes of a file that the server recorded: each number that one follows, and the metadata of
 /// the last one that does. These numbers rise. Contracts see them as a list of pairs.
 #[derive(Drop)]
-pub struct Told {
+pub struct Recorded {
     flushes: Vec<(Seq, FileMeta)>,
 }
 
-impl Model for Told {
+impl Model for Recorded {
     ghost use Rattle.std.specs.Prelude.{List, ℕ};
     ghost use Rattle.cs_ids.specs.declared.objects.FileMeta.{FileMeta};
     ghost use Rattle.cs_theorems.specs.Recorded.{AreRising};
 
     ghost Value = { List (ℕ × FileMeta) };
 
-    ghost view = { λ t. t.flushes.items };
+    ghost view = { λ r. r.flushes.items };
 
-    ghost invariant = { λ t. AreRising t.flushes.items };
+    ghost invariant = { λ r. AreRising r.flushes.items };
 }
 
-impl Told {
+impl Recorded {
     /// No flushes. It takes no memory.
     pub fn new(alloc: Global) -> Self
         ensures { result ≡ [] }
     {
-        Told {
+        Recorded {
             flushes: Vec::new(alloc),
         }
     }
@@ -43,7 +43,7 @@ impl Told {
     /// Records a flush: its metadata takes the place of what stands under the number that it follows.
     /// After `Memory` all is as before.
     pub fn record(&mut self, follows: Seq, meta: FileMeta) -> Result<(), Memory>
-        ensures ok { OnOk result (self.new ≡ with_told (follows, meta) self.old) }
+        ensures ok { OnOk result (self.new ≡ with_recorded (follows, meta) self.old) }
         ensures err { OnErr result (self.new ≡ self.old) }
     {
         match self.flushes.binary_search_by_key(&follows, |x| x.0) {
@@ -59,7 +59,7 @@ impl Told {
     /// number, or at present, that of the last one. Where there is none, size and mtime are 0 and the
     /// mode is 0644.
     pub fn at(&self, at: At) -> FileMeta
-        ensures { result ≡ last_told at self.now }
+        ensures { result ≡ last_recorded at self.now }
     {
         let count = self.count_before(at);
         match self.flushes[..count].last() {
@@ -103,12 +103,12 @@ mod tests {
         let first = Seq::new(1).ok_or("seq")?;
         let third = Seq::new(3).ok_or("seq")?;
         let second = Snap::new(2).ok_or("snap")?;
-        let mut told = Told::new(rt.alloc());
-        told.record(third, of_size(3))?;
-        told.record(first, of_size(1))?;
-        told.record(third, of_size(9))?;
-        assert_eq!(rt; told.at(At::Snap(second)).size, 1);
-        assert_eq!(rt; told.at(At::Head).size, 9);
+        let mut recorded = Recorded::new(rt.alloc());
+        recorded.record(third, of_size(3))?;
+        recorded.record(first, of_size(1))?;
+        recorded.record(third, of_size(9))?;
+        assert_eq!(rt; recorded.at(At::Snap(second)).size, 1);
+        assert_eq!(rt; recorded.at(At::Head).size, 9);
         Ok(())
     }
 }

@@ -1,10 +1,10 @@
 use Rattle.std.proofs.Common.{◌≡◌, ◌∙◌, sym, ap, subst, ℕ, ◌<◌, ◌≤◌, get_or, set, length, rules}
 use Rattle.std.proofs.lemmas.List.Sorted.{answers_always}
 use Rattle.cs_ids.specs.declared.objects.FileMeta.{FileMeta}
-use Rattle.cs_theorems.specs.Recorded.{AreRising, with_told}
-use Rattle.cs_theorems.proofs.ToldPlaces.{rising_with, with_set}
-use Rattle.cs_world.proofs.ToldAt.{found_there, inserted_there}
-use Rattle.cs_world.proofs.told.Told.record.Goals as goal
+use Rattle.cs_theorems.specs.Recorded.{AreRising, with_recorded}
+use Rattle.cs_theorems.proofs.RecordedPlaces.{rising_with, with_set}
+use Rattle.cs_world.proofs.RecordedAt.{found_there, inserted_there}
+use Rattle.cs_world.proofs.recorded.Recorded.record.Goals as goal
 
 -- the number stands there already
 pub returns-in-Ok-clause-ok : goal.returns-in-Ok-clause-ok
@@ -17,7 +17,7 @@ returns-in-Ok-clause-ok c =
     let there : (get_or xs k y).0 ≡ c.args.follows = found_there c.args.follows k xs y (rw c.deref.ensures.value at at) in
     let within : k < length xs = rw c.deref.ensures.value at c.in-Ok.ensures.bound in
     ap (λ n. set xs k (n, c.args.meta)) (ap (λ (z : ℕ × FileMeta). z.0) c.index_mut.ensures.value ∙ there)
-    ∙ (with_set x xs k y c.self.invariant within there ∙ ap (λ zs. with_told x zs) c.self.view_is)
+    ∙ (with_set x xs k y c.self.invariant within there ∙ ap (λ zs. with_recorded x zs) c.self.view_is)
 
 -- or it goes to its place
 pub returns-in_ok-insert-in-Err-clause-ok : goal.returns-in_ok-insert-in-Err-clause-ok
@@ -27,7 +27,7 @@ returns-in_ok-insert-in-Err-clause-ok c =
     let parted = c.in-Err.ensures.position (λ (z : ℕ × FileMeta). z.0) (answers_always _ _ _ (λ f a r g called. search rules)) in
     let within : c.in-Err.place ≤ length xs = rw c.deref.ensures.value at c.in-Err.ensures.bound in
     c.in_ok-insert-in-Err.ensures.items
-    ∙ (inserted_there x c.in-Err.place xs c.self.invariant within (rw c.deref.ensures.value at parted) ∙ ap (λ zs. with_told x zs) c.self.view_is)
+    ∙ (inserted_there x c.in-Err.place xs c.self.invariant within (rw c.deref.ensures.value at parted) ∙ ap (λ zs. with_recorded x zs) c.self.view_is)
 
 pub invariant_of-self-in-Err : goal.invariant_of-self-in-Err
 invariant_of-self-in-Err c =

@@ -2,8 +2,8 @@ use Rattle.std.proofs.Common.{◌≡◌, ◌∙◌, sym, subst, ℕ, true, false
 use Rattle.std.specs.List.Sorted.{IsPartitionPoint}
 use Rattle.std.proofs.lemmas.List.Sorted.{IsPartitionPoint-from_clause}
 use Rattle.cs_ids.specs.declared.objects.FileMeta.{FileMeta}
-use Rattle.cs_world.proofs.ToldAt.{CutsAt, rising_parts}
-use Rattle.cs_world.proofs.told.Told.count_before.Goals as goal
+use Rattle.cs_world.proofs.RecordedAt.{CutsAt, rising_parts}
+use Rattle.cs_world.proofs.recorded.Recorded.count_before.Goals as goal
 
 pub returns-in-Snap-clause-point : goal.returns-in-Snap-clause-point
 returns-in-Snap-clause-point c =

@@ -18,8 +18,8 @@ use Rattle.cs_laws.specs.Metadata.{is_behind, last_flush, later_of, with_flush}
 use Rattle.cs_laws.specs.Shown.{is_before}
 use Rattle.cs_laws.specs.Carried.{flush_in}
 use Rattle.cs_laws.specs.Laws.{tid_on, tids}
-use Rattle.cs_theorems.specs.Recorded.{AreRising, with_told}
-use Rattle.cs_theorems.specs.Told.{last_before, last_of}
+use Rattle.cs_theorems.specs.Recorded.{AreRising, with_recorded}
+use Rattle.cs_theorems.specs.RecordedAt.{last_before, last_of}
 use Rattle.cs_theorems.proofs.Listed.{Each, Member, member_right}
 
 -- The table's numbers rise
@@ -28,7 +28,7 @@ abbrev pub Rises : ℕ → List (ℕ × FileMeta) → Type 0
 Rises n [] = Unit {0}
 Rises n (x ∷ xs) = (n ≤ x.0) × Rises (x.0 + 1) xs
 
-pub rises_with : (n : ℕ) (x : ℕ × FileMeta) (xs : List (ℕ × FileMeta)) → n ≤ x.0 → Rises n xs → Rises n (with_told x xs)
+pub rises_with : (n : ℕ) (x : ℕ × FileMeta) (xs : List (ℕ × FileMeta)) → n ≤ x.0 → Rises n xs → Rises n (with_recorded x xs)
 rises_with n x [] low up = (low, tt)
 rises_with n x (y ∷ ys) low up = at (nat_lt y.0 x.0) refl (λ less. rises_with (y.0 + 1) x ys less up.1)
   where
@@ -37,8 +37,8 @@ rises_with n x (y ∷ ys) low up = at (nat_lt y.0 x.0) refl (λ less. rises_with
     same_or_less false isnt high =
         (low, (⊎_elim (λ same. absurd (both_ways (y.0 == x.0) isnt (eq-eqb y.0 x.0 (sym same)))) (λ less. omega arith) (eq-or-lt_of_le high), up.1))
 
-    at : (b : Bool) → nat_lt y.0 x.0 ≡ b → (y.0 + 1 ≤ x.0 → Rises (y.0 + 1) (with_told x ys))
-        → Rises n (cond b (y ∷ with_told x ys) (cond (y.0 == x.0) (x ∷ ys) (x ∷ y ∷ ys)))
+    at : (b : Bool) → nat_lt y.0 x.0 ≡ b → (y.0 + 1 ≤ x.0 → Rises (y.0 + 1) (with_recorded x ys))
+        → Rises n (cond b (y ∷ with_recorded x ys) (cond (y.0 == x.0) (x ∷ ys) (x ∷ y ∷ ys)))
     at true less rest = (up.0, rest (let more : y.0 < x.0 = ltb-true y.0 x.0 less in omega arith))
     at false isnt rest = same_or_less (y.0 == x.0) refl (ltb-false y.0 x.0 isnt)
 
@@ -128,7 +128,7 @@ picked_behind true c x y (Some z) less = at (nat_le z.0 x.0)
 picked_behind false c x y o less = refl
 
 pub last_with : (a : At) (n : ℕ) (x : ℕ × FileMeta) (xs : List (ℕ × FileMeta)) → Rises n xs
-    → last_pair a (with_told x xs) ≡ cond (is_before a x.0) (newer x (last_pair a xs)) (last_pair a xs)
+    → last_pair a (with_recorded x xs) ≡ cond (is_before a x.0) (newer x (last_pair a xs)) (last_pair a xs)
 last_with a n x [] up = refl
 last_with a n x (y ∷ ys) up = at (nat_lt y.0 x.0) refl (last_with a (y.0 + 1) x ys up.1)
   where
@@ -142,8 +142,8 @@ last_with a n x (y ∷ ys) up = at (nat_lt y.0 x.0) refl (last_with a (y.0 + 1) 
         picked (is_before a x.0) x (last_pair a (y ∷ ys))
         (last_above a (x.0 + 1) (y ∷ ys) (⊎_elim (λ same. absurd (both_ways (y.0 == x.0) isnt (eq-eqb y.0 x.0 (sym same)))) (λ less. omega arith) (eq-or-lt_of_le high), up.1))
 
-    at : (b : Bool) → nat_lt y.0 x.0 ≡ b → last_pair a (with_told x ys) ≡ cond (is_before a x.0) (newer x (last_pair a ys)) (last_pair a ys)
-        → last_pair a (cond b (y ∷ with_told x ys) (cond (y.0 == x.0) (x ∷ ys) (x ∷ y ∷ ys)))
+    at : (b : Bool) → nat_lt y.0 x.0 ≡ b → last_pair a (with_recorded x ys) ≡ cond (is_before a x.0) (newer x (last_pair a ys)) (last_pair a ys)
+        → last_pair a (cond b (y ∷ with_recorded x ys) (cond (y.0 == x.0) (x ∷ ys) (x ∷ y ∷ ys)))
         ≡ cond (is_before a x.0) (newer x (last_pair a (y ∷ ys))) (last_pair a (y ∷ ys))
     at true less rest =
         ap (λ o. pick o (is_before a y.0) y) rest
