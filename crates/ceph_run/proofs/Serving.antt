@@ -17,7 +17,7 @@ use Rattle.ceph_run.specs.declared.input.Refusal.{Refusal}
 use Rattle.ceph_run.specs.declared.input.Refusal.TheVariants as refusals
 use Rattle.ceph_run.specs.declared.run_fault.RunFault.{RunFault}
 use Rattle.ceph_run.specs.declared.run_fault.RunFault.TheVariants as faults
-use Rattle.ceph_run.specs.Inputs.{judged, status_of, told, AgreesWith, IsLawfulRun, JudgesWhole}
+use Rattle.ceph_run.specs.Inputs.{judged, status_of, output, AgreesWith, IsLawfulRun, JudgesWhole}
 use Rattle.ceph_run.specs.Refusals.{refusal_line, refusal_status}
 use Rattle.ceph_run.specs.Served.{Served, Ends, Writes, IsFaultStatus, IsStopStatus}
 use Rattle.ceph_run.specs.Statuses.{read_status, run_status}
@@ -76,7 +76,7 @@ unread pages reading.Memory left_old left_new taken s t m ops k rose none = reco
   sink = λ e. absurd (omega arith);
   store = λ e. absurd (omega arith);
   memory = λ e. any_some left_old (λ b. StopsInput faults.Memory pages (judged b) taken taken ops) (λ b. unstarted pages (judged b) taken ops none);
-  cut = λ e. any_some left_old (λ b. AppendsFront taken taken (told pages (judged b))) (λ b. (told pages (judged b), took_none taken (told pages (judged b))));
+  cut = λ e. any_some left_old (λ b. AppendsFront taken taken (output pages (judged b))) (λ b. (output pages (judged b), took_none taken (output pages (judged b))));
   decided = any_some left_old (λ b. (8 ≡ status_of (judged b)) ⊎ IsFaultStatus 8) (λ b. inr (inr (inr (inr refl))));
   known = inr (inr (inr (inr (inr (inr refl)))));
 }
@@ -237,12 +237,12 @@ judged_and_ended pages status input left_old left_new taken_old taken_new s t m 
   refused = λ e. judge.read (not_too_long input status w.known (inr (inl e)) (omega arith));
   ended = λ e.
       let same = no_fault (status_of input) status w.known e in
-      of_judged left_old input (λ x. (status ≡ status_of x) × Appends taken_old taken_new (told pages x)) judge.is (same, (w.whole same).0);
+      of_judged left_old input (λ x. (status ≡ status_of x) × Appends taken_old taken_new (output pages x)) judge.is (same, (w.whole same).0);
   source = λ e. absurd (not_read (status_of input) status (whole_status input) w.known e);
   sink = λ e. ((w.sink e).0, of_judged left_old input (λ x. StopsInput faults.Sink pages x taken_old taken_new ops) judge.is (w.sink e).1);
   store = λ e. ((w.store e).0, of_judged left_old input (λ x. StopsInput faults.Store pages x taken_old taken_new ops) judge.is (w.store e).1);
   memory = λ e. of_judged left_old input (λ x. StopsInput faults.Memory pages x taken_old taken_new ops) judge.is (w.memory e);
-  cut = λ e. of_judged left_old input (λ x. AppendsFront taken_old taken_new (told pages x)) judge.is (w.cut e);
+  cut = λ e. of_judged left_old input (λ x. AppendsFront taken_old taken_new (output pages x)) judge.is (w.cut e);
   decided = of_judged left_old input (λ x. (status ≡ status_of x) ⊎ IsFaultStatus status) judge.is (decides (status_of input) status w.known);
   known = knows (status_of input) status (whole_status input) w.known;
 }

@@ -9,7 +9,7 @@ use Rattle.cs_laws.specs.Agreement.{Agrees}
 use Rattle.cs_laws.specs.Grammar.{script_of}
 use Rattle.cs_laws.specs.Journal.{journal, text}
 use Rattle.cs_laws.specs.Operations.{applied}
-use Rattle.cs_theorems.specs.Lawful.{IsLawful}
+use Rattle.cs_laws.specs.Laws.{Laws}
 use Rattle.ceph_run.specs.declared.input.Input.{Input}
 use Rattle.ceph_run.specs.declared.input.Input.TheVariants.{Refused, Runs}
 use Rattle.ceph_run.specs.declared.input.Refusal.TheVariants as refusals
@@ -43,9 +43,9 @@ status_of (Runs es) = 0
 status_of (Refused r) = refusal_status r
 
 -- what its run writes, unless a fault ends that
-abbrev pub told : ℕ → Input → List ℕ
-told pages (Runs es) = text (journal pages es)
-told pages (Refused r) = refusal_line r
+abbrev pub output : ℕ → Input → List ℕ
+output pages (Runs es) = text (journal pages es)
+output pages (Refused r) = refusal_line r
 
 -- the operations that the store has after its run, the newest first, unless a fault ends that
 abbrev pub stored : ℕ → Input → List ObjOp
@@ -60,7 +60,7 @@ AgreesWith pages (Refused r) ops = ops ≡ []
 
 -- the laws hold of the journal that it writes
 abbrev pub IsLawfulRun : ℕ → Input → Type 0
-IsLawfulRun pages (Runs es) = IsLawful (journal pages es)
+IsLawfulRun pages (Runs es) = Laws (journal pages es)
 IsLawfulRun pages (Refused r) = Unit {0}
 
 -- a script that is run has at most 10,000 events

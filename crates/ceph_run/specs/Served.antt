@@ -6,7 +6,7 @@ use Rattle.cs_io.specs.Whole.{AppendsFront}
 use Rattle.cs_laws.specs.declared.objects.ObjOp.{ObjOp}
 use Rattle.ceph_run.specs.declared.input.Input.{Input}
 use Rattle.ceph_run.specs.declared.run_fault.RunFault.TheVariants as faults
-use Rattle.ceph_run.specs.Inputs.{judged, status_of, told, stored, AgreesWith, IsLawfulRun}
+use Rattle.ceph_run.specs.Inputs.{judged, status_of, output, stored, AgreesWith, IsLawfulRun}
 use Rattle.ceph_run.specs.Stopped.{StopsInput}
 
 -- the source, the sink and the store at one moment: the bytes left and the bytes taken, where told, the operations that were applied,
@@ -41,11 +41,11 @@ pub record Writes (whole_status status : ℕ) (bytes : List ℕ) (taken_old take
 pub record Ends (pages : ℕ) (input : Input) (status : ℕ) (taken_old taken_new : Option (List ℕ)) (sink_old sink_new : ℕ) (ops : List ObjOp)
     (store_old store_new : ℕ) : Type 0 where
   -- unless a fault came, the sink took all that is told of it, and the store lists what it brings
-  pub whole : status ≡ status_of input → Appends taken_old taken_new (told pages input) × (ops ≡ stored pages input)
+  pub whole : status ≡ status_of input → Appends taken_old taken_new (output pages input) × (ops ≡ stored pages input)
   pub sink : status ≡ 5 → Rose sink_old sink_new × StopsInput faults.Sink pages input taken_old taken_new ops
   pub store : status ≡ 6 → Rose store_old store_new × StopsInput faults.Store pages input taken_old taken_new ops
   pub memory : status ≡ 8 → StopsInput faults.Memory pages input taken_old taken_new ops
-  pub cut : IsStopStatus status → AppendsFront taken_old taken_new (told pages input)
+  pub cut : IsStopStatus status → AppendsFront taken_old taken_new (output pages input)
   pub known : (status ≡ status_of input) ⊎ IsStopStatus status
 
 -- what the call of a run did
@@ -56,7 +56,7 @@ pub record Served (pages status : ℕ) (before after : Devices) : Type 0 where
   pub refused : status ≡ 2 → IsAtEnd after.left
   -- 0, 2 and 3: this is what the input is, and the sink took the journal, the fault's line or the limit's line
   pub ended : (status ≡ 0) ⊎ ((status ≡ 2) ⊎ (status ≡ 3))
-      → IfSome before.left (λ b. (status ≡ status_of (judged b)) × Appends before.taken after.taken (told pages (judged b)))
+      → IfSome before.left (λ b. (status ≡ status_of (judged b)) × Appends before.taken after.taken (output pages (judged b)))
   -- 4: the source failed, and the sink took nothing
   pub source : status ≡ 4 → Rose before.source_faults after.source_faults × Keeps before.taken after.taken
   -- 5: the sink failed; it took all lines before that of the last event that was done, and no byte of a later event's, and the store
@@ -72,7 +72,7 @@ pub record Served (pages status : ℕ) (before after : Devices) : Type 0 where
   -- 8: as at 5 or as at 6, or the input wasn't read, and sink and store are as they came
   pub memory : status ≡ 8 → IfSome before.left (λ b. StopsInput faults.Memory pages (judged b) before.taken after.taken after.ops)
   -- 5, 6 and 8: the sink took a front of what it would have taken
-  pub cut : IsStopStatus status → IfSome before.left (λ b. AppendsFront before.taken after.taken (told pages (judged b)))
+  pub cut : IsStopStatus status → IfSome before.left (λ b. AppendsFront before.taken after.taken (output pages (judged b)))
   -- unless a fault comes first, the status is that of the input
   pub decided : IfSome before.left (λ b. (status ≡ status_of (judged b)) ⊎ IsFaultStatus status)
   pub known : (status ≡ 0) ⊎ ((status ≡ 2) ⊎ ((status ≡ 3) ⊎ IsFaultStatus status))
