@@ -1,9 +1,11 @@
 pub mod AfterASnapshot
+pub mod BadLines
 pub mod CleanFile
 pub mod Delivered
 pub mod EmptyScript
 pub mod Faults
 pub mod FullTable
+pub mod GoodLines
 pub mod HeadFlush
 pub mod HoldThenAck
 pub mod LastByte

@@ -1,5 +1,5 @@
 // Inputs that are no scripts, each with its first bad line.
-ghost use Rattle.std.specs.Prelude.{◌≡◌, [], Err};
+ghost use Rattle.std.specs.Prelude.{◌≡◌, [], Ok, Err};
 ghost use Rattle.cs_laws.specs.declared.faults.Kind.TheVariants as kinds;
 ghost use Rattle.cs_laws.specs.Grammar.{script_of};
 ghost use Rattle.cs_rows.specs.Faults as inputs;
@@ -32,4 +32,19 @@ pub fn end_too_far()
 /// Files stand before all other events.
 pub fn late_file()
     ensures { script_of inputs.late_file ≡ Err (record { line = 4; kind = kinds.Late }) }
+{}
+
+/// A line of 4,096 bytes is not too long.
+pub fn longest_line()
+    ensures { script_of inputs.longest_line ≡ Ok [] }
+{}
+
+/// The first bad line, and what is wrong with it first: a further word before a line that stands too late.
+pub fn first_faults()
+    ensures { inputs.AreRefused inputs.first_faults }
+{}
+
+/// What is too long: a line before all else, the digits of a write only where they are pairs.
+pub fn long_lines()
+    ensures { inputs.AreRefused inputs.long_lines }
 {}

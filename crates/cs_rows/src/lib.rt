@@ -3,5 +3,7 @@
 //! crate.
 #![tactic(auto)]
 
+pub mod bad_lines;
 pub mod faults;
+pub mod good_lines;
 pub mod runs;

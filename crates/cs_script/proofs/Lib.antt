@@ -1,10 +1,13 @@
+pub mod EventForms
 pub mod FieldFacts
-pub mod Fitting
-pub mod FormFacts
+pub mod FieldKinds
+pub mod FieldLists
+pub mod Lengths
 pub mod Linewise
 pub mod Modes
-pub mod Spelt
+pub mod RoundTrip
 pub mod Scripts
-pub mod Told
+pub mod TextsRead
 pub mod Visible
+pub mod WordsRead
 pub mod Written

@@ -43,14 +43,14 @@ mode_read m h =
     ap mode_in (mode_digits m small)
     ∙ digits_read (m / 512) (m / 64 % 8) (m / 8 % 8) (m % 8) m (omega arith) (omega arith) (omega arith) (omega arith) (omega arith)
 
-digit_told : (c : ℕ) → is_octal c ≡ true → (48 ≤ c) × (c ≤ 55)
-digit_told c h =
+digit_range : (c : ℕ) → is_octal c ≡ true → (48 ≤ c) × (c ≤ 55)
+digit_range c h =
     let parts = and_parts (nat_le 48 c) (nat_le c 55) h in
     (leb-true 48 c parts.0, leb-true c 55 parts.1)
 
-text_told : (a b c d m : ℕ) → (48 ≤ a) × (a ≤ 55) → (48 ≤ b) × (b ≤ 55) → (48 ≤ c) × (c ≤ 55) → (48 ≤ d) × (d ≤ 55)
+text_of_digits : (a b c d m : ℕ) → (48 ≤ a) × (a ≤ 55) → (48 ≤ b) × (b ≤ 55) → (48 ≤ c) × (c ≤ 55) → (48 ≤ d) × (d ≤ 55)
     → m ≡ (a - 48) * 512 + (b - 48) * 64 + (c - 48) * 8 + (d - 48) → (mode_text m ≡ a ∷ b ∷ c ∷ d ∷ []) × (m ≤ 4095)
-text_told a b c d m in_a in_b in_c in_d e =
+text_of_digits a b c d m in_a in_b in_c in_d e =
     let small : m ≤ 4095 = omega arith in
     let first : 48 + m / 512 ≡ a = omega arith in
     let second : 48 + m / 64 % 8 ≡ b = omega arith in
@@ -61,21 +61,21 @@ text_told a b c d m in_a in_b in_c in_d e =
 at_most : (m n : ℕ) → m ≤ n → nat_le m n ≡ true
 at_most m n h = grind (arith, nat_tests)
 
-digits_told : (a b c d m : ℕ) → mode_of_digits a b c d ≡ Ok m → (mode_text m ≡ a ∷ b ∷ c ∷ d ∷ []) × (m ≤ 4095)
-digits_told a b c d m h =
+digits_are_text : (a b c d m : ℕ) → mode_of_digits a b c d ≡ Ok m → (mode_text m ≡ a ∷ b ∷ c ∷ d ∷ []) × (m ≤ 4095)
+digits_are_text a b c d m h =
     let p = passed (is_octal a && (is_octal b && (is_octal c && is_octal d))) ((a - 48) * 512 + (b - 48) * 64 + (c - 48) * 8 + (d - 48)) m kinds.Word h in
     let first = and_parts (is_octal a) (is_octal b && (is_octal c && is_octal d)) p.test in
     let second = and_parts (is_octal b) (is_octal c && is_octal d) first.1 in
     let third = and_parts (is_octal c) (is_octal d) second.1 in
-    text_told a b c d m (digit_told a first.0) (digit_told b second.0) (digit_told c third.0) (digit_told d third.1) p.same
+    text_of_digits a b c d m (digit_range a first.0) (digit_range b second.0) (digit_range c third.0) (digit_range d third.1) p.same
 
 -- a mode that is read has no other text
-pub mode_told : (w : List ℕ) (m : ℕ) → mode_in w ≡ Ok m → (mode_text m ≡ w) × (is_mode m ≡ true)
-mode_told [] m h = cc h
-mode_told (a ∷ []) m h = cc h
-mode_told (a ∷ b ∷ []) m h = cc h
-mode_told (a ∷ b ∷ c ∷ []) m h = cc h
-mode_told (a ∷ b ∷ c ∷ d ∷ []) m h =
-    let t = digits_told a b c d m h in
+pub mode_is_text : (w : List ℕ) (m : ℕ) → mode_in w ≡ Ok m → (mode_text m ≡ w) × (is_mode m ≡ true)
+mode_is_text [] m h = cc h
+mode_is_text (a ∷ []) m h = cc h
+mode_is_text (a ∷ b ∷ []) m h = cc h
+mode_is_text (a ∷ b ∷ c ∷ []) m h = cc h
+mode_is_text (a ∷ b ∷ c ∷ d ∷ []) m h =
+    let t = digits_are_text a b c d m h in
     (t.0, at_most m 4095 t.1)
-mode_told (a ∷ b ∷ c ∷ d ∷ e ∷ w) m h = cc h
+mode_is_text (a ∷ b ∷ c ∷ d ∷ e ∷ w) m h = cc h

@@ -3,10 +3,6 @@ use Rattle.std.proofs.Common.{◌≡◌, ◌≤◌, ◌<◌, ℕ, List, [], ◌�
 use Rattle.cs_laws.specs.declared.faults.Kind.TheVariants as kinds
 use Rattle.cs_laws.specs.Grammar.{bytes_of}
 
-pub no_bytes : (bs : List ℕ) → length bs ≡ 0 → bytes_of (Some bs) ≡ Err kinds.Word
-no_bytes [] none = refl
-no_bytes (b ∷ bs) none = grind arith
-
 pub few_bytes : (bs : List ℕ) → 1 ≤ length bs → length bs ≤ 1024 → bytes_of (Some bs) ≡ Ok bs
 few_bytes [] some few = grind arith
 few_bytes (b ∷ bs) some few = grind arith

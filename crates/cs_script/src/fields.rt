@@ -30,6 +30,7 @@ fn number_at(words: &[&[u8]], i: usize, low: u64, high: u64) -> Result<u64, Kind
     }
 }
 
+/// The inode of a file or a directory, in this range.
 pub fn ino_at(words: &[&[u8]], i: usize, low: u64, high: u64) -> Result<Ino, Kind>
     requires { (1 ≤ low) × (high ≤ 99999) }
     ensures { Gives (λ x. x) result (number_at i low high (texts words.now)) }
@@ -38,6 +39,7 @@ pub fn ino_at(words: &[&[u8]], i: usize, low: u64, high: u64) -> Result<Ino, Kin
     Ino::new(value).ok_or(Kind::Range)
 }
 
+/// A caller, 0 to 32.
 pub fn caller_at(words: &[&[u8]], i: usize) -> Result<Caller, Kind>
     ensures { Gives (λ x. x) result (number_at i 0 32 (texts words.now)) }
 {
@@ -52,6 +54,7 @@ pub fn time_at(words: &[&[u8]], i: usize) -> Result<u64, Kind>
     number_at(words, i, 0, 4_294_967_295)
 }
 
+/// The size that a file may get, in bytes, up to the greatest one.
 pub fn end_at(words: &[&[u8]], i: usize) -> Result<u32, Kind>
     ensures { Gives (λ x. x) result (number_at i 0 greatest_end (texts words.now)) }
 {
@@ -59,6 +62,7 @@ pub fn end_at(words: &[&[u8]], i: usize) -> Result<u32, Kind>
     Ok(value as u32)
 }
 
+/// A place in a file, in bytes, below the greatest size.
 pub fn off_at(words: &[&[u8]], i: usize) -> Result<u32, Kind>
     ensures { Gives (λ x. x) result (number_at i 0 1048575 (texts words.now)) }
 {
@@ -66,6 +70,7 @@ pub fn off_at(words: &[&[u8]], i: usize) -> Result<u32, Kind>
     Ok(value as u32)
 }
 
+/// How many bytes are read or shown, 1 to 4,096.
 pub fn len_at(words: &[&[u8]], i: usize) -> Result<u32, Kind>
     ensures { Gives (λ x. x) result (number_at i 1 most_shown (texts words.now)) }
 {
@@ -73,6 +78,7 @@ pub fn len_at(words: &[&[u8]], i: usize) -> Result<u32, Kind>
     Ok(value as u32)
 }
 
+/// A set of capabilities. One that has bits which are not built is told as such.
 pub fn set_at(words: &[&[u8]], i: usize) -> Result<Caps, Kind>
     ensures { Gives (λ x. x) result (set_at i (texts words.now)) }
 {
@@ -101,6 +107,7 @@ fn name_from(word: &[u8]) -> Result<RefName, Kind>
     }
 }
 
+/// The name of a reference: its number, behind a `g` where it is one of caller 0.
 pub fn name_at(words: &[&[u8]], i: usize) -> Result<RefName, Kind>
     ensures { Gives (λ x. x) result (name_at i (texts words.now)) }
 {
@@ -216,7 +223,7 @@ pub fn mode_at(words: &[&[u8]], i: usize) -> Result<u16, Kind>
     }
 }
 
-/// The event, unless there are more than `count` words.
+/// The event, unless there are more than `count` words: then a further word is its fault.
 pub fn only(count: usize, event: Event, words: &[&[u8]]) -> Result<Event, LineFault>
     ensures { Spells result (only count event (texts words.now)) }
 {

@@ -12,12 +12,14 @@ ghost use Rattle.cs_script.specs.Spelling.{InTime, IsEvent, script_text};
 /// spells it, with no exception: `IsEvent` says no more than that each field is in the range of its type.
 pub fn each_event_is_read()
     ensures read { (e : Event) → IsEvent e → fits e ≡ true → event_of (words_in (event_text e)) ≡ Ok e }
-    ensures fits { (e : Event) → IsEvent e → (fits e ≡ true) ↔ ((line : List ℕ) × (event_of (words_in line) ≡ Ok e)) }
+    ensures fits { (e : Event) → IsEvent e
+        → (fits e ≡ true) ↔ ((line : List ℕ) × (event_of (words_in line) ≡ Ok e)) }
 {}
 
 /// A script with a line for each event, each of which fits and stands in time, is read as these events.
 pub fn each_script_is_read()
-    ensures { (es : List Event) → All IsEvent es → AllPass fits es → InTime true es → script_of (script_text es) ≡ Ok es }
+    ensures { (es : List Event) → All IsEvent es → AllPass fits es → InTime true es
+        → script_of (script_text es) ≡ Ok es }
 {}
 
 /// What is read is an event that fits, and the words, and so the line, are those of its one text.

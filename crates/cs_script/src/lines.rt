@@ -82,7 +82,8 @@ fn push_line(
     setup: bool,
     line: &[u8],
 ) -> Result<bool, ParseFault>
-    ensures pushes { Pushes events.old.items events.new.items setup result (at_line number (line_event setup line.now)) }
+    ensures pushes { Pushes events.old.items events.new.items setup result
+        (at_line number (line_event setup line.now)) }
     ensures fitting { AllPass fits events.old.items → OnOk result (AllPass fits events.new.items) }
 {
     let _told: Option<RefName> = None;

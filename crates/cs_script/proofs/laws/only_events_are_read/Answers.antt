@@ -1,4 +1,4 @@
-use Rattle.cs_script.proofs.Told.{only_line_read, only_text_read}
+use Rattle.cs_script.proofs.RoundTrip.{only_line_read, only_text_read}
 use Rattle.cs_script.proofs.laws.only_events_are_read.Goals as goal
 
 pub returns-clause-words : goal.returns-clause-words

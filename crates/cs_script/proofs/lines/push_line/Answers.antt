@@ -3,14 +3,14 @@ use Rattle.std.proofs.lemmas.Grind.{common_steps}
 use Rattle.std.proofs.lemmas.List.Elements.{All-push}
 use Rattle.cs_laws.specs.Fits.{fits}
 use Rattle.cs_laws.specs.Grammar.{line_event}
-use Rattle.cs_script.proofs.Fitting.{line_fits}
+use Rattle.cs_script.proofs.RoundTrip.{line_event_fits}
 use Rattle.cs_script.proofs.lines.push_line.Goals as goal
 use Rattle.cs_script.proofs.lines.push_line.Goals.{in-Ok, in-Err}
 
 pub returns-clause-fitting : goal.returns-clause-fitting
 returns-clause-fitting c = λ old.
     let read : line_event c.args.setup c.args.line.now ≡ Ok c.in_ok-event.event = grind (arith, common_steps) in
-    let fit = line_fits c.args.setup c.args.line.now c.in_ok-event.event read in
+    let fit = line_event_fits c.args.setup c.args.line.now c.in_ok-event.event read in
     elim c.match-push.branch [
       | in-Ok w ↦ rw (w.result-is, c.push.ensures.items, w.in-Ok.is) (All-push (λ e. fits e ≡ true) c.args.events.now.items c.in_ok-event.event old fit)
       | in-Err w ↦ rw w.result-is tt
