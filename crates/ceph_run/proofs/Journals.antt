@@ -1,5 +1,5 @@
 -- A journal that grows, entry by entry, and what is written of it.
-use Rattle.std.proofs.Common.{◌≡◌, ◌∙◌, sym, ap, refl, ℕ, ◌+◌, List, [], ◌∷◌, ◌++◌, length, Option, append_assoc, subst, Result, Ok, Err, OnOk, OnErr}
+use Rattle.std.proofs.Common.{◌≡◌, ◌∙◌, sym, ap, refl, ℕ, ◌+◌, List, [], ◌∷◌, ◌++◌, length, Option, append_assoc, subst, Result, Ok, Err, OnErr}
 use Rattle.std.proofs.lemmas.List.{append-nil}
 use Rattle.std.specs.Io.KnownBytes.{Appends}
 use Rattle.cs_io.specs.Whole.{AppendsFront}
@@ -7,17 +7,16 @@ use Rattle.cs_io.proofs.Known.{appends_more, took_none}
 use Rattle.cs_laws.specs.declared.events.Event.{Event}
 use Rattle.cs_laws.specs.declared.answers.Entry.{Entry}
 use Rattle.cs_laws.specs.Journal.{history, entry, header, lines, line, text, end_line}
-use Rattle.ceph_run.specs.Lines.{newest_line}
 
 -- What was written
 
 -- the line of an entry stands behind the lines before it
-pub line_step : (taken mid new : Option (List ℕ)) (h more : List Entry) (x : Entry) → more ≡ x ∷ h
-    → Appends taken mid (header ++ lines h) → Appends mid new (newest_line more) → Appends taken new (header ++ lines more)
-line_step taken mid new h more x grown before now =
-    let next : Appends mid new (newest_line (x ∷ h)) = rw grown at now in
-    let all = appends_more taken mid new (header ++ lines h) (newest_line (x ∷ h)) before next in
-    rw grown (rw (append_assoc header (lines h) (newest_line (x ∷ h))) at all)
+pub line_step : (taken mid new : Option (List ℕ)) (h more : List Entry) (x : Entry) (n : ℕ) → more ≡ x ∷ h → n ≡ length h + 1
+    → Appends taken mid (header ++ lines h) → Appends mid new (line n x) → Appends taken new (header ++ lines more)
+line_step taken mid new h more x n grown count before now =
+    let next : Appends mid new (line (length h + 1) x) = rw count at now in
+    let all = appends_more taken mid new (header ++ lines h) (line (length h + 1) x) before next in
+    rw grown (rw (append_assoc header (lines h) (line (length h + 1) x)) at all)
 
 -- all the lines and the end line make the text
 pub text_step : (taken mid new : Option (List ℕ)) (h all : List Entry) (n : ℕ) → h ≡ all → n ≡ length h
@@ -80,14 +79,6 @@ text_history pages h es all so_far =
     )
 
 -- Results
-
-pub on_ok : {T E P Q : Type 0} (r : Result T E) → (P → Q) → OnOk r P → OnOk r Q
-on_ok (Ok x) f p = f p
-on_ok (Err e) f p = p
-
-pub on_err : {T E P Q : Type 0} (r : Result T E) → (P → Q) → OnErr r P → OnErr r Q
-on_err (Ok x) f p = p
-on_err (Err e) f p = f p
 
 pub any_err : {T E Q : Type 0} (r : Result T E) → Q → OnErr r Q
 any_err (Ok x) q = tt

@@ -1,6 +1,6 @@
 pub mod Agreeing
-pub mod Entries
 pub mod Journals
+pub mod Runs
 pub mod Serving
 pub mod Stopping
 pub mod Writing

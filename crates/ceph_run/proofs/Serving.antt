@@ -8,8 +8,9 @@ use Rattle.cs_io.specs.declared.whole.ReadFault.TheVariants as reading
 use Rattle.cs_io.proofs.Known.{took_none}
 use Rattle.cs_laws.specs.declared.events.Event.{Event}
 use Rattle.cs_laws.specs.declared.objects.ObjOp.{ObjOp}
+use Rattle.cs_laws.specs.Agreement.{Agrees}
 use Rattle.cs_laws.specs.Journal.{journal, text}
-use Rattle.cs_laws.specs.Operations.{applied}
+use Rattle.cs_laws.specs.Runs.{IsRun}
 use Rattle.cs_theorems.proofs.Together.{lawful}
 use Rattle.ceph_run.specs.declared.input.Input.{Input}
 use Rattle.ceph_run.specs.declared.input.Input.TheVariants.{Refused, Runs}
@@ -22,7 +23,6 @@ use Rattle.ceph_run.specs.Refusals.{refusal_line, refusal_status}
 use Rattle.ceph_run.specs.Served.{Served, Ends, Writes, IsFaultStatus, IsStopStatus}
 use Rattle.ceph_run.specs.Statuses.{read_status, run_status}
 use Rattle.ceph_run.specs.Stopped.{Stops, StopsInput}
-use Rattle.ceph_run.proofs.Agreeing.{agrees_with}
 use Rattle.ceph_run.proofs.Stopping.{stops_at_once, front_of_stop}
 
 -- Statuses
@@ -110,6 +110,7 @@ pub refused : (pages : ℕ) (r : Refusal) (status : ℕ) (taken_old taken_new : 
     → Writes (refusal_status r) status (refusal_line r) taken_old taken_new m n
     → Ends pages (Refused r) status taken_old taken_new m n ops j k
 refused pages r status taken_old taken_new m n ops j k none w = record {
+  lawful = tt;
   whole = λ e. (w.whole e, none);
   sink = λ e. (w.sink e, none);
   store = λ e. absurd (no_six (refusal_status r) status (refused_small r) w.known e);
@@ -121,18 +122,20 @@ refused pages r status taken_old taken_new m n ops j k none w = record {
 -- The input is run
 
 pub ran : (pages : ℕ) (es : List Event) (r : Result (Unit {0}) RunFault) (a b : Option (List ℕ)) (m n : ℕ) (ops : List ObjOp) (j k : ℕ)
-    → OnOk r (Appends a b (text (journal pages es))) → OnOk r (ops ≡ applied (journal pages es))
+    → IsRun pages (journal pages es) → OnOk r (Appends a b (text (journal pages es))) → OnOk r (Agrees ops (journal pages es))
     → IfErr r (λ f. Stops f pages es a b ops) → (IsErrOf r faults.Sink → Rose m n) → (IsErrOf r faults.Store → Rose j k)
     → Ends pages (Runs es) (run_status r) a b m n ops j k
-ran pages es (Ok x) a b m n ops j k whole listed stops sink store = record {
-  whole = λ e. (whole, listed);
+ran pages es (Ok x) a b m n ops j k run whole agreed stops sink store = record {
+  lawful = lawful pages (journal pages es) run;
+  whole = λ e. (whole, agreed);
   sink = λ e. absurd (omega arith);
   store = λ e. absurd (omega arith);
   memory = λ e. absurd (omega arith);
   cut = λ e. absurd (no_stop 0 (omega arith) e);
   known = inl refl;
 }
-ran pages es (Err faults.Sink) a b m n ops j k whole listed stops sink store = record {
+ran pages es (Err faults.Sink) a b m n ops j k run whole agreed stops sink store = record {
+  lawful = lawful pages (journal pages es) run;
   whole = λ e. absurd (omega arith);
   sink = λ e. (sink refl, stops);
   store = λ e. absurd (omega arith);
@@ -140,7 +143,8 @@ ran pages es (Err faults.Sink) a b m n ops j k whole listed stops sink store = r
   cut = λ e. front_of_stop faults.Sink pages es a b ops stops;
   known = inr (inl refl);
 }
-ran pages es (Err faults.Store) a b m n ops j k whole listed stops sink store = record {
+ran pages es (Err faults.Store) a b m n ops j k run whole agreed stops sink store = record {
+  lawful = lawful pages (journal pages es) run;
   whole = λ e. absurd (omega arith);
   sink = λ e. absurd (omega arith);
   store = λ e. (store refl, stops);
@@ -148,8 +152,9 @@ ran pages es (Err faults.Store) a b m n ops j k whole listed stops sink store = 
   cut = λ e. front_of_stop faults.Store pages es a b ops stops;
   known = inr (inr (inl refl));
 }
-ran pages es (Err faults.Log) a b m n ops j k whole listed stops sink store = absurd stops
-ran pages es (Err faults.Memory) a b m n ops j k whole listed stops sink store = record {
+ran pages es (Err faults.Log) a b m n ops j k run whole agreed stops sink store = absurd stops
+ran pages es (Err faults.Memory) a b m n ops j k run whole agreed stops sink store = record {
+  lawful = lawful pages (journal pages es) run;
   whole = λ e. absurd (omega arith);
   sink = λ e. absurd (omega arith);
   store = λ e. absurd (omega arith);
@@ -159,8 +164,10 @@ ran pages es (Err faults.Memory) a b m n ops j k whole listed stops sink store =
 }
 
 -- nothing was done for want of memory
-pub unmade : (pages : ℕ) (es : List Event) (a : Option (List ℕ)) (m : ℕ) (ops : List ObjOp) (k : ℕ) → ops ≡ [] → Ends pages (Runs es) 8 a a m m ops k k
-unmade pages es a m ops k none = record {
+pub unmade : (pages : ℕ) (es : List Event) (a : Option (List ℕ)) (m : ℕ) (ops : List ObjOp) (k : ℕ) → IsRun pages (journal pages es) → ops ≡ []
+    → Ends pages (Runs es) 8 a a m m ops k k
+unmade pages es a m ops k run none = record {
+  lawful = lawful pages (journal pages es) run;
   whole = λ e. absurd (omega arith);
   sink = λ e. absurd (omega arith);
   store = λ e. absurd (omega arith);
@@ -170,10 +177,6 @@ unmade pages es a m ops k none = record {
 }
 
 -- The input was read and judged
-
-lawful_run : (pages : ℕ) (input : Input) → IsLawfulRun pages input
-lawful_run pages (Runs es) = lawful pages es
-lawful_run pages (Refused r) = tt
 
 -- a status that says that no fault ended the run
 abbrev IsWholeStatus : ℕ → Type 0
@@ -232,7 +235,7 @@ judged_and_ended pages status input left_old left_new taken_old taken_new s t m 
   done = λ e.
       let same = no_fault (status_of input) status w.known (inl e) in (
         judge.read (not_too_long input status w.known (inl e) (omega arith)),
-        of_judged left_old input (λ x. IsLawfulRun pages x × AgreesWith pages x ops) judge.is (lawful_run pages input, agrees_with pages input ops (w.whole same).1),
+        of_judged left_old input (λ x. IsLawfulRun pages x × AgreesWith pages x ops) judge.is (w.lawful, (w.whole same).1),
       );
   refused = λ e. judge.read (not_too_long input status w.known (inr (inl e)) (omega arith));
   ended = λ e.

@@ -12,11 +12,11 @@ use Rattle.cs_io.proofs.Known.{appends_more, appends_none}
 use Rattle.cs_laws.specs.declared.events.Event.{Event}
 use Rattle.cs_laws.specs.declared.answers.Entry.{Entry}
 use Rattle.cs_laws.specs.Journal.{history, journal, entry, header, lines, line, text, end_line}
-use Rattle.ceph_run.specs.Lines.{newest_line}
 use Rattle.cs_laws.specs.declared.faults.StepFault.{StepFault}
 use Rattle.cs_laws.specs.declared.faults.StepFault.TheVariants as stepping
 use Rattle.cs_laws.specs.declared.objects.ObjOp.{ObjOp}
 use Rattle.cs_laws.specs.Operations.{applied}
+use Rattle.cs_laws.specs.Runs.{IsRun}
 use Rattle.cs_world.specs.Storing.{AppliesFront, brings}
 use Rattle.ceph_run.specs.declared.run_fault.RunFault.{RunFault}
 use Rattle.ceph_run.specs.declared.run_fault.RunFault.TheVariants as faults
@@ -25,13 +25,10 @@ use Rattle.ceph_run.specs.declared.write_fault.WriteFault.TheVariants as writing
 use Rattle.ceph_run.specs.Statuses.{of_write, of_step}
 use Rattle.ceph_run.specs.Stopped.{written_before, written_by, StopsAfter, StopsIn, Stops}
 use Rattle.ceph_run.proofs.Agreeing.{agrees}
+use Rattle.ceph_run.proofs.Runs.{history-append, journal_front, front_run}
 use Rattle.ceph_run.proofs.Journals.{longer, behind_whole, front_whole, took_nothing, text_history}
 
 -- The journal of the events so far
-
-history-append : (pages : ℕ) (h : List Entry) (xs ys : List Event) → history pages h (xs ++ ys) ≡ history pages (history pages h xs) ys
-history-append pages h [] ys = refl
-history-append pages h (e ∷ xs) ys = history-append pages (entry pages h e ∷ h) xs ys
 
 journal-more : (pages : ℕ) (es : List Event) (i : ℕ) (e : Event) → i < length es → e ≡ get_or es i e
     → journal pages (take (suc i) es) ≡ entry pages (journal pages (take i es)) e ∷ journal pages (take i es)
@@ -85,8 +82,7 @@ text_begins_if : (pages : ℕ) (es : List Event) (n : ℕ) (b : Bool) → (n == 
 text_begins_if pages es n true last = ([], sym (append-nil (text (journal pages es))))
 text_begins_if pages es n false last =
     let h : List Entry = journal pages (take n es) in
-    text_history pages h (drop n es) (journal pages es)
-    (sym (history-append pages [] (take n es) (drop n es)) ∙ ap (λ xs. journal pages xs) (take-append-drop n es))
+    text_history pages h (drop n es) (journal pages es) (journal_front pages n es)
 
 text_begins : (pages : ℕ) (es : List Event) (n : ℕ) → (behind : List ℕ) × (text (journal pages es) ≡ written_by pages es n ++ behind)
 text_begins pages es n = text_begins_if pages es n (n == length es) refl
@@ -101,9 +97,7 @@ front_of_text pages es old new ops s =
 front_in_text : (pages : ℕ) (es : List Event) (old new : Option (List ℕ)) (ops : List ObjOp) → StopsIn pages es old new ops → AppendsFront old new (text (journal pages es))
 front_in_text pages es old new ops s =
     let h : List Entry = journal pages (take s.done es) in
-    let rest =
-    text_history pages h (drop s.done es) (journal pages es)
-    (sym (history-append pages [] (take s.done es) (drop s.done es)) ∙ ap (λ xs. journal pages xs) (take-append-drop s.done es)) in
+    let rest = text_history pages h (drop s.done es) (journal pages es) (journal_front pages s.done es) in
     rw rest.1 (front_whole old new (header ++ lines h) rest.0 s.lines)
 
 -- whatever stops it
@@ -142,7 +136,7 @@ stops_at_once pages es a ops none = record {
   few = omega arith;
   lines = ([], appends_none a);
   no_more = took_nothing a (written_by pages es 0);
-  agrees = agrees pages (take 0 es) ops none;
+  agrees = agrees pages [] ops tt none;
 }
 
 -- in the header
@@ -154,7 +148,7 @@ stops_in_header pages es old new ops none t =
       few = omega arith;
       lines = (t.1.front, t.1.taken);
       no_more = longer old new header (lines (journal pages (take 0 es)) ++ upto.0) (written_by pages es 0) (upto.1 ∙ append_assoc header (lines (journal pages (take 0 es))) upto.0) t;
-      agrees = agrees pages (take 0 es) ops none;
+      agrees = agrees pages [] ops tt none;
     }
 
 -- in an event
@@ -172,28 +166,29 @@ stops_in_event pages kept es i e h old new before ops inside is same so_far take
     }
 
 -- in the line of an event
-pub stops_in_line : (pages : ℕ) (es : List Event) (i : ℕ) (h more : List Entry) (x : Entry) (old mid new : Option (List ℕ)) (ops : List ObjOp) → i < length es
-    → ops ≡ applied more → h ≡ journal pages (take i es) → more ≡ x ∷ h → more ≡ journal pages (take (suc i) es)
-    → Appends old mid (header ++ lines h) → AppendsFront mid new (newest_line more) → StopsAfter pages es old new ops
-stops_in_line pages es i h more x old mid new ops inside listed so_far grown stepped taken now =
+pub stops_in_line : (pages : ℕ) (es : List Event) (i : ℕ) (h more : List Entry) (x : Entry) (n : ℕ) (old mid new : Option (List ℕ)) (ops : List ObjOp) → i < length es
+    → IsRun pages (journal pages es) → ops ≡ applied more → h ≡ journal pages (take i es) → more ≡ x ∷ h → more ≡ journal pages (take (suc i) es)
+    → n ≡ length h + 1 → Appends old mid (header ++ lines h) → AppendsFront mid new (line n x) → StopsAfter pages es old new ops
+stops_in_line pages es i h more x n old mid new ops inside run listed so_far grown stepped count taken now =
     let upto = by_begins pages es (suc i) in
-    let last : AppendsFront mid new (newest_line (x ∷ h)) = rw grown at now in
-    let all : AppendsFront old new ((header ++ lines h) ++ newest_line (x ∷ h)) = behind_whole old mid new (header ++ lines h) (newest_line (x ∷ h)) taken last in
-    let same : (header ++ lines h) ++ newest_line (x ∷ h) ≡ header ++ lines (journal pages (take (suc i) es)) =
-    append_assoc header (lines h) (newest_line (x ∷ h)) ∙ ap (λ hs. header ++ lines hs) (sym grown ∙ stepped) in
+    let last : AppendsFront mid new (line (length h + 1) x) = rw count at now in
+    let all : AppendsFront old new ((header ++ lines h) ++ line (length h + 1) x) = behind_whole old mid new (header ++ lines h) (line (length h + 1) x) taken last in
+    let same : (header ++ lines h) ++ line (length h + 1) x ≡ header ++ lines (journal pages (take (suc i) es)) =
+    append_assoc header (lines h) (line (length h + 1) x) ∙ ap (λ hs. header ++ lines hs) (sym grown ∙ stepped) in
     let P : List ℕ → Type 0 = λ xs. Appends old new (xs ++ last.1.front) in
     record {
       done = suc i;
       few = omega arith;
       lines = (last.1.front, subst P (ap (λ hs. header ++ lines hs) so_far) (appends_more old mid new (header ++ lines h) last.1.front taken last.1.taken));
-      no_more = longer old new ((header ++ lines h) ++ newest_line (x ∷ h)) upto.0 (written_by pages es (suc i)) (upto.1 ∙ ap (λ xs. xs ++ upto.0) (sym same)) all;
-      agrees = agrees pages (take (suc i) es) ops (listed ∙ ap (λ hs. applied hs) stepped);
+      no_more = longer old new ((header ++ lines h) ++ line (length h + 1) x) upto.0 (written_by pages es (suc i)) (upto.1 ∙ ap (λ xs. xs ++ upto.0) (sym same)) all;
+      agrees = agrees pages (journal pages (take (suc i) es)) ops (front_run pages (suc i) es run) (listed ∙ ap (λ hs. applied hs) stepped);
     }
 
 -- in the end line
-pub stops_in_end : (pages : ℕ) (es : List Event) (n k : ℕ) (h : List Entry) (old mid new : Option (List ℕ)) (ops : List ObjOp) → n ≡ length es → ops ≡ applied h → h ≡ journal pages (take n es)
-    → k ≡ length h → Appends old mid (header ++ lines h) → AppendsFront mid new (end_line k) → StopsAfter pages es old new ops
-stops_in_end pages es n k h old mid new ops all listed so_far count taken now =
+pub stops_in_end : (pages : ℕ) (es : List Event) (n k : ℕ) (h : List Entry) (old mid new : Option (List ℕ)) (ops : List ObjOp) → n ≡ length es
+    → IsRun pages (journal pages es) → ops ≡ applied h → h ≡ journal pages (take n es) → k ≡ length h
+    → Appends old mid (header ++ lines h) → AppendsFront mid new (end_line k) → StopsAfter pages es old new ops
+stops_in_end pages es n k h old mid new ops all run listed so_far count taken now =
     let from = before_begins pages es n (omega arith) in
     let end : AppendsFront mid new (end_line (length h)) = rw count at now in
     let whole : h ≡ journal pages es = journal_all pages h es n (omega arith) so_far in
@@ -210,5 +205,5 @@ stops_in_end pages es n k h old mid new ops all listed so_far count taken now =
             (appends_more old mid new (header ++ lines h) end.1.front taken end.1.taken),
       );
       no_more = rw (by_all pages es n all) (subst P whole written);
-      agrees = agrees pages (take n es) ops (listed ∙ ap (λ hs. applied hs) so_far);
+      agrees = agrees pages (journal pages (take n es)) ops (front_run pages n es run) (listed ∙ ap (λ hs. applied hs) so_far);
     }

@@ -8,7 +8,6 @@ use Rattle.cs_laws.specs.declared.objects.ObjOp.{ObjOp}
 use Rattle.cs_laws.specs.Agreement.{Agrees}
 use Rattle.cs_laws.specs.Grammar.{script_of}
 use Rattle.cs_laws.specs.Journal.{journal, text}
-use Rattle.cs_laws.specs.Operations.{applied}
 use Rattle.cs_laws.specs.Laws.{Laws}
 use Rattle.ceph_run.specs.declared.input.Input.{Input}
 use Rattle.ceph_run.specs.declared.input.Input.TheVariants.{Refused, Runs}
@@ -46,11 +45,6 @@ status_of (Refused r) = refusal_status r
 abbrev pub output : ℕ → Input → List ℕ
 output pages (Runs es) = text (journal pages es)
 output pages (Refused r) = refusal_line r
-
--- the operations that the store has after its run, the newest first, unless a fault ends that
-abbrev pub stored : ℕ → Input → List ObjOp
-stored pages (Runs es) = applied (journal pages es)
-stored pages (Refused r) = []
 
 -- the store agrees with the journal that it writes: it lists exactly the operations that this implies, and with the server's records
 -- each state of a file that isn't owed reads back as its writes

@@ -1,5 +1,4 @@
 pub mod Inputs
-pub mod Lines
 pub mod Refusals
 pub mod Served
 pub mod Statuses

@@ -6,10 +6,10 @@ use Rattle.cs_io.specs.Whole.{AppendsFront}
 use Rattle.cs_laws.specs.declared.objects.ObjOp.{ObjOp}
 use Rattle.ceph_run.specs.declared.input.Input.{Input}
 use Rattle.ceph_run.specs.declared.run_fault.RunFault.TheVariants as faults
-use Rattle.ceph_run.specs.Inputs.{judged, status_of, output, stored, AgreesWith, IsLawfulRun}
+use Rattle.ceph_run.specs.Inputs.{judged, status_of, output, AgreesWith, IsLawfulRun}
 use Rattle.ceph_run.specs.Stopped.{StopsInput}
 
--- the source, the sink and the store at one moment: the bytes left and the bytes taken, where told, the operations that were applied,
+-- the source, the sink and the store at one moment: the bytes left and the bytes taken, where these are known, the operations that were applied,
 -- the newest first, and how often each failed
 pub record Devices : Type 0 where
   pub left : Option (List ℕ)
@@ -40,8 +40,10 @@ pub record Writes (whole_status status : ℕ) (bytes : List ℕ) (taken_old take
 -- what became of an input that was judged
 pub record Ends (pages : ℕ) (input : Input) (status : ℕ) (taken_old taken_new : Option (List ℕ)) (sink_old sink_new : ℕ) (ops : List ObjOp)
     (store_old store_new : ℕ) : Type 0 where
-  -- unless a fault came, the sink took all that is told of it, and the store lists what it brings
-  pub whole : status ≡ status_of input → Appends taken_old taken_new (output pages input) × (ops ≡ stored pages input)
+  -- the laws hold of its journal, if it has one
+  pub lawful : IsLawfulRun pages input
+  -- unless a fault came, the sink took all that is written of it, and the store agrees with its journal
+  pub whole : status ≡ status_of input → Appends taken_old taken_new (output pages input) × AgreesWith pages input ops
   pub sink : status ≡ 5 → Rose sink_old sink_new × StopsInput faults.Sink pages input taken_old taken_new ops
   pub store : status ≡ 6 → Rose store_old store_new × StopsInput faults.Store pages input taken_old taken_new ops
   pub memory : status ≡ 8 → StopsInput faults.Memory pages input taken_old taken_new ops

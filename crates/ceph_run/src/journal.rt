@@ -1,27 +1,25 @@
 // Does the events of a script and writes the journal as they are done.
 ghost use Rattle.std.specs.Prelude.{◌≡◌, ◌<◌, ◌≤◌, [], true, length, OnOk, OnErr, IsErrOf, IfOk, IfErr, string_bytes};
 ghost use Rattle.std.specs.Io.KnownBytes.{Appends};
-ghost use Rattle.std.specs.List.{AllPass};
 ghost use Rattle.cs_ids.specs.Devices.{Rose};
 ghost use Rattle.cs_io.specs.Whole.{AppendsFront};
-ghost use Rattle.cs_laws.specs.Fits.{fits};
-ghost use Rattle.cs_laws.specs.Journal.{journal, text, end_line};
-ghost use Rattle.cs_laws.specs.Operations.{applied};
-ghost use Rattle.ceph_run.specs.Lines.{newest_line};
+ghost use Rattle.cs_laws.specs.Agreement.{Agrees};
+ghost use Rattle.cs_laws.specs.Journal.{journal, line, text, end_line};
+ghost use Rattle.cs_laws.specs.Runs.{IsScript};
 ghost use Rattle.ceph_run.specs.Stopped.{Stops};
 
 use crate::run_fault::RunFault;
 use crate::write_fault::WriteFault;
 use cs_ids::Bytes;
 use cs_io::{Sink, write_all};
-use cs_laws::Event;
+use cs_laws::{Answer, Event};
 use cs_objstore::ObjStore;
 use cs_script::print_entry;
 use cs_world::World;
 use std::alloc::{AllocError, Global};
 
 /// Does the events in order. Writes the header first, the line of each entry after its event, and the
-/// end line last. The store then lists the operations of the journal.
+/// end line last. The store then agrees with the journal.
 ///
 /// Where the sink fails it has all lines before that of the last event that was done, and no byte of a
 /// later event's, and the store lists the operations of the events done. Where the store fails in an
@@ -37,44 +35,46 @@ pub fn write_journal<K: Sink, O: ObjStore, L>(
     requires fresh { world.old.history ≡ [] }
     requires empty { O.ops world.old.store ≡ [] }
     requires few { length events.now ≤ 10000 }
-    requires fitting { AllPass fits events.now }
+    requires script { IsScript events.now }
     ensures ok { OnOk result (Appends (K.taken sink.old) (K.taken sink.new) (text (journal world.old.pages events.now))) }
-    ensures listed { OnOk result (O.ops world.new.store ≡ applied (journal world.old.pages events.now)) }
+    ensures agrees { OnOk result (Agrees (O.ops world.new.store) (journal world.old.pages events.now)) }
     ensures err { IfErr result (λ f. Stops f world.old.pages events.now (K.taken sink.old) (K.taken sink.new) (O.ops world.new.store)) }
     ensures sink { IsErrOf result RunFault.Sink → Rose (K.faults sink.old) (K.faults sink.new) }
     ensures store { IsErrOf result RunFault.Store → Rose (O.faults world.old.store) (O.faults world.new.store) }
     ensures log { world.new.log ≡ world.old.log }
 {
     write_all(sink, b"ceph-journal 1\n")?;
-    let mut line = Bytes::new(alloc);
+    let mut text = Bytes::new(alloc);
     for event in events {
-        world.step(event)?;
-        write_newest(world, &mut line, sink)?;
+        let answer = world.step(event)?;
+        let number = world.entries().len() as u32;
+        write_entry(number, event, &answer, &mut text, sink)?;
     }
     let count = world.entries().len();
     write_end(alloc, count, sink)?;
     Ok(())
 }
 
-// Writes the line of the newest entry, and nothing where there is none.
-fn write_newest<K: Sink, O: ObjStore, L>(
-    world: &World<O, L>,
-    line: &mut Bytes,
+// Writes the line of an entry. The text is scratch.
+fn write_entry<K: Sink>(
+    number: u32,
+    event: &Event,
+    answer: &Answer,
+    text: &mut Bytes,
     sink: &mut K,
 ) -> Result<(), WriteFault>
-    requires { length world.now.history ≤ 10000 }
-    ensures ok { OnOk result (Appends (K.taken sink.old) (K.taken sink.new) (newest_line world.now.history)) }
-    ensures err { OnErr result (AppendsFront (K.taken sink.old) (K.taken sink.new) (newest_line world.now.history)) }
+    ensures ok {
+        OnOk result (Appends (K.taken sink.old) (K.taken sink.new) (line number (record { event = event.now; answer = answer.now })))
+    }
+    ensures err {
+        OnErr result (AppendsFront (K.taken sink.old) (K.taken sink.new) (line number (record { event = event.now; answer = answer.now })))
+    }
     ensures later { K.faults sink.old ≤ K.faults sink.new }
     ensures cause { IsErrOf result WriteFault.Sink → Rose (K.faults sink.old) (K.faults sink.new) }
 {
-    let entries = world.entries();
-    let Some(newest) = entries.last() else {
-        return Ok(());
-    };
-    line.clear();
-    print_entry(entries.len() as u32, newest, line)?;
-    write_all(sink, line.as_slice())?;
+    text.clear();
+    print_entry(number, event, answer, text)?;
+    write_all(sink, text.as_slice())?;
     Ok(())
 }
 

@@ -1,10 +1,9 @@
 // Runs the script of a source.
 ghost use Rattle.std.specs.Prelude.{◌≡◌, ◌≤◌, ◌⊎◌, [], length, OnOk, OnErr, IsErrOf, IfOk, string_bytes};
 ghost use Rattle.std.specs.Io.KnownBytes.{Appends};
-ghost use Rattle.std.specs.List.{AllPass};
 ghost use Rattle.cs_ids.specs.Devices.{Rose};
 ghost use Rattle.cs_io.specs.Whole.{AppendsFront};
-ghost use Rattle.cs_laws.specs.Fits.{fits};
+ghost use Rattle.cs_laws.specs.Runs.{IsScript};
 ghost use Rattle.ceph_run.specs.declared.input.Input.TheVariants.{Runs};
 ghost use Rattle.ceph_run.specs.Inputs.{IsWithinLimit};
 ghost use Rattle.ceph_run.specs.Refusals.{refusal_line, refusal_status};
@@ -27,9 +26,9 @@ use std::alloc::{AllocError, Global};
 /// the operations that the journal implies, and the log is handed back as it came.
 ///
 /// The status is 0 where all was written. An input that is no script is refused by a line of its own
-/// with status 2, and one that exceeds a limit, 1,048,576 bytes or 10,000 events, with status 3. Where
-/// the source fails the status is 4, where the sink fails 5, where the store fails 6, and 8 for want
-/// of memory. At 2, 3 and 4 the store is handed back as it came.
+/// with status 2, and one that exceeds a limit, 1,048,576 bytes, 10,000 events, 64 files or 64
+/// directories, with status 3. Where the source fails the status is 4, where the sink fails 5, where
+/// the store fails 6, and 8 for want of memory. At 2, 3 and 4 the store is handed back as it came.
 pub fn serve_run<S: Source, K: Sink, O: ObjStore, L>(
     alloc: Global,
     pages: u32,
@@ -145,7 +144,7 @@ fn run_events<K: Sink, O: ObjStore, L>(
 ) -> Finished<O, L>
     requires pages { (1 ≤ pages) × (pages ≤ 1024) }
     requires few { length events.now ≤ 10000 }
-    requires fitting { AllPass fits events.now }
+    requires script { IsScript events.now }
     requires empty { O.ops store ≡ [] }
     ensures ends { Ends pages (Runs events.now) result.status (K.taken sink.old) (K.taken sink.new) (K.faults sink.old) (K.faults sink.new)
         (O.ops result.store) (O.faults store) (O.faults result.store) }

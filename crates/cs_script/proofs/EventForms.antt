@@ -69,7 +69,7 @@ abbrev pub snap_form : Form
 snap_form = record { word = codes "snap"; fields = inode ∷ snap_name ∷ []; make = λ v. events.Snap v.0 v.1.0 }
 
 abbrev pub remove_form : Form
-remove_form = record { word = codes "rmsnap"; fields = inode ∷ []; make = λ v. events.RemoveSnap v.0 }
+remove_form = record { word = codes "rmsnap"; fields = inode ∷ []; make = λ v. events.RmSnap v.0 }
 
 abbrev pub commit_form : Form
 commit_form = record { word = codes "commit"; fields = []; make = λ v. events.Commit }
@@ -95,7 +95,7 @@ spelling events.ToMds = (to_mds_form, tt)
 spelling (events.Grant f bits max) = (grant_form, (f, (bits, (max, tt))))
 spelling (events.Revoke f bits) = (revoke_form, (f, (bits, tt)))
 spelling (events.Snap d name) = (snap_form, (d, (name, tt)))
-spelling (events.RemoveSnap s) = (remove_form, (s, tt))
+spelling (events.RmSnap s) = (remove_form, (s, tt))
 spelling events.Commit = (commit_form, tt)
 spelling (events.Show f a off len) = (show_form, (f, (a, (off, (len, tt)))))
 
@@ -146,7 +146,7 @@ spelled_fits events.ToMds s = (tt, refl)
 spelled_fits (events.Grant f bits max) s = (s.0.0, both _ _ s.0.1.0 (at_most max greatest_end s.0.1.1.0.1))
 spelled_fits (events.Revoke f bits) s = (s.0.0, s.0.1.0)
 spelled_fits (events.Snap d name) s = ((s.0.0, s.0.1.0), refl)
-spelled_fits (events.RemoveSnap n) s = ((omega arith, s.0.0.1), grind (arith, nat_tests))
+spelled_fits (events.RmSnap n) s = ((omega arith, s.0.0.1), grind (arith, nat_tests))
 spelled_fits events.Commit s = (tt, refl)
 spelled_fits (events.Show f a off len) s = ((s.0.0, s.0.1.0.0), both _ _ s.0.1.0.1 (shown off len (omega arith) (omega arith) (omega arith)))
 
@@ -204,7 +204,7 @@ fits_spelled (events.Grant f bits max) is fit =
     ((is, (set.0, (set.1, tt))), refl)
 fits_spelled (events.Revoke f bits) is fit = ((is, (fit, tt)), refl)
 fits_spelled (events.Snap d name) is fit = ((is.0, (is.1, tt)), refl)
-fits_spelled (events.RemoveSnap s) is fit = (((leb-true 1 s fit, is.1), tt), refl)
+fits_spelled (events.RmSnap s) is fit = (((leb-true 1 s fit, is.1), tt), refl)
 fits_spelled events.Commit is fit = (tt, refl)
 fits_spelled (events.Show f a off len) is fit =
     let parts = and_parts (is_state a) (is_shown off len) fit in
@@ -234,7 +234,7 @@ joined events.ToMds = refl
 joined (events.Grant f bits max) = simp append_assoc
 joined (events.Revoke f bits) = simp append_assoc
 joined (events.Snap d name) = simp append_assoc
-joined (events.RemoveSnap s) = refl
+joined (events.RmSnap s) = refl
 joined events.Commit = refl
 joined (events.Show f a off len) = simp append_assoc
 
@@ -264,7 +264,7 @@ forms_plain events.ToMds = refl
 forms_plain (events.Grant f bits max) = refl
 forms_plain (events.Revoke f bits) = refl
 forms_plain (events.Snap d name) = refl
-forms_plain (events.RemoveSnap s) = refl
+forms_plain (events.RmSnap s) = refl
 forms_plain events.Commit = refl
 forms_plain (events.Show f a off len) = refl
 

@@ -7,6 +7,7 @@ pub mod Linewise
 pub mod Modes
 pub mod RoundTrip
 pub mod Scripts
+pub mod SetupOrder
 pub mod TextsRead
 pub mod Visible
 pub mod WordsRead

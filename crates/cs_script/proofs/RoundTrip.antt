@@ -58,7 +58,7 @@ event_read events.ToMds s = refl
 event_read (events.Grant f bits max) s = plainly_read grant_form (f, (bits, (max, tt))) s.0
 event_read (events.Revoke f bits) s = plainly_read revoke_form (f, (bits, tt)) s.0
 event_read (events.Snap d name) s = plainly_read snap_form (d, (name, tt)) s.0
-event_read (events.RemoveSnap n) s = plainly_read remove_form (n, tt) s.0
+event_read (events.RmSnap n) s = plainly_read remove_form (n, tt) s.0
 event_read events.Commit s = refl
 event_read (events.Show f a off len) s = plainly_read show_form (f, (a, (off, (len, tt)))) s.0
 
@@ -203,3 +203,17 @@ unfolding line_event
 line_event_fits setup l e h =
     let d = binds (event_of (words_in l)) (in_time setup) e h in
     rw (in_time_is (is_setup d.value && not setup) d.value e d.rest) (only_text_read (words_in l) d.value d.is).1
+
+in_time_early : (setup : Bool) (e d : Event) → in_time setup d ≡ Ok e → is_setup e ≡ true → setup ≡ true
+in_time_early true e d h is = refl
+in_time_early false e d h is =
+    let same : d ≡ e = sym (in_time_is (is_setup d && true) d e h) in
+    let late : in_time false d ≡ Err kinds.Late = rw (ap is_setup same ∙ is) refl in
+    absurd (cc)
+
+-- and a setup line comes while setup lines may come
+pub line_event_early : (setup : Bool) (l : List ℕ) (e : Event) → line_event setup l ≡ Ok e → is_setup e ≡ true → setup ≡ true
+unfolding line_event
+line_event_early setup l e h is =
+    let d = binds (event_of (words_in l)) (in_time setup) e h in
+    in_time_early setup e d.value d.rest is

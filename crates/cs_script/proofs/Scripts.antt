@@ -9,8 +9,10 @@ use Rattle.cs_laws.specs.declared.events.Event.{Event}
 use Rattle.cs_laws.specs.Fits.{fits}
 use Rattle.cs_laws.specs.Grammar.{Words, in_time, is_setup, line_event, is_long, is_skipped, events_from, script_of}
 use Rattle.cs_laws.specs.Texts.{event_text}
-use Rattle.cs_script.specs.Spelling.{IsEvent, lines_of, script_text, InTime}
+use Rattle.cs_laws.specs.Runs.{IsScript}
+use Rattle.cs_script.specs.Spelling.{IsEvent, lines_of, script_text}
 use Rattle.cs_script.proofs.RoundTrip.{text_read, no_newline, text_few, not_skipped}
+use Rattle.cs_script.proofs.SetupOrder.{InTime, stand_in_time}
 
 first_line : (t rest : List ℕ) → All (λ b. (b == 10) ≡ false) t → lines_in (t ++ 10 ∷ rest) ≡ t ∷ lines_in rest
 first_line [] rest h = refl
@@ -42,6 +44,6 @@ events_read n setup (e ∷ es) are fit early =
     ap (events_from n setup) (first_line t (lines_of es) (no_newline e is this))
     ∙ one_more n setup t (lines_in (lines_of es)) e es long (not_skipped e) (line_read setup e is this early.0) rest
 
-pub script_read : (es : List Event) → All IsEvent es → AllPass fits es → InTime true es → script_of (script_text es) ≡ Ok es
+pub script_read : (es : List Event) → All IsEvent es → IsScript es → script_of (script_text es) ≡ Ok es
 unfolding script_of
-script_read es are fit early = events_read 2 true es are fit early
+script_read es are script = events_read 2 true es are script.spelled (stand_in_time true es script.setup)

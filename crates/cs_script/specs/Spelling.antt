@@ -49,7 +49,7 @@ IsEvent events.ToMds = Unit {0}
 IsEvent (events.Grant f bits max) = IsIno f
 IsEvent (events.Revoke f bits) = IsIno f
 IsEvent (events.Snap d name) = IsIno d × (is_name name ≡ true)
-IsEvent (events.RemoveSnap s) = IsSnap s
+IsEvent (events.RmSnap s) = IsSnap s
 IsEvent events.Commit = Unit {0}
 IsEvent (events.Show f a off len) = IsIno f × IsAt a
 
@@ -60,8 +60,3 @@ lines_of (e ∷ es) = event_text e ++ 10 ∷ lines_of es
 
 abbrev pub script_text : List Event → List ℕ
 script_text es = script_header ++ 10 ∷ lines_of es
-
--- no event stands too late, where setup says whether events that begin a script may still come
-abbrev pub InTime : Bool → List Event → Type 0
-InTime setup [] = Unit {0}
-InTime setup (e ∷ es) = (in_time setup e ≡ Ok e) × InTime (setup && is_setup e) es

@@ -177,7 +177,7 @@ fn remove_from(words: &[&[u8]]) -> Result<Event, LineFault>
     ensures { Spells result (remove_of (texts words.now)) }
 {
     let snap = snap_at(words, 1)?;
-    only(2, Event::RemoveSnap { snap }, words)
+    only(2, Event::RmSnap { snap }, words)
 }
 
 #[tactic(auto, unfolding(cs_laws::specs::Grammar::show_of))]

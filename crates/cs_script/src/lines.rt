@@ -1,8 +1,8 @@
 // Reads a script, line by line.
 ghost use Rattle.std.specs.Prelude.{◌≡◌, ◌∷◌, IfOk, OnOk, true};
-ghost use Rattle.std.specs.List.{AllPass};
-ghost use Rattle.cs_laws.specs.Fits.{fits};
+ghost use Rattle.std.specs.List.{list_all};
 ghost use Rattle.cs_laws.specs.Grammar.{in_time, is_setup, line_event, is_skipped, events_from, script_of, words_in, at_line};
+ghost use Rattle.cs_laws.specs.Runs.{IsScript};
 ghost use Rattle.cs_script.specs.Reading.{Gives, Spells, Reads, Pushes, texts};
 
 use crate::Script;
@@ -84,7 +84,7 @@ fn push_line(
 ) -> Result<bool, ParseFault>
     ensures pushes { Pushes events.old.items events.new.items setup result
         (at_line number (line_event setup line.now)) }
-    ensures fitting { AllPass fits events.old.items → OnOk result (AllPass fits events.new.items) }
+    ensures script { IsScript events.old.items → setup ≡ list_all is_setup events.old.items → OnOk result (IsScript events.new.items) }
 {
     let _told: Option<RefName> = None;
     let event = line_event(alloc, setup, line).map_err(|fault| fault.at_line(number))?;
@@ -98,7 +98,7 @@ fn push_line(
 // The events of the lines behind the header.
 fn events_behind(alloc: Global, mut lines: Lines<'_>) -> Result<Vec<Event>, ParseFault>
     ensures reads { Reads (λ v. v.items) result (events_from 2 true lines.entry) }
-    ensures fitting { IfOk result (λ v. AllPass fits v.items) }
+    ensures script { IfOk result (λ v. IsScript v.items) }
 {
     let mut events = Vec::new(alloc);
     let mut setup = true;

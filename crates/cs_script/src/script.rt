@@ -1,12 +1,13 @@
 // A script that was read.
 ghost use Rattle.std.specs.Prelude.{◌≡◌, ◌==◌, length, option_copied, slice_get, true, IfSome};
-ghost use Rattle.std.specs.List.{AllPass};
 ghost use Rattle.cs_laws.specs.Fits.{fits};
+ghost use Rattle.cs_laws.specs.Runs.{IsScript};
 
 use cs_laws::Event;
 use std::marker::Model;
 
-/// The events of a script, in order. Each of them fits a script.
+/// The events of a script, in order. Each of them fits a script, and setup lines stand before all
+/// others.
 #[derive(Drop)]
 pub struct Script {
     events: Vec<Event>,
@@ -14,21 +15,20 @@ pub struct Script {
 
 impl Model for Script {
     ghost use Rattle.std.specs.Prelude.{List};
-    ghost use Rattle.std.specs.List.{AllPass};
-    ghost use Rattle.cs_laws.specs.Fits.{fits};
+    ghost use Rattle.cs_laws.specs.Runs.{IsScript};
     ghost use Rattle.cs_laws.specs.declared.events.Event.{Event};
 
     ghost Value = { List Event };
 
     ghost view = { λ s. s.events.items };
 
-    ghost invariant = { λ s. AllPass fits s.events.items };
+    ghost invariant = { λ s. IsScript s.events.items };
 }
 
 impl Script {
-    // The script of these events, each of which fits one. It takes no memory.
+    // The script of these events. It takes no memory.
     pub(crate) fn from_events(events: Vec<Event>) -> Self
-        requires { AllPass fits events.items }
+        requires { IsScript events.items }
         ensures { result ≡ events.items }
     {
         Script { events }
@@ -59,7 +59,7 @@ impl Script {
     /// All events.
     pub fn events(&self) -> &[Event]
         ensures events { result.now ≡ self.now }
-        ensures fitting { AllPass fits result.now }
+        ensures script { IsScript result.now }
     {
         self.events.as_slice()
     }

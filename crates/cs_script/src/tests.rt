@@ -1,7 +1,7 @@
 // What no clause says: that these calls succeed with ample memory.
 use crate::{Kind, ParseFault, ScriptFault, parse, print_entry, print_event};
 use cs_ids::{Bytes, Ino};
-use cs_laws::{Answer, Entry, Event};
+use cs_laws::{Answer, Event};
 use std::test::Fail;
 
 const SCRIPT: &[u8] = b"ceph-script 1\nfile 100 1\n\nwrite 32 g7 1048573 005aff\nsnap 1 a-1\n";
@@ -32,12 +32,8 @@ fn print_event_adds_the_event(rt: HostRuntime) -> Result<(), Fail> {
 
 #[test]
 fn print_entry_adds_the_line(rt: HostRuntime) -> Result<(), Fail> {
-    let entry = Entry {
-        event: Event::ToClient,
-        answer: Answer::Idle,
-    };
     let mut out = Bytes::new(rt.alloc());
-    print_entry(3, &entry, &mut out)?;
+    print_entry(3, &Event::ToClient, &Answer::Idle, &mut out)?;
     assert_eq!(rt; out.as_slice(), b"3 toclient -> idle\n".as_slice());
     Ok(())
 }

@@ -1,15 +1,19 @@
-use Rattle.std.proofs.Common.{◌≡◌, ◌∙◌, ◌∷◌, sym, ap, refl, length, add-one, arith, Result, Err}
+use Rattle.std.proofs.Common.{◌≡◌, ◌∙◌, suc, ◌+◌, ◌∷◌, sym, ap, refl, subst, length, add-one, arith, Result, Err}
 use Rattle.std.proofs.lemmas.List.{length-reverse}
 use Rattle.cs_laws.specs.declared.answers.Answer.{Answer}
 use Rattle.cs_laws.specs.declared.answers.Entry.{Entry}
 use Rattle.cs_laws.specs.declared.faults.StepFault.{StepFault}
 use Rattle.cs_laws.specs.declared.faults.StepFault.TheVariants as stepping
-use Rattle.cs_laws.specs.Journal.{journal, entry}
+use Rattle.std.specs.Io.KnownBytes.{Appends}
+use Rattle.cs_io.specs.Whole.{AppendsFront}
+use Rattle.cs_laws.specs.Journal.{journal, entry, line}
 use Rattle.cs_laws.specs.Operations.{applied}
 use Rattle.ceph_run.specs.declared.run_fault.RunFault.TheVariants as faults
 use Rattle.ceph_run.specs.declared.write_fault.WriteFault.{WriteFault}
 use Rattle.ceph_run.specs.Statuses.{of_step, of_write}
 use Rattle.ceph_run.proofs.Journals.{line_step, text_step}
+use Rattle.ceph_run.proofs.Agreeing.{agrees}
+use Rattle.ceph_run.proofs.Runs.{script_run, next_follows}
 use Rattle.ceph_run.proofs.Stopping.{journal_step, journal_all, stops_in_header, stops_in_event, stops_in_line, stops_in_end, stops_of_write, stops_of_step, if_err_is}
 use Rattle.ceph_run.proofs.journal.write_journal.Goals as goal
 
@@ -31,39 +35,55 @@ loop-event-init g c = record {
   stored = omega arith;
 }
 
-pub returns-in_err-step-clause-err : goal.returns-in_err-step-clause-err
-returns-in_err-step-clause-err g c =
+pub step-requires-clause-setup : goal.step-requires-clause-setup
+step-requires-clause-setup g c =
+    let i = c.loop-event.invariant in
+    let w = c.loop-event.world in
+    let grown = journal_step c.args.world.now.pages w.pages w.history (entry w.pages w.history c.event-item.result ∷ w.history) c.args.events.now c.loop-event.event-index c.event-item.result
+    c.loop-event-test.true c.event-item.is i.pages refl i.done in
+    let run = script_run c.args.world.now.pages c.args.events.now c.requires.script in
+    λ _ _. (next_follows c.args.world.now.pages w.history (entry w.pages w.history c.event-item.result ∷ w.history) c.event-item.result (suc c.loop-event.event-index) c.args.events.now run grown
+    (ap (λ k. entry k w.history c.event-item.result ∷ w.history) i.pages)).setup
+
+pub returns-in_err-answer-clause-err : goal.returns-in_err-answer-clause-err
+returns-in_err-answer-clause-err g c =
     let i = c.loop-event.invariant in
     let w = c.loop-event.world in
     let stopped =
     stops_in_event c.args.world.now.pages w.pages c.args.events.now c.loop-event.event-index c.event-item.result w.history _ _ (applied w.history)
-    (g.O.ObjStore.ops c.step.new.self.store) c.loop-event-test.true c.event-item.is i.pages i.done i.written refl c.in_err-step.ensures.front in
-    let fault : StepFault = c.in_err-step.field-0.0 in
-    let unlogged : fault ≡ stepping.Log → ⊥ = λ is. c.in_err-step.ensures.unlogged (ap (λ f. let r : Result Answer StepFault = Err f in r) is) in
-    if_err_is _ c.from_residual-in_err-step.result (of_step fault) c.from_residual-in_err-step.ensures.1 (stops_of_step fault _ _ _ _ _ unlogged stopped)
+    (g.O.ObjStore.ops c.step.new.self.store) c.loop-event-test.true c.event-item.is i.pages i.done i.written refl c.in_err-answer.ensures.front in
+    let fault : StepFault = c.in_err-answer.field-0.0 in
+    let unlogged : fault ≡ stepping.Log → ⊥ = λ is. c.in_err-answer.ensures.unlogged (ap (λ f. let r : Result Answer StepFault = Err f in r) is) in
+    if_err_is _ c.from_residual-in_err-answer.result (of_step fault) c.from_residual-in_err-answer.ensures.1 (stops_of_step fault _ _ _ _ _ unlogged stopped)
 
-pub returns-in_err-write_newest-clause-err : goal.returns-in_err-write_newest-clause-err
-returns-in_err-write_newest-clause-err g c =
+pub returns-in_err-write_entry-clause-err : goal.returns-in_err-write_entry-clause-err
+returns-in_err-write_entry-clause-err g c =
     let i = c.loop-event.invariant in
     let w = c.loop-event.world in
     let x : Entry = entry w.pages w.history c.event-item.result in
-    let grown : c.step.new.self.history ≡ x ∷ w.history = ap (λ s. s.history) c.in_ok-step.ensures.history in
+    let grown : c.step.new.self.history ≡ x ∷ w.history = ap (λ s. s.history) c.in_ok-answer.ensures.history in
     let stepped = journal_step c.args.world.now.pages w.pages w.history c.step.new.self.history c.args.events.now c.loop-event.event-index c.event-item.result
     c.loop-event-test.true c.event-item.is i.pages grown i.done in
+    let answered : record { event = c.event-item.result; answer = c.in_ok-answer.answer } ≡ x = ap (λ a. let y : Entry = record { event = c.event-item.result; answer = a } in y) c.in_ok-answer.ensures.answer in
+    let P : Entry → Type 0 = λ y. AppendsFront (g.K.Sink.taken c.loop-event.sink) (g.K.Sink.taken c.write_entry.new.sink) (line (length c.entries.result.now) y) in
+    let count : length c.entries.result.now ≡ length w.history + 1 = ap length c.entries.ensures ∙ (length-reverse c.step.new.self.history ∙ (ap length grown ∙ sym (add-one (length w.history)))) in
     let stopped =
-    stops_in_line c.args.world.now.pages c.args.events.now c.loop-event.event-index w.history c.step.new.self.history x _ _ _
-    (g.O.ObjStore.ops c.step.new.self.store) c.loop-event-test.true c.in_ok-step.ensures.listed i.done grown stepped i.written
-    c.in_err-write_newest.ensures.err in
-    let fault : WriteFault = c.in_err-write_newest.field-0.0 in
-    if_err_is _ c.from_residual-in_err-write_newest.result (of_write fault) c.from_residual-in_err-write_newest.ensures.1 (stops_of_write fault _ _ _ _ _ stopped)
+    stops_in_line c.args.world.now.pages c.args.events.now c.loop-event.event-index w.history c.step.new.self.history x _ _ _ _
+    (g.O.ObjStore.ops c.step.new.self.store) c.loop-event-test.true (script_run c.args.world.now.pages c.args.events.now c.requires.script)
+    c.in_ok-answer.ensures.agrees.operations i.done grown stepped count i.written (subst P answered c.in_err-write_entry.ensures.err) in
+    let fault : WriteFault = c.in_err-write_entry.field-0.0 in
+    if_err_is _ c.from_residual-in_err-write_entry.result (of_write fault) c.from_residual-in_err-write_entry.ensures.1 (stops_of_write fault _ _ _ _ _ stopped)
 
 pub loop-event-preserved : goal.loop-event-preserved
 loop-event-preserved g c =
     let i = c.loop-event.invariant in
     let w = c.loop-event.world in
     let x : Entry = entry w.pages w.history c.event-item.result in
-    let stepped = c.in_ok-step.ensures.history in
+    let stepped = c.in_ok-answer.ensures.history in
     let grown : c.step.new.self.history ≡ x ∷ w.history = ap (λ s. s.history) stepped in
+    let answered : record { event = c.event-item.result; answer = c.in_ok-answer.answer } ≡ x = ap (λ a. let y : Entry = record { event = c.event-item.result; answer = a } in y) c.in_ok-answer.ensures.answer in
+    let P : Entry → Type 0 = λ y. Appends (g.K.Sink.taken c.loop-event.sink) (g.K.Sink.taken c.write_entry.new.sink) (line (length c.entries.result.now) y) in
+    let count : length c.entries.result.now ≡ length w.history + 1 = ap length c.entries.ensures ∙ (length-reverse c.step.new.self.history ∙ (ap length grown ∙ sym (add-one (length w.history)))) in
     record {
       live = ap (λ s. s.live) stepped ∙ i.live;
       pages = ap (λ s. s.pages) stepped ∙ i.pages;
@@ -71,11 +91,11 @@ loop-event-preserved g c =
       done = rw add-one
           (journal_step c.args.world.now.pages w.pages w.history c.step.new.self.history c.args.events.now c.loop-event.event-index c.event-item.result
           c.loop-event-test.true c.event-item.is i.pages grown i.done);
-      listed = c.in_ok-step.ensures.listed;
+      listed = c.in_ok-answer.ensures.agrees.operations;
       log = ap (λ s. s.log) stepped ∙ i.log;
-      written = line_step _ _ _ w.history _ x grown i.written c.in_ok-write_newest.ensures.ok;
-      later = omega (arith, c.in_ok-write_newest.ensures.later, i.later);
-      stored = omega (arith, c.in_ok-step.ensures.later, i.stored);
+      written = line_step _ _ _ w.history _ x _ grown count i.written (subst P answered c.in_ok-write_entry.ensures.ok);
+      later = omega (arith, c.in_ok-write_entry.ensures.later, i.later);
+      stored = omega (arith, c.in_ok-answer.ensures.faults.later, i.stored);
     }
 
 pub returns-in_err-write_end-clause-err : goal.returns-in_err-write_end-clause-err
@@ -85,7 +105,7 @@ returns-in_err-write_end-clause-err g c =
     let count : length c.entries-count.result.now ≡ length w.history = ap length c.entries-count.ensures ∙ length-reverse w.history in
     let stopped =
     stops_in_end c.args.world.now.pages c.args.events.now c.loop-event.event-index (length c.entries-count.result.now) w.history _ _ _
-    (g.O.ObjStore.ops w.store) (omega (arith, c.loop-event-test.false, c.loop-event.auto.event-index-end)) i.listed i.done count i.written c.in_err-write_end.ensures.err in
+    (g.O.ObjStore.ops w.store) (omega (arith, c.loop-event-test.false, c.loop-event.auto.event-index-end)) (script_run c.args.world.now.pages c.args.events.now c.requires.script) i.listed i.done count i.written c.in_err-write_end.ensures.err in
     let fault : WriteFault = c.in_err-write_end.field-0.0 in
     if_err_is _ c.from_residual-in_err-write_end.result (of_write fault) c.from_residual-in_err-write_end.ensures.1 (stops_of_write fault _ _ _ _ _ stopped)
 
@@ -97,9 +117,11 @@ returns-clause-ok g c =
     let count : length c.entries-count.result.now ≡ length w.history = ap length c.entries-count.ensures ∙ length-reverse w.history in
     text_step _ _ _ w.history (journal c.args.world.now.pages c.args.events.now) (length c.entries-count.result.now) same count i.written c.in_ok-write_end.ensures.ok
 
-pub returns-clause-listed : goal.returns-clause-listed
-returns-clause-listed g c =
+pub returns-clause-agrees : goal.returns-clause-agrees
+returns-clause-agrees g c =
     let i = c.loop-event.invariant in
-    i.listed
+    let run = script_run c.args.world.now.pages c.args.events.now c.requires.script in
+    agrees c.args.world.now.pages (journal c.args.world.now.pages c.args.events.now) _ run
+    (i.listed
     ∙ ap (λ h. applied h)
-    (journal_all c.args.world.now.pages c.loop-event.world.history c.args.events.now c.loop-event.event-index c.loop-event-test.false i.done)
+    (journal_all c.args.world.now.pages c.loop-event.world.history c.args.events.now c.loop-event.event-index c.loop-event-test.false i.done))
