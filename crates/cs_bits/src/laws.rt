@@ -3,6 +3,8 @@
 ghost use Rattle.std.specs.Prelude.{◌≡◌, ◌<◌, ◌^◌, ◌↔◌, ◌⊎◌, ℕ, List, codes, true, Some, None};
 ghost use Rattle.cs_bits.specs.declared.Caps.{Caps};
 ghost use Rattle.cs_bits.specs.Bits.{Has, caps_text, caps_of, fits, no_caps, union, meet, minus, covers};
+ghost use denote.Param.Send.{IsSend};
+ghost use Rattle.cs_bits.specs.contracts.Caps as caps_row;
 
 /// A set is its bits: the operations and the test are those of sets, and sets with the same bits are equal.
 pub fn sets_are_their_bits()
@@ -24,8 +26,8 @@ pub fn only_texts_are_read()
     ensures { (text : List ℕ) (c : Caps) → caps_of text ≡ Some c → (caps_text c ≡ text) × (fits c ≡ true) }
 {}
 
-/// A set with letters of every group, the empty set, and four texts of no set: letters out of order, a capital
-/// without letters, no byte at all, and a capital twice.
+/// A set with letters of every group, the empty set, and four texts of no set: letters out of order, a
+/// capital without letters, no byte at all, and a capital twice.
 pub fn examples()
     ensures written { caps_text (record { 0 = 3421 }) ≡ codes "pAsxLsXsFscr" }
     ensures read { caps_of (codes "pAsxLsXsFscr") ≡ Some (record { 0 = 3421 }) }
@@ -35,4 +37,9 @@ pub fn examples()
     ensures bare { caps_of (codes "A") ≡ None }
     ensures nothing { caps_of (codes "") ≡ None }
     ensures twice { caps_of (codes "FrFw") ≡ None }
+{}
+
+/// Values of this crate's types may go to other threads.
+pub fn values_may_cross_threads()
+    ensures caps { IsSend caps_row.the_row }
 {}

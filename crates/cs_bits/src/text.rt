@@ -112,7 +112,8 @@ impl Caps {
         end: usize,
     ) -> usize
         requires { end + 1 + length letters.now ≤ 24 }
-        ensures text { take result out.new ≡ take end out.old ++ group_text self.now (capital ∷ []) letters.now }
+        ensures text { take result out.new
+            ≡ take end out.old ++ group_text self.now (capital ∷ []) letters.now }
         ensures len { result ≡ end + length (group_text self.now (capital ∷ []) letters.now) }
         ensures within { result ≤ end + 1 + length letters.now }
         ensures rest { drop result out.new ≡ drop result out.old }
@@ -161,30 +162,5 @@ impl fmt::Display for Caps {
             Ok(text) => f.write_str(text),
             Err(_) => unreachable!(),
         }
-    }
-}
-
-#[cfg(test)]
-mod tests {
-    use super::*;
-    use std::test::Fail;
-
-    #[test]
-    fn writes_and_reads(rt: HostRuntime) -> Result<(), Fail> {
-        let set = Caps::from_bits_retain(3421);
-        let printed = format!(in rt.alloc(); "{set}")?;
-        assert_eq!(rt; printed.as_str(), "pAsxLsXsFscr");
-
-        let mut out = [b'.'; 24];
-        let end = set.to_text(&mut out);
-        assert_eq!(rt; &out[..end], b"pAsxLsXsFscr".as_slice());
-        assert_eq!(rt; out[end], b'.');
-
-        assert_eq!(rt; Caps::read(b"pAsxLsXsFscr"), Some(set));
-        assert_eq!(rt; Caps::read(b"-"), Some(Caps::none()));
-        assert_eq!(rt; Caps::read(b"Fws"), None);
-        assert_eq!(rt; Caps::read(b"A"), None);
-        assert_eq!(rt; Caps::read(b""), None);
-        Ok(())
     }
 }

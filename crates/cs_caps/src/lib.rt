@@ -4,9 +4,9 @@
 #![tactic(auto)]
 
 mod client;
+mod laws;
 mod server;
-#[cfg(test)]
-mod tests;
 
 pub use client::{Cap, Done};
+pub use laws::values_may_cross_threads;
 pub use server::Held;

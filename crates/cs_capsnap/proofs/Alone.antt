@@ -8,8 +8,8 @@ use Rattle.cs_capsnap.proofs.Steps.{fixed_once}
 
 pub last_alone : (xs : List CapSnap) (x : CapSnap) → IsInOrder (xs ++ x ∷ []) → is_writing xs ≡ false
 last_alone [] x o = refl
-last_alone (y ∷ []) x o = rw o.1.0.written refl
-last_alone (y ∷ z ∷ zs) x o = rw o.1.0.written (last_alone (z ∷ zs) x o.2)
+last_alone (y ∷ []) x o = rw o.1.0.closed refl
+last_alone (y ∷ z ∷ zs) x o = rw o.1.0.closed (last_alone (z ∷ zs) x o.2)
 
 pub finish_alone : (xs : List CapSnap) (x : CapSnap) (size mtime : ℕ) → is_writing xs ≡ false → finished size mtime (xs ++ x ∷ []) ≡ xs ++ fixed size mtime x ∷ []
 finish_alone [] x size mtime w = refl

@@ -6,7 +6,7 @@ use Rattle.std.proofs.lemmas.List.Folds.{list_any-append}
 use Rattle.cs_capsnap.specs.declared.snap.CapSnap.{CapSnap}
 use Rattle.cs_capsnap.specs.CapSnaps.{finished, greatest_tid, is_sent_as, is_unsent, is_writing, sent_as, with_first_sent, without_tid}
 use Rattle.cs_capsnap.specs.Order.{IsInOrder}
-use Rattle.cs_capsnap.proofs.Kept.{tid-fixed, writing-fixed, was_sent}
+use Rattle.cs_capsnap.proofs.Order.{tid-fixed, writing-fixed, was_sent}
 
 pub greatest_push : (xs : List CapSnap) (x : CapSnap) → x.tid ≡ None → greatest_tid (xs ++ x ∷ []) ≡ greatest_tid xs
 greatest_push [] x e = rw e refl

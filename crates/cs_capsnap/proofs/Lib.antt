@@ -1,6 +1,6 @@
 pub mod Alone
 pub mod Changes
-pub mod Kept
+pub mod Order
 pub mod Places
 pub mod Steps
 pub mod Unacked

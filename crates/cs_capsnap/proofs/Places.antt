@@ -5,8 +5,8 @@ use Rattle.std.proofs.lemmas.Bool.{false≢true, or_parts}
 use Rattle.std.proofs.lemmas.Option.{cond_some}
 use Rattle.cs_capsnap.specs.declared.snap.CapSnap.{CapSnap}
 use Rattle.cs_capsnap.specs.CapSnaps.{can_send, has_tid, is_sent_as, is_unsent, with_first_sent, without_tid}
-use Rattle.cs_capsnap.specs.Order.{IsKept}
-use Rattle.cs_capsnap.proofs.Kept.{first_of, kept_left, next_above, none_left}
+use Rattle.cs_capsnap.specs.Order.{IsQueue}
+use Rattle.cs_capsnap.proofs.Order.{first_of, queue_left, next_above, none_left}
 
 -- the first unsent one, where it can be sent, is in the queue, and it is the one that is sent
 pub within : (xs : List CapSnap) (n : ℕ) → can_send xs ≡ true → position_or_len is_unsent xs ≡ n → n < length xs
@@ -95,15 +95,15 @@ without_none tid (x ∷ xs) e =
 -- what is left where the one of a number is taken out
 pub record IsTakenOut (tid next : ℕ) (new : List CapSnap) : Type 0 where
   pub above : 1 ≤ next
-  pub kept : IsKept (next - 1) new
+  pub kept : IsQueue (next - 1) new
   pub gone : has_tid tid new ≡ false
 
-pub taken_out : (tid next i : ℕ) (xs : List CapSnap) → position (is_sent_as tid) xs ≡ Some i → IsKept next xs → IsTakenOut tid next (remove xs i)
+pub taken_out : (tid next i : ℕ) (xs : List CapSnap) → position (is_sent_as tid) xs ≡ Some i → IsQueue next xs → IsTakenOut tid next (remove xs i)
 taken_out tid next i xs e k =
     let place = found_place tid i xs e in
     record {
       above = next_above tid next xs place.has k;
-      kept = rw (← place.left) (kept_left next tid xs place.has k);
+      kept = rw (← place.left) (queue_left next tid xs place.has k);
       gone = rw (← place.left) (none_left tid xs k.order);
     }
 

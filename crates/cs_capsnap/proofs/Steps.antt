@@ -26,14 +26,14 @@ writing_snap_at n [] x o l e = absurd (omega arith)
 writing_snap_at zero (y ∷ []) x o l e = rw e refl
 writing_snap_at (suc n) (y ∷ []) x o l e = absurd (omega arith)
 writing_snap_at zero (y ∷ z ∷ zs) x o l e = absurd (omega arith)
-writing_snap_at (suc n) (y ∷ z ∷ zs) x o l e = rw o.1.0.written (writing_snap_at n (z ∷ zs) x o.2 (omega arith) e)
+writing_snap_at (suc n) (y ∷ z ∷ zs) x o l e = rw o.1.0.closed (writing_snap_at n (z ∷ zs) x o.2 (omega arith) e)
 
 is_writing_at : (n : ℕ) (xs : List CapSnap) (x : CapSnap) → IsInOrder xs → length xs ≡ suc n → x ≡ get_or xs n x → is_writing xs ≡ x.writing
 is_writing_at n [] x o l e = absurd (omega arith)
 is_writing_at zero (y ∷ []) x o l e = rw e (or-false y.writing)
 is_writing_at (suc n) (y ∷ []) x o l e = absurd (omega arith)
 is_writing_at zero (y ∷ z ∷ zs) x o l e = absurd (omega arith)
-is_writing_at (suc n) (y ∷ z ∷ zs) x o l e = rw o.1.0.written (is_writing_at n (z ∷ zs) x o.2 (omega arith) e)
+is_writing_at (suc n) (y ∷ z ∷ zs) x o l e = rw o.1.0.closed (is_writing_at n (z ∷ zs) x o.2 (omega arith) e)
 
 pub last_may_write : (xs : List CapSnap) (x : CapSnap) (n : ℕ) → IsInOrder xs → n ≡ length xs → 0 < n → x ≡ get_or xs (n - 1) x
     → writing_snap xs ≡ cond x.writing (Some x) None
@@ -62,7 +62,7 @@ finished_at zero (y ∷ []) x s m o l e = rw e refl
 finished_at (suc n) (y ∷ []) x s m o l e = absurd (omega arith)
 finished_at zero (y ∷ z ∷ zs) x s m o l e = absurd (omega arith)
 finished_at (suc n) (y ∷ z ∷ zs) x s m o l e =
-    let kept = fixed_once s m y o.1.0.written in
+    let kept = fixed_once s m y o.1.0.closed in
     let rest = finished_at n (z ∷ zs) x s m o.2 (omega arith) e in
     λ i. kept i ∷ rest i
 

@@ -6,29 +6,29 @@ use Rattle.cs_ids.specs.declared.objects.FileMeta.{FileMeta}
 use Rattle.cs_capsnap.specs.declared.snap.CapSnap.{CapSnap}
 use Rattle.cs_capsnap.specs.CapSnaps.{flush, unacked, unacked_tids}
 use Rattle.cs_capsnap.specs.Order.{IsAscending, IsSentBefore, Precedes, IsInOrder}
-use Rattle.cs_capsnap.proofs.Kept.{before_unsent}
+use Rattle.cs_capsnap.proofs.Order.{before_unsent}
 
--- what is told of one
-abbrev pub Told : Type 0
-Told = ℕ × ℕ × FileMeta
+-- its number, what it follows and its metadata
+abbrev pub Flush : Type 0
+Flush = ℕ × ℕ × FileMeta
 
 none_unacked : (x : CapSnap) (xs : List CapSnap) → x.tid ≡ None → AllByRecursion (Precedes x) xs → unacked xs ≡ []
 none_unacked x [] e all = refl
 none_unacked x (y ∷ ys) e all = rw (before_unsent x.tid y.tid e all.0.tids) (none_unacked x ys e all.1)
 
 -- they stand in front, so a place among them is a place in the queue
-at_front : (o : Option Told) (us : List Told) → (o ≡ None → us ≡ []) → slice_get (cons_option o us) 0 ≡ o
+at_front : (o : Option Flush) (us : List Flush) → (o ≡ None → us ≡ []) → slice_get (cons_option o us) 0 ≡ o
 at_front None us none = rw (none refl) refl
 at_front (Some u) us none = refl
 
-behind : (o : Option Told) (us : List Told) (i : ℕ) → (o ≡ None → us ≡ []) → slice_get (cons_option o us) (suc i) ≡ slice_get us i
+behind : (o : Option Flush) (us : List Flush) (i : ℕ) → (o ≡ None → us ≡ []) → slice_get (cons_option o us) (suc i) ≡ slice_get us i
 behind None us i none = rw (none refl) refl
 behind (Some u) us i none = refl
 
 unsent_from_flush : (x : CapSnap) → flush x ≡ None → x.tid ≡ None
 unsent_from_flush x = at x.tid
   where
-    at : (o : Option ℕ) → option_map {U = Told} (λ t. (t, x.context.seq, x.meta)) o ≡ None → o ≡ None
+    at : (o : Option ℕ) → option_map {U = Flush} (λ t. (t, x.context.seq, x.meta)) o ≡ None → o ≡ None
     at None e = refl
     at (Some t) e = absurd cc
 
@@ -37,10 +37,10 @@ unacked_at i [] o = refl
 unacked_at zero (x ∷ xs) o = at_front (flush x) (unacked xs) (λ e. none_unacked x xs (unsent_from_flush x e) o.1)
 unacked_at (suc i) (x ∷ xs) o = behind (flush x) (unacked xs) i (λ e. none_unacked x xs (unsent_from_flush x e) o.1) ∙ unacked_at i xs o.2
 
-pub none_past_end : (us : List Told) (i : ℕ) (r : Option Told) → r ≡ slice_get us i → IsNone r ↔ (length us ≤ i)
+pub none_past_end : (us : List Flush) (i : ℕ) (r : Option Flush) → r ≡ slice_get us i → IsNone r ↔ (length us ≤ i)
 none_past_end us i r e = rw e (at us i)
   where
-    at : (us : List Told) (i : ℕ) → IsNone (slice_get us i) ↔ (length us ≤ i)
+    at : (us : List Flush) (i : ℕ) → IsNone (slice_get us i) ↔ (length us ≤ i)
     at [] i = (λ _. omega arith, λ _. refl)
     at (u ∷ us) zero = (λ e. absurd cc, λ l. absurd (omega arith))
     at (u ∷ us) (suc i) = (λ e. omega (arith, (at us i).0 e), λ l. (at us i).1 (omega arith))

@@ -89,7 +89,7 @@ without_tid tid (x ∷ xs) = if is_sent_as tid x then xs else x ∷ without_tid 
 abbrev pub has_unacked_below : ℕ → List CapSnap → Bool
 has_unacked_below s xs = list_any (λ x. nat_lt (follows x) s) xs
 
--- what is told of one that was sent
+-- the flush of one that was sent: its number, what it follows and its metadata
 abbrev pub flush : CapSnap → Option (ℕ × ℕ × FileMeta)
 flush x = option_map (λ tid. (tid, follows x, x.meta)) x.tid
 

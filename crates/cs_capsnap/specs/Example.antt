@@ -9,8 +9,8 @@ abbrev pub at_first : CapSnap
 at_first = queued empty_context true (record { size = 10; mtime = 1; mode = 420 })
 
 -- it has ended
-abbrev pub written : CapSnap
-written = queued empty_context false (record { size = 20; mtime = 5; mode = 420 })
+abbrev pub first_ended : CapSnap
+first_ended = queued empty_context false (record { size = 20; mtime = 5; mode = 420 })
 
 -- no writer lives over the second, and the mode has changed
 abbrev pub at_second : CapSnap

@@ -12,7 +12,7 @@ IsSentBefore (Some t) (Some u) = t < u
 
 -- x stands before y: only the last may be writing
 pub record Precedes (x y : CapSnap) : Type 0 where
-  pub written : x.writing ≡ false
+  pub closed : x.writing ≡ false
   pub tids : IsSentBefore x.tid y.tid
 
 -- each precedes all behind it, and one that is writing wasn't sent
@@ -25,6 +25,6 @@ abbrev pub IsAscending : List ℕ → Type 0
 IsAscending = AllPairs (λ t u. t < u)
 
 -- the first unsent one stands at the place `next`, or that is past the end
-pub record IsKept (next : ℕ) (xs : List CapSnap) : Type 0 where
+pub record IsQueue (next : ℕ) (xs : List CapSnap) : Type 0 where
   pub order : IsInOrder xs
   pub first : position_or_len is_unsent xs ≡ next

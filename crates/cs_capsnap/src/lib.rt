@@ -7,14 +7,12 @@
 mod laws;
 mod queue;
 mod snap;
-#[cfg(test)]
-mod tests;
 
 pub use laws::{
     acked_takes_out_one_alone, finish_changes_the_last_alone,
     only_sending_raises_the_greatest_number, only_the_last_is_writing,
     sent_changes_the_first_unsent_alone, steps_keep_the_order, two_snapshots_by_example,
-    writing_lasts_until_finish,
+    values_may_cross_threads, writing_lasts_until_finish,
 };
 pub use queue::CapSnaps;
 pub use snap::{CapSnap, Ready};

@@ -24,13 +24,13 @@ pub struct CapSnaps {
 impl Model for CapSnaps {
     ghost use Rattle.std.specs.Prelude.{List};
     ghost use Rattle.cs_capsnap.specs.declared.snap.CapSnap.{CapSnap};
-    ghost use Rattle.cs_capsnap.specs.Order.{IsKept};
+    ghost use Rattle.cs_capsnap.specs.Order.{IsQueue};
 
     ghost Value = { List CapSnap };
 
     ghost view = { λ q. q.snaps.items };
 
-    ghost invariant = { λ q. IsKept q.next q.snaps.items };
+    ghost invariant = { λ q. IsQueue q.next q.snaps.items };
 }
 
 impl CapSnaps {
@@ -48,7 +48,7 @@ impl CapSnaps {
     /// `finish` fixes its size and mtime later. None is queued while one is writing: no writer
     /// begins in the meantime, so another would wait for the same writers. After `Memory` the queue
     /// is as before.
-    #[tactic(auto, using(crate::proofs::Kept::kept_push))]
+    #[tactic(auto, using(crate::proofs::Order::queue_push))]
     pub fn queue(&mut self, old: SnapContext, writing: bool, meta: FileMeta) -> Result<(), Memory>
         requires { is_writing self.old ≡ false }
         ensures ok { OnOk result (self.new ≡ self.old ++ queued old writing meta ∷ []) }
@@ -93,7 +93,7 @@ impl CapSnaps {
 
     /// The last writer has ended: fixes the size, in bytes, and the mtime of the cap snap that was
     /// writing. Its mode stays as it was queued.
-    #[tactic(auto, using(crate::proofs::Steps::some_writes, crate::proofs::Steps::last_finishes, crate::proofs::Kept::kept_finished))]
+    #[tactic(auto, using(crate::proofs::Steps::some_writes, crate::proofs::Steps::last_finishes, crate::proofs::Order::queue_finished))]
     pub fn finish(&mut self, size: u64, mtime: u64)
         requires { is_writing self.old ≡ true }
         ensures { self.new ≡ finished size mtime self.old }
@@ -150,7 +150,7 @@ impl CapSnaps {
 
     /// The first unsent cap snap, which isn't writing, is sent in a flush of this number. That is
     /// greater than the number of each flush that isn't acknowledged.
-    #[tactic(auto, using(crate::proofs::Places::within, crate::proofs::Places::sent_at, crate::proofs::Kept::kept_sent))]
+    #[tactic(auto, using(crate::proofs::Places::within, crate::proofs::Places::sent_at, crate::proofs::Order::queue_sent))]
     pub fn sent(&mut self, tid: Tid)
         requires ready { can_send self.old ≡ true }
         requires later { greatest_tid self.old < tid }

@@ -3,9 +3,9 @@
 #![tactic(auto)]
 
 mod count;
+mod laws;
 mod plan;
-#[cfg(test)]
-mod tests;
 
 pub use count::FaultCount;
+pub use laws::values_may_cross_threads;
 pub use plan::FaultPlan;

@@ -22,7 +22,8 @@ impl Gate {
     ghost use Rattle.cs_gate.specs.Handles.{IsNewGate};
 
     /// Makes a gate that is closed and drained in this generation, with its keeper and so many
-    /// passes, all out. There are at most 64 passes, and the generation is below 2^31. No other call of a keeper or a pass takes memory.
+    /// passes, all out. There are at most 64 passes, and the generation is below 2^31. No other call of
+    /// a keeper or a pass takes memory.
     pub fn make(alloc: Global, passes: u32, generation: u32) -> Result<(Keeper, Vec<Pass>), Memory>
         requires few { passes ≤ 64 }
         requires range { generation < 2 ^ 31 }

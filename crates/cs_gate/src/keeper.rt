@@ -60,7 +60,8 @@ impl Keeper {
     /// What the keeper is.
     pub fn state(&self) -> KeeperState
         ensures state { result ≡ self.now.state }
-        ensures nobody_inside { IsTrue (is_drained result) → (word : ℕ) (views : List View) → KeeperFinds self.now word views → NobodyIsInside views }
+        ensures nobody_inside { IsTrue (is_drained result) → (word : ℕ) (views : List View)
+            → KeeperFinds self.now word views → NobodyIsInside views }
     {
         self.state
     }
@@ -75,12 +76,13 @@ impl Keeper {
         self.state = KeeperState::Shut(self.state.generation());
     }
 
-    /// Reads how many passes are inside or turning back; the gate must be closed. The keeper is drained from then on where
-    /// the answer is `Drained`, and else it stays as it was.
+    /// Reads how many passes are inside or turning back; the gate must be closed. The keeper is drained
+    /// from then on where the answer is `Drained`, and else it stays as it was.
     pub fn probe(&mut self) -> Probe
         requires { IsFalse (is_open self.old.state) }
         ensures step { IsProbe self.old self.new result }
-        ensures nobody_inside { result ≡ Probe.Drained → (word : ℕ) (views : List View) → KeeperFinds self.new word views → NobodyIsInside views }
+        ensures nobody_inside { result ≡ Probe.Drained → (word : ℕ) (views : List View)
+            → KeeperFinds self.new word views → NobodyIsInside views }
     {
         let shared = &self.gate.word.shared;
         let word = shared.load::<moves::Probe>(&mut self.seat, 0);

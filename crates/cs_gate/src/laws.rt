@@ -29,7 +29,8 @@ pub fn each_step_keeps_the_rule()
 
 /// The rule holds between any two steps of up to 64 passes and their keeper.
 pub fn the_rule_always_holds()
-    ensures { (plan : Plan) (word : ℕ) (views : List View) → Reaches plan word views → MeetsRule plan word views }
+    ensures { (plan : Plan) (word : ℕ) (views : List View) → Reaches plan word views
+        → MeetsRule plan word views }
 {}
 
 /// Nobody is inside while the keeper is drained.
@@ -49,7 +50,8 @@ pub fn who_is_inside_holds_the_generation()
 
     // So it is of a keeper and a pass of one gate, between any two steps.
     ensures handles { (k : KeeperHandle) (p : PassHandle) (word : ℕ) (views : List View) (g : ℕ)
-        → KeeperFinds k word views → PassFinds p word views → p.inside ≡ Some g → (k.state ≡ Open g) ⊎ (k.state ≡ Shut g) }
+        → KeeperFinds k word views → PassFinds p word views
+        → p.inside ≡ Some g → (k.state ≡ Open g) ⊎ (k.state ≡ Shut g) }
 {}
 
 /// A keeper and a pass may go to other threads, and a reference to one tells every thread the same.

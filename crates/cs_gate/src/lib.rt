@@ -40,6 +40,3 @@ pub use laws::{
 pub use memory::Memory;
 pub use pass::{Entered, Pass};
 pub use views::KeeperState;
-
-#[cfg(test)]
-mod tests;

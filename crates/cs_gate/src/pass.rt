@@ -51,7 +51,8 @@ impl Pass {
     ) -> Result<Pass, Memory>
         requires seat { seat.old.table_id ≡ (arc_value gate.now).word.shared.table_id }
         requires spare { 0 < seat.old.me.0.spare }
-        ensures seat { OnOk result ((seat.new.table_id ≡ seat.old.table_id) × (seat.new.me.0 ≡ view_after_split seat.old.me.0)) }
+        ensures seat { OnOk result ((seat.new.table_id ≡ seat.old.table_id)
+            × (seat.new.me.0 ≡ view_after_split seat.old.me.0)) }
         ensures pass { IfOk result (IsNewPass (gate_id (arc_value gate.now))) }
     {
         let gate = Arc::try_clone(gate)?;
@@ -66,7 +67,8 @@ impl Pass {
     /// The generation that the pass is inside of, and `None` where it is out.
     pub fn inside(&self) -> Option<u32>
         ensures inside { result ≡ self.now.inside }
-        ensures held { IfSome result (λ g. (word : ℕ) (views : List View) → PassFinds self.now word views → HoldsGeneration views g) }
+        ensures held { IfSome result (λ g. (word : ℕ) (views : List View) → PassFinds self.now word views
+            → HoldsGeneration views g) }
     {
         self.inside
     }

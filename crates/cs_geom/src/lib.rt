@@ -9,9 +9,7 @@
 mod cuts;
 mod laws;
 mod places;
-#[cfg(test)]
-mod tests;
 
 pub use cuts::{PieceIter, split, split_objects};
-pub use laws::{parts_join_to_the_whole, ranges_are_cut_in_one_way};
+pub use laws::{cuts_by_example, parts_join_to_the_whole, ranges_are_cut_in_one_way};
 pub use places::{MAX_FILE_SIZE, OBJECT_SIZE, PAGE_SIZE, Piece};

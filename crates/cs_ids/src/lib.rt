@@ -4,15 +4,15 @@
 
 mod bytes;
 mod devices;
+mod laws;
 mod memory;
 mod names;
 mod numbers;
 mod objects;
-#[cfg(test)]
-mod tests;
 
 pub use bytes::Bytes;
 pub use devices::Failed;
+pub use laws::{names_by_example, values_may_cross_threads};
 pub use memory::Memory;
 pub use names::{Name, is_name};
 pub use numbers::{Caller, Ino, RefNo, Seq, Snap, Tid};

@@ -1,8 +1,8 @@
 -- Known bytes that grow and are consumed in pieces.
 use Rattle.std.proofs.Common.{◌≡◌, ◌∙◌, sym, ap, refl, ℕ, List, [], ◌++◌, take, drop, Option, append_assoc, Result, Ok, Err}
-use Rattle.std.proofs.KnownBytes.{Appends-nil, Appends-trans, Appends-kept, Consumes-nil, Consumes-trans}
+use Rattle.std.proofs.KnownBytes.{Appends-nil, Appends-trans, Consumes-trans}
 use Rattle.std.proofs.lemmas.List.{take-append-drop}
-use Rattle.std.specs.Io.KnownBytes.{Appends, Consumes, Keeps}
+use Rattle.std.specs.Io.KnownBytes.{Appends, Consumes}
 use Rattle.std.specs.Prelude.{OnErr}
 use Rattle.cs_io.specs.Whole.{TookFront, ConsumesFront}
 
@@ -13,9 +13,6 @@ appends_none a = Appends-nil a
 
 pub appends_more : (a b c : Option (List ℕ)) (xs ys : List ℕ) → Appends a b xs → Appends b c ys → Appends a c (xs ++ ys)
 appends_more a b c xs ys p q = Appends-trans a b c xs ys p q
-
-pub appends_kept : (a b c : Option (List ℕ)) (xs : List ℕ) → Appends a b xs → Keeps b c → Appends a c xs
-appends_kept a b c xs p q = Appends-kept a b c xs p q
 
 -- nothing yet
 pub took_none : (a : Option (List ℕ)) (bytes : List ℕ) → TookFront a a bytes bytes
@@ -35,20 +32,10 @@ pub took_next : (a b c : Option (List ℕ)) (bytes rest after : List ℕ) (n : �
     → after ≡ drop n rest → TookFront a c bytes after
 took_next a b c bytes rest after n t q e = rw e (took_more a b c bytes rest n t q)
 
--- a fault took nothing
-pub took_kept : (a b c : Option (List ℕ)) (bytes rest : List ℕ) → TookFront a b bytes rest → Keeps b c → TookFront a c bytes rest
-took_kept a b c bytes rest t q = record { front = t.front; whole = t.whole; taken = appends_kept a b c t.front t.taken q }
-
 -- ---- bytes consumed
-
-pub consumes_none : (a : Option (List ℕ)) → Consumes a a []
-consumes_none a = Consumes-nil a
-
-pub consumes_more : (a b c : Option (List ℕ)) (xs ys : List ℕ) → Consumes a b xs → Consumes b c ys → Consumes a c (xs ++ ys)
-consumes_more a b c xs ys p q = Consumes-trans a b c xs ys p q
 
 -- what was read is gone, also where a later call failed
 pub gone : {T E : Type 0} (a b c : Option (List ℕ)) (xs ys : List ℕ) (r : Result T E) → Consumes a b xs → Consumes b c ys
     → OnErr r (ConsumesFront a c)
 gone a b c xs ys (Ok x) p q = tt
-gone a b c xs ys (Err x) p q = (xs ++ ys, consumes_more a b c xs ys p q)
+gone a b c xs ys (Err x) p q = (xs ++ ys, Consumes-trans a b c xs ys p q)

@@ -4,7 +4,9 @@
 #![tactic(auto)]
 
 mod capabilities;
+mod laws;
 mod references;
 
 pub use capabilities::{ClientCaps, ServerCaps};
+pub use laws::values_may_cross_threads;
 pub use references::Live;

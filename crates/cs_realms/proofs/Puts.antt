@@ -8,18 +8,18 @@ use Rattle.cs_snapctx.specs.Context.{Context, empty_context}
 use Rattle.cs_snapctx.specs.Records.{root_record}
 use Rattle.cs_realms.specs.declared.changed.Change.{Change}
 use Rattle.cs_realms.specs.declared.renewal.Renewed.{Renewed}
-use Rattle.cs_realms.specs.Renewals.{put_all, told_change, told_changes}
+use Rattle.cs_realms.specs.Renewals.{put_all, answered_change, answered_changes}
 
 -- what is put at the next place
 next_put : (k : ℕ) (ws : List (Option Renewed)) (cs : List Context) (w : Option Renewed) (d : Context) → k < length ws → k < length cs → get_or ws k w ≡ w
     → put_all (drop k ws) (drop k cs) ≡ option_map_or (λ n. n.kept) w (get_or cs k d) ∷ put_all (drop (k + 1) ws) (drop (k + 1) cs)
 next_put k ws cs w d a b e = rw (add-one, drop-cons ws k w, drop-cons cs k d, e) refl
 
--- and what is told of it
+-- and what is taken of it
 next_told : (k : ℕ) (xs : List RealmRecord) (ws : List (Option Renewed)) (cs : List Context) (x : RealmRecord) (w : Option Renewed) (d : Context)
     → k < length xs → k < length ws → k < length cs → get_or xs k x ≡ x → get_or ws k w ≡ w
-    → told_changes (drop k xs) (drop k ws) (drop k cs)
-    ≡ cons_option (told_change x.realm (get_or cs k d) w) (told_changes (drop (k + 1) xs) (drop (k + 1) ws) (drop (k + 1) cs))
+    → answered_changes (drop k xs) (drop k ws) (drop k cs)
+    ≡ cons_option (answered_change x.realm (get_or cs k d) w) (answered_changes (drop (k + 1) xs) (drop (k + 1) ws) (drop (k + 1) cs))
 next_told k xs ws cs x w d l a b f e = rw (add-one, drop-cons xs k x, drop-cons ws k w, drop-cons cs k d, f, e) refl
 
 -- one element more of what is done
@@ -52,23 +52,23 @@ any_default k [] x y l = absurd (omega arith)
 any_default zero (z ∷ zs) x y l = refl
 any_default (suc k) (z ∷ zs) x y l = any_default k zs x y (omega arith)
 
-pub none_told : (k : ℕ) (xs : List RealmRecord) (ws : List (Option Renewed)) (v : Option Renewed) (cs next : List Context) (told more all : List Change)
-    → k < length xs → k < length ws → k < length cs → get_or ws k None ≡ None → next ≡ cs → more ≡ told
-    → told ++ told_changes (drop k xs) (drop k ws) (drop k cs) ≡ all
-    → more ++ told_changes (drop (k + 1) xs) (drop (k + 1) (set ws k v)) (drop (k + 1) next) ≡ all
-none_told k xs ws v cs next told more all l a b e f g h =
+pub none_told : (k : ℕ) (xs : List RealmRecord) (ws : List (Option Renewed)) (v : Option Renewed) (cs next : List Context) (latest more all : List Change)
+    → k < length xs → k < length ws → k < length cs → get_or ws k None ≡ None → next ≡ cs → more ≡ latest
+    → latest ++ answered_changes (drop k xs) (drop k ws) (drop k cs) ≡ all
+    → more ++ answered_changes (drop (k + 1) xs) (drop (k + 1) (set ws k v)) (drop (k + 1) next) ≡ all
+none_told k xs ws v cs next latest more all l a b e f g h =
     let x = get_or xs k root_record in
     let own : get_or xs k x ≡ x = any_default k xs x root_record l in
-    rw (f, g, behind k ws v) (ap (λ ys. told ++ ys) (sym (next_told k xs ws cs x None empty_context l a b own e)) ∙ h)
+    rw (f, g, behind k ws v) (ap (λ ys. latest ++ ys) (sym (next_told k xs ws cs x None empty_context l a b own e)) ∙ h)
 
 pub one_told : (k : ℕ) (xs : List RealmRecord) (x : RealmRecord) (ws : List (Option Renewed)) (v : Option Renewed) (n : Renewed) (cs next : List Context) (c : Context)
-    → (told more all : List Change) (y : Change)
+    → (latest more all : List Change) (y : Change)
     → k < length xs → k < length ws → k < length cs → get_or xs k x ≡ x → get_or ws k (Some n) ≡ Some n → get_or cs k c ≡ c → next ≡ set cs k n.kept
-    → more ≡ told ++ y ∷ [] → y ≡ record { realm = x.realm; old = Some c; new = n.answered }
-    → told ++ told_changes (drop k xs) (drop k ws) (drop k cs) ≡ all
-    → more ++ told_changes (drop (k + 1) xs) (drop (k + 1) (set ws k v)) (drop (k + 1) next) ≡ all
-one_told k xs x ws v n cs next c told more all y l a b p e q f m is h =
-    let rest = told_changes (drop (k + 1) xs) (drop (k + 1) ws) (drop (k + 1) cs) in
-    let next_is : told_changes (drop k xs) (drop k ws) (drop k cs) ≡ y ∷ rest =
+    → more ≡ latest ++ y ∷ [] → y ≡ record { realm = x.realm; old = Some c; new = n.answered }
+    → latest ++ answered_changes (drop k xs) (drop k ws) (drop k cs) ≡ all
+    → more ++ answered_changes (drop (k + 1) xs) (drop (k + 1) (set ws k v)) (drop (k + 1) next) ≡ all
+one_told k xs x ws v n cs next c latest more all y l a b p e q f m is h =
+    let rest = answered_changes (drop (k + 1) xs) (drop (k + 1) ws) (drop (k + 1) cs) in
+    let next_is : answered_changes (drop k xs) (drop k ws) (drop k cs) ≡ y ∷ rest =
     next_told k xs ws cs x (Some n) c l a b p e ∙ (ap (λ z. record { realm = x.realm; old = Some z; new = n.answered } ∷ rest) q ∙ ap (λ z. z ∷ rest) (sym is)) in
-    rw (f, behind k ws v, behind k cs n.kept) (one_more told more rest all y m (ap (λ ys. told ++ ys) (sym next_is) ∙ h))
+    rw (f, behind k ws v, behind k cs n.kept) (one_more latest more rest all y m (ap (λ ys. latest ++ ys) (sym next_is) ∙ h))

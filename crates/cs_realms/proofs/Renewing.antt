@@ -14,8 +14,8 @@ use Rattle.cs_snapctx.specs.Records.{AreDistinct, is_known, is_of, record_of, wi
 use Rattle.cs_realms.specs.declared.changed.Change.{Change}
 use Rattle.cs_realms.specs.declared.renewal.Renewed.{Renewed}
 use Rattle.cs_realms.specs.Changes.{change, changes, is_same}
-use Rattle.cs_realms.specs.Kept.{IsKept}
-use Rattle.cs_realms.specs.Renewals.{newest, news, put_all, renewed, told_change, told_changes}
+use Rattle.cs_realms.specs.Table.{HasContexts}
+use Rattle.cs_realms.specs.Renewals.{newest, news, put_all, renewed, answered_change, answered_changes}
 use Rattle.cs_realms.proofs.Members.{In}
 use Rattle.cs_realms.proofs.Stays.{record_of-with, stays_distinct}
 
@@ -124,10 +124,10 @@ all_put r rs (x ∷ xs) cs =
 
 -- ---- the changes
 
-told_news : (i : ℕ) (b c : Context) → told_change i b (news b c) ≡ change i (Some b) (Some c)
-told_news i b c = at (is_same (Some b) c)
+answered_news : (i : ℕ) (b c : Context) → answered_change i b (news b c) ≡ change i (Some b) (Some c)
+answered_news i b c = at (is_same (Some b) c)
   where
-    at : (t : Bool) → told_change i b (cond t None (Some (record { kept = c; answered = c }))) ≡ cond t None (Some (record { realm = i; old = Some b; new = c }))
+    at : (t : Bool) → answered_change i b (cond t None (Some (record { kept = c; answered = c }))) ≡ cond t None (Some (record { realm = i; old = Some b; new = c }))
     at true = refl
     at false = refl
 
@@ -135,28 +135,28 @@ abbrev change_of : List RealmRecord → List RealmRecord → RealmRecord → Opt
 change_of before after x = change x.realm (context before x.realm) (context after x.realm)
 
 one_told : (r : RealmRecord) (rs : List RealmRecord) (x : RealmRecord) → AreDistinct rs → In x rs
-    → told_change x.realm (context_of rs x) (renewed r rs x) ≡ change_of rs (with_record r rs) (newest r x)
+    → answered_change x.realm (context_of rs x) (renewed r rs x) ≡ change_of rs (with_record r rs) (newest r x)
 one_told r rs x d i =
     let found = own_found rs x d i in
     let before : context rs x.realm ≡ Some (context_of rs x) = ap (option_map (context_of rs)) found in
     let after : context (with_record r rs) x.realm ≡ Some (context_of (with_record r rs) (newest r x)) = ap (option_map (context_of (with_record r rs))) (newest_found r rs x found) in
-    told_news x.realm (context_of rs x) (context_of (with_record r rs) (newest r x))
+    answered_news x.realm (context_of rs x) (context_of (with_record r rs) (newest r x))
     ∙ (ap (λ b. change x.realm b (Some (context_of (with_record r rs) (newest r x)))) (sym before)
     ∙ (ap (λ c. change x.realm (context rs x.realm) c) (sym after)
     ∙ ap (λ j. change j (context rs j) (context (with_record r rs) j)) (sym (newest_realm r x))))
 
 all_told : (r : RealmRecord) (rs xs : List RealmRecord) (cs : List Context) → AreDistinct rs → ((x : RealmRecord) → In x xs → In x rs)
-    → told_changes xs (map (renewed r rs) xs) (map (context_of rs) xs ++ cs) ≡ filter_map (change_of rs (with_record r rs)) (map (newest r) xs)
+    → answered_changes xs (map (renewed r rs) xs) (map (context_of rs) xs ++ cs) ≡ filter_map (change_of rs (with_record r rs)) (map (newest r) xs)
 all_told r rs [] cs d i = refl
 all_told r rs (x ∷ xs) cs d i =
-    ap (λ y. cons_option y (told_changes xs (map (renewed r rs) xs) (map (context_of rs) xs ++ cs))) (one_told r rs x d (i x (inl refl)))
+    ap (λ y. cons_option y (answered_changes xs (map (renewed r rs) xs) (map (context_of rs) xs ++ cs))) (one_told r rs x d (i x (inl refl)))
     ∙ ap (cons_option (change_of rs (with_record r rs) (newest r x))) (all_told r rs xs cs d (λ z h. i z (inr h)))
 
 -- ---- a record in place of the last one of its realm
 
-pub replaced_kept : (r : RealmRecord) (rs : List RealmRecord) (cs : List Context) → IsKept rs cs → is_known r.realm rs ≡ true
-    → IsKept (with_record r rs) (put_all (map (renewed r rs) rs) cs)
-replaced_kept r rs cs kept known = record {
+pub replaced_contexts : (r : RealmRecord) (rs : List RealmRecord) (cs : List Context) → HasContexts rs cs → is_known r.realm rs ≡ true
+    → HasContexts (with_record r rs) (put_all (map (renewed r rs) rs) cs)
+replaced_contexts r rs cs kept known = record {
   distinct = stays_distinct r rs kept.distinct;
   contexts =
       ap (put_all (map (renewed r rs) rs)) (kept.contexts ∙ sym (append-nil (all_contexts rs)))
@@ -164,17 +164,17 @@ replaced_kept r rs cs kept known = record {
       ∙ (append-nil (map (context_of (with_record r rs)) (map (newest r) rs)) ∙ ap (map (context_of (with_record r rs))) (sym (of_known r rs kept.distinct known))));
 }
 
-pub replaced_told : (r : RealmRecord) (rs : List RealmRecord) (cs : List Context) → IsKept rs cs → is_known r.realm rs ≡ true
-    → told_changes rs (map (renewed r rs) rs) cs ≡ changes rs (with_record r rs)
-replaced_told r rs cs kept known =
-    ap (told_changes rs (map (renewed r rs) rs)) (kept.contexts ∙ sym (append-nil (all_contexts rs)))
+pub replaced_answer : (r : RealmRecord) (rs : List RealmRecord) (cs : List Context) → HasContexts rs cs → is_known r.realm rs ≡ true
+    → answered_changes rs (map (renewed r rs) rs) cs ≡ changes rs (with_record r rs)
+replaced_answer r rs cs kept known =
+    ap (answered_changes rs (map (renewed r rs) rs)) (kept.contexts ∙ sym (append-nil (all_contexts rs)))
     ∙ (all_told r rs rs [] kept.distinct (λ x i. i) ∙ ap (filter_map (change_of rs (with_record r rs))) (sym (of_known r rs kept.distinct known)))
 
 -- ---- the first record of a realm
 
-pub added_kept : (r : RealmRecord) (rs : List RealmRecord) (cs : List Context) → IsKept rs cs → is_known r.realm rs ≡ false
-    → IsKept (with_record r rs) (put_all (map (renewed r rs) rs) (cs ++ context_of (with_record r rs) r ∷ []))
-added_kept r rs cs kept new = record {
+pub added_contexts : (r : RealmRecord) (rs : List RealmRecord) (cs : List Context) → HasContexts rs cs → is_known r.realm rs ≡ false
+    → HasContexts (with_record r rs) (put_all (map (renewed r rs) rs) (cs ++ context_of (with_record r rs) r ∷ []))
+added_contexts r rs cs kept new = record {
   distinct = stays_distinct r rs kept.distinct;
   contexts =
       ap (λ ys. put_all (map (renewed r rs) rs) (ys ++ context_of (with_record r rs) r ∷ [])) kept.contexts
@@ -195,15 +195,15 @@ first_change r rs new =
     none_found None e = refl
     none_found (Some x) e = absurd (false≢true (sym e))
 
-pub added_told : (r : RealmRecord) (rs : List RealmRecord) (cs : List Context) → IsKept rs cs → is_known r.realm rs ≡ false
-    → told_changes rs (map (renewed r rs) rs) (cs ++ context_of (with_record r rs) r ∷ []) ++ record { realm = r.realm; old = None; new = context_of (with_record r rs) r } ∷ []
+pub added_answer : (r : RealmRecord) (rs : List RealmRecord) (cs : List Context) → HasContexts rs cs → is_known r.realm rs ≡ false
+    → answered_changes rs (map (renewed r rs) rs) (cs ++ context_of (with_record r rs) r ∷ []) ++ record { realm = r.realm; old = None; new = context_of (with_record r rs) r } ∷ []
     ≡ changes rs (with_record r rs)
-added_told r rs cs kept new =
+added_answer r rs cs kept new =
     let own = context_of (with_record r rs) r ∷ [] in
     let last : Change = record { realm = r.realm; old = None; new = context_of (with_record r rs) r } in
     let f = change_of rs (with_record r rs) in
-    let those : told_changes rs (map (renewed r rs) rs) (cs ++ own) ≡ filter_map f (map (newest r) rs) =
-    ap (λ ys. told_changes rs (map (renewed r rs) rs) (ys ++ own)) kept.contexts ∙ all_told r rs rs own kept.distinct (λ x i. i) in
+    let those : answered_changes rs (map (renewed r rs) rs) (cs ++ own) ≡ filter_map f (map (newest r) rs) =
+    ap (λ ys. answered_changes rs (map (renewed r rs) rs) (ys ++ own)) kept.contexts ∙ all_told r rs rs own kept.distinct (λ x i. i) in
     let this : last ∷ [] ≡ filter_map f (r ∷ []) = sym (ap (λ o. cons_option o []) (first_change r rs new)) in
     ap (λ ys. ys ++ last ∷ []) those
     ∙ (ap (λ ys. filter_map f (map (newest r) rs) ++ ys) this

@@ -1,4 +1,4 @@
 pub mod Changes
 pub mod Example
-pub mod Kept
 pub mod Renewals
+pub mod Table

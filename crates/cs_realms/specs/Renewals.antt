@@ -35,11 +35,11 @@ put_all (w ∷ ws) [] = []
 put_all (w ∷ ws) (c ∷ cs) = option_map_or (λ n. n.kept) w c ∷ put_all ws cs
 
 -- the change of the context c of realm i
-abbrev pub told_change : ℕ → Context → Option Renewed → Option Change
-told_change i c w = option_map (λ n. record { realm = i; old = Some c; new = n.answered }) w
+abbrev pub answered_change : ℕ → Context → Option Renewed → Option Change
+answered_change i c w = option_map (λ n. record { realm = i; old = Some c; new = n.answered }) w
 
-abbrev pub told_changes : List RealmRecord → List (Option Renewed) → List Context → List Change
-told_changes [] ws cs = []
-told_changes (x ∷ xs) [] cs = []
-told_changes (x ∷ xs) (w ∷ ws) [] = []
-told_changes (x ∷ xs) (w ∷ ws) (c ∷ cs) = cons_option (told_change x.realm c w) (told_changes xs ws cs)
+abbrev pub answered_changes : List RealmRecord → List (Option Renewed) → List Context → List Change
+answered_changes [] ws cs = []
+answered_changes (x ∷ xs) [] cs = []
+answered_changes (x ∷ xs) (w ∷ ws) [] = []
+answered_changes (x ∷ xs) (w ∷ ws) (c ∷ cs) = cons_option (answered_change x.realm c w) (answered_changes xs ws cs)

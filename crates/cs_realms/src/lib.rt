@@ -11,12 +11,11 @@ mod laws;
 mod realms;
 mod record;
 mod renewal;
-#[cfg(test)]
-mod tests;
 
 pub use changed::{Change, Changed};
 pub use fault::RealmFault;
 pub use laws::{
     contexts_by_example, contexts_follow_the_rule, records_keep_it_acyclic, the_last_record_counts,
+    values_may_cross_threads,
 };
 pub use realms::Realms;

@@ -29,13 +29,13 @@ pub struct Realms {
 impl Model for Realms {
     ghost use Rattle.std.specs.Prelude.{List};
     ghost use Rattle.cs_snapctx.specs.declared.realm.RealmRecord.{RealmRecord};
-    ghost use Rattle.cs_realms.specs.Kept.{IsKept};
+    ghost use Rattle.cs_realms.specs.Table.{HasContexts};
 
     ghost Value = { List RealmRecord };
 
     ghost view = { λ t. t.records.items };
 
-    ghost invariant = { λ t. IsKept t.records.items t.contexts.items };
+    ghost invariant = { λ t. HasContexts t.records.items t.contexts.items };
 }
 
 impl Realms {
@@ -68,8 +68,10 @@ impl Realms {
     pub fn apply(&mut self, r: &RealmRecord) -> Result<Changed, RealmFault>
         ensures records { OnOk result (self.new ≡ with_record r.now self.old) }
         ensures changed { IfOk result (λ c. c ≡ changes self.old self.new) }
-        ensures each { IfOk result (λ c. (i : ℕ) → filter (is_of_change i) c ≡ option_to_list (change i (context self.old i) (context self.new i))) }
-        ensures no_parent { (p : ℕ) → (result ≡ Err (faults.NoParent p)) ↔ (missing_parent self.old r.now ≡ Some p) }
+        ensures each { IfOk result (λ c. (i : ℕ) → filter (is_of_change i) c
+            ≡ option_to_list (change i (context self.old i) (context self.new i))) }
+        ensures no_parent { (p : ℕ) → (result ≡ Err (faults.NoParent p))
+            ↔ (missing_parent self.old r.now ≡ Some p) }
         ensures err { OnErr result (self.new ≡ self.old) }
     {
         if let Some(parent) = missing_parent(self.records.as_slice(), r) {

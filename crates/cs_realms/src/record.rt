@@ -38,56 +38,60 @@ pub fn place_of(records: &[RealmRecord], realm: Ino) -> Option<usize>
 }
 
 // The parent that a record names, where it is unknown.
-pub fn missing_parent(records: &[RealmRecord], told: &RealmRecord) -> Option<Ino>
-    ensures { result ≡ missing_parent records.now told.now }
+pub fn missing_parent(records: &[RealmRecord], latest: &RealmRecord) -> Option<Ino>
+    ensures { result ≡ missing_parent records.now latest.now }
 {
-    let parent = told.parent?;
+    let parent = latest.parent?;
     match record_of(records, parent) {
         None => Some(parent),
         Some(_) => None,
     }
 }
 
-// How many realms there are once `told` is taken in.
-pub fn count_with(records: &[RealmRecord], told: &RealmRecord) -> usize
-    ensures { result ≡ length (with_record told.now records.now) }
+// How many realms there are once `latest` is taken in.
+pub fn count_with(records: &[RealmRecord], latest: &RealmRecord) -> usize
+    ensures { result ≡ length (with_record latest.now records.now) }
 {
-    match place_of(records, told.realm) {
+    match place_of(records, latest.realm) {
         None => records.len() + 1,
         Some(_) => records.len(),
     }
 }
 
-// The last record of the realm of `last`, once `told` is taken in.
-pub fn newest<'a>(told: &'a RealmRecord, last: &'a RealmRecord) -> &'a RealmRecord
-    ensures { result.now ≡ newest told.now last.now }
+// The last record of the realm of `last`, once `latest` is taken in.
+pub fn newest<'a>(latest: &'a RealmRecord, last: &'a RealmRecord) -> &'a RealmRecord
+    ensures { result.now ≡ newest latest.now last.now }
 {
-    if last.realm == told.realm { told } else { last }
+    if last.realm == latest.realm {
+        latest
+    } else {
+        last
+    }
 }
 
-// The record of a realm once `told` is taken in, or None where it is unknown.
+// The record of a realm once `latest` is taken in, or None where it is unknown.
 fn record_with<'a>(
     records: &'a [RealmRecord],
-    told: &'a RealmRecord,
+    latest: &'a RealmRecord,
     realm: Ino,
 ) -> Option<&'a RealmRecord>
-    ensures { option_copied result ≡ record_of realm (with_record told.now records.now) }
+    ensures { option_copied result ≡ record_of realm (with_record latest.now records.now) }
 {
-    if told.realm == realm {
-        return Some(told);
+    if latest.realm == realm {
+        return Some(latest);
     }
     record_of(records, realm)
 }
 
-// The record of the parent that `from` names once `told` is taken in, or None where it names none or an
+// The record of the parent that `from` names once `latest` is taken in, or None where it names none or an
 // unknown one.
 pub fn parent_record_with<'a>(
     records: &'a [RealmRecord],
-    told: &'a RealmRecord,
+    latest: &'a RealmRecord,
     from: &RealmRecord,
 ) -> Option<&'a RealmRecord>
-    ensures { option_copied result ≡ parent_record (with_record told.now records.now) from.now }
+    ensures { option_copied result ≡ parent_record (with_record latest.now records.now) from.now }
 {
     let parent = from.parent?;
-    record_with(records, told, parent)
+    record_with(records, latest, parent)
 }

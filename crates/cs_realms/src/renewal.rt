@@ -1,7 +1,7 @@
 // The contexts that a record renews: they are computed first, and then put in without memory.
 ghost use Rattle.std.specs.Prelude.{◌≡◌, ◌+◌, ◌≤◌, ◌++◌, map, length, vec_len, vec_capacity, IfOk};
 ghost use Rattle.cs_snapctx.specs.Contexts.{all_contexts, context_of};
-ghost use Rattle.cs_realms.specs.Renewals.{leads_clear, news, put_all, renewed, told_changes};
+ghost use Rattle.cs_realms.specs.Renewals.{leads_clear, news, put_all, renewed, answered_changes};
 
 use crate::Change;
 use crate::context::context_with;
@@ -30,40 +30,40 @@ impl Renewed {
     }
 }
 
-// The contexts that differ once `told` is taken in, each at the place of its realm's record. Those of
+// The contexts that differ once `latest` is taken in, each at the place of its realm's record. Those of
 // realms that are neither its realm nor below it are not computed, unless they stand in a circle.
 pub fn renewed_contexts(
     alloc: Global,
     records: &[RealmRecord],
     contexts: &[SnapContext],
-    told: &RealmRecord,
+    latest: &RealmRecord,
 ) -> Result<Vec<Option<Renewed>>, Memory>
     requires { contexts.now ≡ all_contexts records.now }
-    ensures { IfOk result (λ ws. ws.items ≡ map (renewed told.now records.now) records.now) }
+    ensures { IfOk result (λ ws. ws.items ≡ map (renewed latest.now records.now) records.now) }
 {
     let mut all = Vec::new(alloc);
     for (place, last) in records.iter().enumerate() {
-        let one = renewed_context(alloc, records, told, last, &contexts[place])?;
+        let one = renewed_context(alloc, records, latest, last, &contexts[place])?;
         all.push(one)?;
     }
     Ok(all)
 }
 
-// The context of the realm of `last` where it differs from `before` once `told` is taken in.
+// The context of the realm of `last` where it differs from `before` once `latest` is taken in.
 fn renewed_context(
     alloc: Global,
     records: &[RealmRecord],
-    told: &RealmRecord,
+    latest: &RealmRecord,
     last: &RealmRecord,
     before: &SnapContext,
 ) -> Result<Option<Renewed>, Memory>
     requires { before.now ≡ context_of records.now last.now }
-    ensures { IfOk result (λ w. w ≡ renewed told.now records.now last.now) }
+    ensures { IfOk result (λ w. w ≡ renewed latest.now records.now last.now) }
 {
-    if leads_clear(records, records.len(), told.realm, last) {
+    if leads_clear(records, records.len(), latest.realm, last) {
         return Ok(None);
     }
-    let now = context_with(alloc, records, told, newest(told, last))?;
+    let now = context_with(alloc, records, latest, newest(latest, last))?;
     news(before, now)
 }
 
@@ -105,7 +105,8 @@ pub fn put_in(
     requires contexts { vec_len renewed ≤ vec_len contexts.old }
     requires room { vec_len changes.old + vec_len renewed ≤ vec_capacity changes.old }
     ensures contexts { contexts.new.items ≡ put_all renewed.items contexts.old.items }
-    ensures changes { changes.new.items ≡ changes.old.items ++ told_changes records.now renewed.items contexts.old.items }
+    ensures changes { changes.new.items
+        ≡ changes.old.items ++ answered_changes records.now renewed.items contexts.old.items }
     ensures room { vec_capacity changes.new ≡ vec_capacity changes.old }
     ensures growth { vec_len changes.new ≤ vec_len changes.old + vec_len renewed }
 {

@@ -8,7 +8,7 @@ use Rattle.indexmap.proofs.CallerLemmas.{insert_entry-new}
 use Rattle.cs_parts.specs.declared.references.Live.{Live}
 use Rattle.cs_parts.specs.References.{is_ref, has_ref, ref_named, without_ref}
 use Rattle.cs_refs.specs.declared.table.Key.{Key}
-use Rattle.cs_refs.specs.Kept.{IsEntry}
+use Rattle.cs_refs.specs.Entries.{IsEntry}
 
 -- the key's own test
 abbrev pub is_key : ℕ → ℕ → Key → Bool

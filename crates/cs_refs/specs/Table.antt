@@ -16,7 +16,7 @@ begun_of caller t = slice_index t.begun caller
 abbrev pub writers_of : ℕ → List Live → ℕ
 writers_of f rs = count_by (is_writer_of f) rs
 
--- the table is full, at as many live references as are told; want of memory needs no cause
+-- the table is full, at as many live references as the fault says; want of memory needs no cause
 abbrev pub IsCausedBy : RefTable → RefFault → Type 0
 IsCausedBy t (Full live) = (live ≡ 256) × (length t.live ≡ 256)
 IsCausedBy t Memory = Unit {0}

@@ -4,10 +4,10 @@
 #![tactic(auto)]
 
 mod fault;
+mod laws;
 mod table;
-#[cfg(test)]
-mod tests;
 mod used;
 
 pub use fault::RefFault;
+pub use laws::values_may_cross_threads;
 pub use table::Refs;

@@ -35,13 +35,13 @@ pub struct Refs {
 impl Model for Refs {
     ghost use Rattle.cs_refs.specs.Table.{RefTable};
     ghost use Rattle.indexmap.specs.IndexMap.{values};
-    ghost use Rattle.cs_refs.specs.Kept.{IsKept};
+    ghost use Rattle.cs_refs.specs.Entries.{AreEntries};
 
     ghost Value = { RefTable };
 
     ghost view = { λ t. record { live = values t.live; begun = t.begun } };
 
-    ghost invariant = { λ t. IsKept t.live.entries t.begun };
+    ghost invariant = { λ t. AreEntries t.live.entries t.begun };
 }
 
 impl Refs {
@@ -69,8 +69,10 @@ impl Refs {
     ) -> Result<RefNo, RefFault>
         requires { begun_of caller self.old < 99998 }
         ensures number { IfOk result (λ n. n ≡ begun_of caller self.old + 1) }
-        ensures live { IfOk result (λ n. self.new.live ≡ self.old.live ++ record { caller = caller; number = n; file = file; bits = bits; end = end; tag = tag } ∷ []) }
-        ensures begun { IfOk result (λ n. (c : ℕ) → begun_of c self.new ≡ (if caller == c then n else begun_of c self.old)) }
+        ensures live { IfOk result (λ n. self.new.live ≡ self.old.live
+            ++ record { caller = caller; number = n; file = file; bits = bits; end = end; tag = tag } ∷ []) }
+        ensures begun { IfOk result (λ n. (c : ℕ)
+            → begun_of c self.new ≡ (if caller == c then n else begun_of c self.old)) }
 
         ensures full { (result ≡ Err (faults.Full 256)) ↔ (length self.old.live ≡ 256) }
         ensures cause { IfErr result (IsCausedBy self.old) }

@@ -36,7 +36,8 @@ impl PartialEq for SnapContext {
     ghost laws = { Prim.search (comparing, rules) };
 
     fn eq(&self, other: &Self) -> bool
-        ensures value { result ≡ (nat_eq self.now.seq other.now.seq && pointwise nat_eq self.now.snaps other.now.snaps) }
+        ensures value { result ≡ (nat_eq self.now.seq other.now.seq
+            && pointwise nat_eq self.now.snaps other.now.snaps) }
         ensures equal { IsTrue result ↔ (self.now ≡ other.now) }
     {
         self.seq == other.seq && self.snaps == other.snaps

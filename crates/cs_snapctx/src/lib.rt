@@ -6,13 +6,11 @@ mod context;
 mod laws;
 mod list;
 mod realm;
-#[cfg(test)]
-mod tests;
 
 pub use context::SnapContext;
 pub use laws::{
     descending_lists_are_equal, merged_by_example, merged_is_a_realm_context,
-    realm_contexts_are_equal,
+    realm_contexts_are_equal, values_may_cross_threads,
 };
 pub use list::SnapList;
 pub use realm::RealmRecord;

@@ -1,6 +1,6 @@
 use Rattle.std.proofs.Common.{refl}
 use Rattle.cs_capsnap.specs.CapSnaps.{queued}
-use Rattle.cs_capsnap.proofs.Kept.{order_push, order_finished, order_sent, order_left}
+use Rattle.cs_capsnap.proofs.Order.{order_push, order_finished, order_sent, order_left}
 use Rattle.cs_capsnap.proofs.laws.steps_keep_the_order.Goals as goal
 
 pub returns-clause-queue : goal.returns-clause-queue

@@ -1,8 +1,8 @@
 use Rattle.std.proofs.Common.{◌≡◌, false, [], ◌∷◌, ◌++◌, None, map, ◌∙◌, ap}
 use Rattle.cs_snapctx.specs.Contexts.{context_of}
 use Rattle.cs_snapctx.specs.Records.{is_known, with_record}
-use Rattle.cs_realms.specs.Renewals.{put_all, renewed, told_changes}
-use Rattle.cs_realms.proofs.Renewing.{added_kept, added_told, of_end}
+use Rattle.cs_realms.specs.Renewals.{put_all, renewed, answered_changes}
+use Rattle.cs_realms.proofs.Renewing.{added_contexts, added_answer, of_end}
 use Rattle.cs_realms.proofs.realms.Realms.add.Goals as goal
 
 unknown : (c : goal.After-of-2) → is_known c.args.r.now.realm c.self.inside.records.items ≡ false
@@ -20,8 +20,8 @@ kept c = ap (λ n. n.kept) c.in_ok-kept.ensures ∙ own c
 answered : (c : goal.After-of-2) → c.in_ok-kept.field-0.answered ≡ context_of (with_record c.args.r.now c.self.inside.records.items) c.args.r.now
 answered c = ap (λ n. n.answered) c.in_ok-kept.ensures ∙ own c
 
-taken : (c : goal.After-of-2) → c.push_reserved.new.self.items ≡ with_record c.args.r.now c.self.inside.records.items
-taken c =
+taken_in : (c : goal.After-of-2) → c.push_reserved.new.self.items ≡ with_record c.args.r.now c.self.inside.records.items
+taken_in c =
     let rs = c.self.inside.records.items in
     c.push_reserved.ensures.items
     ∙ (ap (λ ys. ys ++ c.in_ok-last.last ∷ []) c.in_ok-reserve.ensures.items
@@ -39,10 +39,10 @@ invariant_of-self-2 c =
     let cs = c.self.inside.contexts.items in
     let put : c.put_in.new.contexts.items ≡ put_all (map (renewed c.args.r.now rs) rs) (cs ++ context_of (with_record c.args.r.now rs) c.args.r.now ∷ []) =
     c.put_in.ensures.contexts ∙ (ap (λ ws. put_all ws c.push.new.self.items) (renewed_is c) ∙ ap (put_all (map (renewed c.args.r.now rs) rs)) (with_own c)) in
-    rw (taken c, put) (added_kept c.args.r.now rs cs c.self.invariant (unknown c))
+    rw (taken_in c, put) (added_contexts c.args.r.now rs cs c.self.invariant (unknown c))
 
 pub returns-clause-records : goal.returns-clause-records
-returns-clause-records c = rw (← c.self.view_is) (taken c)
+returns-clause-records c = rw (← c.self.view_is) (taken_in c)
 
 pub returns-clause-changed : goal.returns-clause-changed
 returns-clause-changed c =
@@ -50,16 +50,16 @@ returns-clause-changed c =
     let cs = c.self.inside.contexts.items in
     let r = c.args.r.now in
     let after = c.push.new.self.items in
-    let told : c.put_in.new.changes.items ≡ told_changes rs (map (renewed r rs) rs) (cs ++ context_of (with_record r rs) r ∷ []) =
+    let listed : c.put_in.new.changes.items ≡ answered_changes rs (map (renewed r rs) rs) (cs ++ context_of (with_record r rs) r ∷ []) =
     c.put_in.ensures.changes
-    ∙ (ap (λ ys. ys ++ told_changes c.as_slice-4.result.now c.in_ok-renewed.renewed.items after) c.in_ok-changes.ensures.items
-    ∙ (ap (λ ys. told_changes ys c.in_ok-renewed.renewed.items after) (c.as_slice-4.ensures.value ∙ c.in_ok-reserve.ensures.items)
-    ∙ (ap (λ ws. told_changes rs ws after) (renewed_is c) ∙ ap (told_changes rs (map (renewed r rs) rs)) (with_own c)))) in
+    ∙ (ap (λ ys. ys ++ answered_changes c.as_slice-4.result.now c.in_ok-renewed.renewed.items after) c.in_ok-changes.ensures.items
+    ∙ (ap (λ ys. answered_changes ys c.in_ok-renewed.renewed.items after) (c.as_slice-4.ensures.value ∙ c.in_ok-reserve.ensures.items)
+    ∙ (ap (λ ws. answered_changes rs ws after) (renewed_is c) ∙ ap (answered_changes rs (map (renewed r rs) rs)) (with_own c)))) in
     let pushed : c.push_reserved-2.new.self.items ≡ c.put_in.new.changes.items ++ record { realm = r.realm; old = None; new = c.in_ok-kept.field-0.answered } ∷ [] =
     c.push_reserved-2.ensures.items in
-    rw (← c.self.view_is, taken c)
+    rw (← c.self.view_is, taken_in c)
     (c.of-2.ensures
     ∙ (pushed
-    ∙ (ap (λ ys. ys ++ record { realm = r.realm; old = None; new = c.in_ok-kept.field-0.answered } ∷ []) told
-    ∙ (ap (λ x. told_changes rs (map (renewed r rs) rs) (cs ++ context_of (with_record r rs) r ∷ []) ++ record { realm = r.realm; old = None; new = x } ∷ []) (answered c)
-    ∙ added_told r rs cs c.self.invariant (unknown c)))))
+    ∙ (ap (λ ys. ys ++ record { realm = r.realm; old = None; new = c.in_ok-kept.field-0.answered } ∷ []) listed
+    ∙ (ap (λ x. answered_changes rs (map (renewed r rs) rs) (cs ++ context_of (with_record r rs) r ∷ []) ++ record { realm = r.realm; old = None; new = x } ∷ []) (answered c)
+    ∙ added_answer r rs cs c.self.invariant (unknown c)))))

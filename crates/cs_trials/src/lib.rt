@@ -1,0 +1,14 @@
+//! Tests of crates that have none of their own, since a crate with tests is proved twice: each call that
+//! takes memory, once with ample memory, and what no contract says.
+#![tactic(auto)]
+
+#[cfg(test)]
+mod capsnap;
+#[cfg(test)]
+mod flush;
+#[cfg(test)]
+mod gate;
+#[cfg(test)]
+mod realms;
+#[cfg(test)]
+mod refs;
