@@ -1,0 +1,4 @@
+mod Bytes
+mod Kept
+mod Ordered
+mod Sent

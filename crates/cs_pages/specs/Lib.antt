@@ -1,0 +1,4 @@
+pub mod Example
+pub mod Life
+pub mod Page
+pub mod Pages

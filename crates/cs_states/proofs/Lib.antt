@@ -1,0 +1,3 @@
+mod Counts
+mod Picks
+pub mod Listed

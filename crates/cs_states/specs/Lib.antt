@@ -1,0 +1,5 @@
+pub mod Deliveries
+pub mod Delivery
+pub mod Example
+pub mod PageLists
+pub mod PageState
