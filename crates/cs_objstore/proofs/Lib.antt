@@ -1,3 +1,7 @@
+pub mod Blocks
 pub mod Bytes
-pub mod Drawn
+pub mod Falling
+pub mod Found
+pub mod Kept
+pub mod Spans
 pub mod Tids

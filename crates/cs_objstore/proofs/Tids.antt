@@ -1,5 +1,5 @@
 -- Numbers of operations in a list.
-use Rattle.std.proofs.Common.{◌≡◌, sym, ℕ, ◌≤◌, ◌==◌, ◌&&◌, nat_le, true, List, [], ◌∷◌, ◌++◌, reverse, arith, max}
+use Rattle.std.proofs.Common.{◌≡◌, ◌∙◌, sym, ap, ℕ, ◌==◌, Bool, true, false, cond, List, [], ◌∷◌, ◌++◌, reverse, nat_eq, refl, arith}
 use Rattle.std.proofs.lemmas.List.{reverse-append}
 use Rattle.std.proofs.lemmas.List.Folds.{list_any-append}
 use Rattle.std.proofs.lemmas.List.Sorted.{list_any-IsPermutation, IsPermutation-reverse}
@@ -13,13 +13,6 @@ has_tid_reverse tid ops = sym (list_any-IsPermutation (λ op. op.tid == tid) ops
 pub reverse_pushed : (ops : List ObjOp) (op : ObjOp) → reverse (ops ++ op ∷ []) ≡ op ∷ reverse ops
 reverse_pushed ops op = reverse-append ops (op ∷ [])
 
--- no number is above the greatest one
-pub within_more : (ops : List ObjOp) (op : ObjOp) (greatest : ℕ) → ((tid : ℕ) → has_tid tid ops ≡ true → tid ≤ greatest)
-    → (tid : ℕ) → has_tid tid (ops ++ op ∷ []) ≡ true → tid ≤ max greatest op.tid
-within_more ops op greatest within tid has =
-    let here = rw list_any-append at has in grind (arith, common_steps, within tid, here)
-
--- a number above the greatest one isn't in the list
-pub above_is_new : (tid greatest : ℕ) (ops : List ObjOp) → ((tid : ℕ) → has_tid tid ops ≡ true → tid ≤ greatest)
-    → (nat_le tid greatest && has_tid tid ops) ≡ has_tid tid ops
-above_is_new tid greatest ops within = grind (arith, common_steps, within tid)
+-- an operation more has one number more
+pub has_tid_pushed : (ops : List ObjOp) (op : ObjOp) (tid : ℕ) → has_tid tid (ops ++ op ∷ []) ≡ cond (op.tid == tid) true (has_tid tid ops)
+has_tid_pushed ops op tid = rw list_any-append (grind (arith, common_steps))

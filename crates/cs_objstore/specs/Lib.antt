@@ -1,2 +1,6 @@
-pub mod Shown
+pub mod Blocks
+pub mod Clones
+pub mod Found
+pub mod Kept
 pub mod Stores
+pub mod Versions

@@ -1,51 +1,64 @@
-// The bytes of an object, from the operations that were applied, the oldest first.
-ghost use Rattle.std.specs.Prelude.{◌≡◌, ◌+◌, ◌≤◌, ℕ, length, reverse, slice_index, EachIndex};
-ghost use Rattle.cs_laws.specs.Image.{byte_over};
-ghost use Rattle.cs_laws.specs.Objects.{same_object};
-ghost use Rattle.cs_objstore.specs.Stores.{ReadsObject};
-ghost use Rattle.cs_objstore.specs.Shown.{shows};
+// The bytes of an object in one of its states, in blocks that states share.
+ghost use Rattle.std.specs.Prelude.{◌≡◌, ◌+◌, ◌≤◌, [], length, slice_index, EachIndex, IfOk};
+ghost use Rattle.cs_objstore.specs.Blocks.{byte_in, Writes};
 
-use cs_ids::Obj;
-use cs_laws::{At, ObjOp};
+use crate::block::{BLOCK_SIZE, Block, lay_over};
+use cs_ids::Memory;
+use std::alloc::Global;
+use std::marker::Model;
 
-// Fills `out` with the object's bytes from `off` on.
-pub fn read_object(ops: &[ObjOp], obj: &Obj, at: &At, off: u32, out: &mut [u8])
-    requires { off + length out.old ≤ 65536 }
-    ensures { ReadsObject (reverse ops.now) obj.now at.now off out.new }
-{
-    out.fill(0);
-    for op in ops {
-        if is_on(op, obj) {
-            if !is_shown(op, at) {
-                break;
-            }
-            lay_over(op.bytes.as_slice(), op.off, off, out);
+/// The bytes of an object: those that were never written are zero. Contracts see its blocks, from
+/// the first one to the last that was written.
+#[derive(Drop)]
+pub struct Image {
+    blocks: Vec<Block>,
+}
+
+impl Model for Image {
+    ghost use Rattle.std.specs.Prelude.{List, ℕ, ◌≤◌, length};
+
+    ghost Value = { List (List ℕ) };
+
+    ghost view = { λ s. s.blocks.items };
+
+    ghost invariant = { λ s. length s.blocks.items ≤ 16 };
+}
+
+impl Image {
+    /// Nothing was written. It takes no memory.
+    pub fn new(alloc: Global) -> Self
+        ensures { result ≡ [] }
+    {
+        Image {
+            blocks: Vec::new(alloc),
         }
     }
-}
 
-fn is_on(op: &ObjOp, obj: &Obj) -> bool
-    ensures { result ≡ same_object op.now.obj obj.now }
-{
-    op.obj == *obj
-}
-
-// Whether the state at `at` may have the operation in it.
-fn is_shown(op: &ObjOp, at: &At) -> bool
-    ensures { result ≡ shows at.now op.now }
-{
-    match at {
-        At::Head => true,
-        At::Snap(snap) => op.ctx.seq().get() < snap.get(),
+    /// The image after these bytes, which end within the object, are written from `off` on. It
+    /// shares each block that they don't touch.
+    pub fn written(&self, alloc: Global, off: u32, bytes: &[u8]) -> Result<Image, Memory>
+        requires { off + length bytes.now ≤ 65536 }
+        ensures { IfOk result (Writes off bytes.now self.now) }
+    {
+        let off = off as usize;
+        let reached = (off + bytes.len()).div_ceil(BLOCK_SIZE);
+        let count = self.blocks.len().max(reached);
+        let none = Block::new();
+        let mut blocks = Vec::with_capacity(alloc, count)?;
+        for index in 0..count {
+            let block = self.blocks.get(index).unwrap_or(&none);
+            blocks.push(block.written(alloc, index * BLOCK_SIZE, off, bytes)?)?;
+        }
+        Ok(Image { blocks })
     }
-}
 
-// Puts the bytes, which lie from `start` on, over those of `out`, which lie from `off` on.
-fn lay_over(bytes: &[u8], start: u32, off: u32, out: &mut [u8])
-    ensures { EachIndex out.new (λ k. slice_index out.new k ≡ byte_over start bytes.now (off + k) (slice_index out.old k)) }
-{
-    let skipped = (off.saturating_sub(start) as usize).min(bytes.len());
-    let place = (start.saturating_sub(off) as usize).min(out.len());
-    let count = (bytes.len() - skipped).min(out.len() - place);
-    out[place..place + count].copy_from_slice(&bytes[skipped..skipped + count]);
+    /// Fills `out` with the bytes from `off` on.
+    pub fn read(&self, off: u32, out: &mut [u8])
+        ensures { EachIndex out.new (λ k. slice_index out.new k ≡ byte_in self.now (off + k)) }
+    {
+        out.fill(0);
+        for (index, block) in self.blocks.iter().enumerate() {
+            lay_over(block.as_slice(), index * BLOCK_SIZE, off as usize, out);
+        }
+    }
 }

@@ -1,11 +1,14 @@
 //! Stores of objects: what was written to the objects of all files, as the list of the operations
-//! that were applied. In memory, and with chosen calls that fail.
+//! that were applied. In memory, and with chosen calls that fail. A store in memory keeps for each
+//! object a head and its clones, as RADOS does (Ceph's developer docs, "snapshots").
 #![tactic(auto)]
 
 mod answers;
+mod block;
 mod faulty;
 mod image;
 mod memory;
+mod object;
 #[cfg(test)]
 mod tests;
 mod traits;

@@ -1,34 +1,57 @@
 // A store in memory.
-ghost use Rattle.std.specs.Prelude.{◌≡◌, ◌+◌, ◌≤◌, [], length, reverse, IsOk, IfOk, IsErrOf};
+ghost use Rattle.std.specs.Prelude.{◌≡◌, ◌+◌, ◌≤◌, ◌++◌, [], ◌∷◌, length, reverse, IsOk, IfOk, OnOk, OnErr, IsErrOf};
+ghost use Rattle.cs_objstore.specs.Clones.{clones_of};
 ghost use Rattle.cs_objstore.specs.Stores.{has_tid, Applies, ReadsObject};
 
-use crate::image::read_object;
+use crate::object::Object;
 use crate::{Applied, ObjStore, StoreFault};
-use cs_ids::{Failed, Obj, Tid};
+use cs_ids::{Failed, Ino, Memory, Obj, Tid};
 use cs_laws::{At, ObjOp, ObjOps};
 use std::alloc::Global;
+use std::collections::{HashMap, HashSet};
 use std::marker::Model;
+
+// By what an object is found.
+#[derive(Clone, Copy, PartialEq, Eq, Hash)]
+struct Key {
+    ino: Ino,
+    index: u32,
+}
+
+impl Key {
+    fn of(obj: Obj) -> Self
+        ensures ino { result.ino ≡ obj.ino }
+        ensures index { result.index ≡ obj.index }
+    {
+        Key {
+            ino: obj.ino,
+            index: obj.index,
+        }
+    }
+}
 
 /// A store in memory. It never fails. Contracts see the operations that were applied, the oldest
 /// first.
 #[derive(Drop)]
 pub struct MemStore {
+    // A record of what was applied. Bytes are read from the objects alone.
     ops: ObjOps,
-    // The greatest number of an operation so far, or 0: they count from 1.
-    greatest: u64,
+    objects: HashMap<Key, Object>,
+    // The numbers of the operations.
+    tids: HashSet<Tid>,
     alloc: Global,
 }
 
 impl Model for MemStore {
-    ghost use Rattle.std.specs.Prelude.{List, ℕ, ◌≡◌, ◌≤◌, true};
+    ghost use Rattle.std.specs.Prelude.{List};
     ghost use Rattle.cs_laws.specs.declared.objects.ObjOp.{ObjOp};
-    ghost use Rattle.cs_objstore.specs.Stores.{has_tid};
+    ghost use Rattle.cs_objstore.specs.Found.{Stands};
 
     ghost Value = { List ObjOp };
 
     ghost view = { λ s. s.ops };
 
-    ghost invariant = { λ s. (tid : ℕ) → has_tid tid s.ops ≡ true → tid ≤ s.greatest };
+    ghost invariant = { λ s. Stands s.ops s.objects s.tids };
 }
 
 impl MemStore {
@@ -38,7 +61,8 @@ impl MemStore {
     {
         MemStore {
             ops: ObjOps::new(alloc),
-            greatest: 0,
+            objects: HashMap::new(alloc),
+            tids: HashSet::new(alloc),
             alloc,
         }
     }
@@ -50,19 +74,38 @@ impl MemStore {
         &self.ops
     }
 
+    /// How often the object was cloned: the number of operations on it that were applied, each with
+    /// an earlier one on the object, whose context's number is greater than those of all earlier
+    /// ones. It takes no memory.
+    pub fn clones(&self, obj: Obj) -> u32
+        ensures { result ≡ clones_of obj (reverse self.now) }
+    {
+        match self.objects.get(&Key::of(obj)) {
+            Some(object) => object.clones(),
+            None => 0,
+        }
+    }
+
     // Whether an operation of this number was applied.
-    #[tactic(auto, using(crate::proofs::Tids::above_is_new))]
     fn has(&self, tid: &Tid) -> bool
         ensures { result ≡ has_tid tid.now self.now }
     {
-        tid.get() <= self.greatest && contains(self.ops.as_slice(), tid)
+        self.tids.contains(tid)
     }
-}
 
-fn contains(ops: &[ObjOp], tid: &Tid) -> bool
-    ensures { result ≡ has_tid tid.now ops.now }
-{
-    ops.iter().any(|op| op.tid == *tid)
+    // Applies an operation whose number is new. After `Memory` all is as before.
+    fn write(&mut self, op: &ObjOp) -> Result<(), Memory>
+        requires { op.now.off + length op.now.bytes ≤ 65536 }
+        ensures ok { OnOk result (self.new ≡ self.old ++ op.now ∷ []) }
+        ensures err { OnErr result (self.new ≡ self.old) }
+    {
+        self.tids.reserve(1)?;
+        let entry = self.objects.entry(Key::of(op.obj))?;
+        let object = entry.or_insert(Object::new(self.alloc));
+        object.write(self.alloc, op, &mut self.ops)?;
+        self.tids.insert(op.tid)?;
+        Ok(())
+    }
 }
 
 impl ObjStore for MemStore {
@@ -71,7 +114,7 @@ impl ObjStore for MemStore {
     ghost faults = { λ _. 0 };
 
     /// Applies the operation where none of its number was applied before, or finds no memory for it.
-    #[tactic(auto, using(crate::proofs::Tids::has_tid_reverse, crate::proofs::Tids::reverse_pushed, crate::proofs::Tids::within_more))]
+    #[tactic(auto, using(crate::proofs::Tids::has_tid_reverse, crate::proofs::Tids::reverse_pushed))]
     fn apply(&mut self, op: &ObjOp) -> Result<Applied, StoreFault>
         requires { op.now.off + length op.now.bytes ≤ 65536 }
         ensures list { Applies (reverse self.old) (reverse self.new) op.now result }
@@ -80,8 +123,7 @@ impl ObjStore for MemStore {
         if self.has(&op.tid) {
             return Ok(Applied::Dup);
         }
-        self.ops.push(op.copy(self.alloc)?)?;
-        self.greatest = self.greatest.max(op.tid.get());
+        self.write(op)?;
         Ok(Applied::New)
     }
 
@@ -92,7 +134,10 @@ impl ObjStore for MemStore {
         ensures bytes { IfOk result (λ _. ReadsObject (reverse self.old) obj at off out.new) }
         ensures unfailing { IsOk result }
     {
-        read_object(self.ops.as_slice(), &obj, &at, off, out);
+        match self.objects.get(&Key::of(obj)) {
+            Some(object) => object.read(&at, off, out),
+            None => out.fill(0),
+        }
         Ok(())
     }
 }

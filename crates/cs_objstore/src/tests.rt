@@ -21,9 +21,9 @@ fn context(alloc: Global, seq: u64) -> Result<SnapContext, Fail> {
     Ok(SnapContext::merge(alloc, &[], &[], seq, &parent, since)?)
 }
 
-// Two bytes from 10 on.
-fn operation(alloc: Global, tid: u64, seq: u64, bytes: &[u8; 2]) -> Result<ObjOp, Fail>
-    ensures { IfOk result (λ op. (op.off ≡ 10) × (op.bytes ≡ bytes.now)) }
+// Two bytes from an offset on.
+fn operation(alloc: Global, tid: u64, seq: u64, off: u32, bytes: &[u8; 2]) -> Result<ObjOp, Fail>
+    ensures { IfOk result (λ op. (op.off ≡ off) × (op.bytes ≡ bytes.now)) }
 {
     let tid = Tid::new(tid).ok_or("tid")?;
     let bytes = Bytes::from_slice(alloc, bytes)?;
@@ -31,7 +31,7 @@ fn operation(alloc: Global, tid: u64, seq: u64, bytes: &[u8; 2]) -> Result<ObjOp
     Ok(ObjOp {
         tid,
         obj: object()?,
-        off: 10,
+        off,
         bytes,
         ctx,
     })
@@ -39,8 +39,8 @@ fn operation(alloc: Global, tid: u64, seq: u64, bytes: &[u8; 2]) -> Result<ObjOp
 
 // Two operations through the bound, the second under a later context.
 fn write_both<S: ObjStore>(alloc: Global, store: &mut S) -> Result<(Applied, Applied), Fail> {
-    let first = store.apply(&operation(alloc, 1, 0, b"ab")?)?;
-    let second = store.apply(&operation(alloc, 2, 2, b"cd")?)?;
+    let first = store.apply(&operation(alloc, 1, 0, 10, b"ab")?)?;
+    let second = store.apply(&operation(alloc, 2, 2, 10, b"cd")?)?;
     Ok((first, second))
 }
 
@@ -68,7 +68,7 @@ fn applies_a_number_once(rt: HostRuntime) -> Result<(), Fail> {
     let mut store = MemStore::new(rt.alloc());
     let answers = write_both(rt.alloc(), &mut store)?;
     assert_eq!(rt; answers, (Applied::New, Applied::New));
-    let again = store.apply(&operation(rt.alloc(), 1, 0, b"ef")?)?;
+    let again = store.apply(&operation(rt.alloc(), 1, 0, 10, b"ef")?)?;
     assert_eq!(rt; again, Applied::Dup);
     assert_eq!(rt; store.ops().len(), 2);
     crosses_threads(&store);
@@ -78,7 +78,7 @@ fn applies_a_number_once(rt: HostRuntime) -> Result<(), Fail> {
 #[test]
 fn the_second_call_fails(rt: HostRuntime) -> Result<(), Fail> {
     let mut store = FaultyStore::new(rt.alloc(), &[2])?;
-    let op = operation(rt.alloc(), 1, 0, b"ab")?;
+    let op = operation(rt.alloc(), 1, 0, 10, b"ab")?;
     let mut out = *b"....";
     assert_eq!(rt; store.apply(&op), Ok(Applied::New));
     assert_eq!(rt; store.read(object()?, At::Head, 9, &mut out), Err(Failed));
@@ -91,8 +91,34 @@ fn the_second_call_fails(rt: HostRuntime) -> Result<(), Fail> {
 #[test]
 fn the_first_call_fails(rt: HostRuntime) -> Result<(), Fail> {
     let mut store = FaultyStore::new(rt.alloc(), &[1])?;
-    let op = operation(rt.alloc(), 1, 0, b"ab")?;
+    let op = operation(rt.alloc(), 1, 0, 10, b"ab")?;
     assert_eq!(rt; store.apply(&op), Err(StoreFault::Failed));
     assert!(rt; store.ops().is_empty());
+    Ok(())
+}
+
+// The writes of one reference, the last of them under a snapshot.
+#[test]
+fn an_object_is_cloned_before_a_later_context(rt: HostRuntime) -> Result<(), Fail> {
+    let mut store = MemStore::new(rt.alloc());
+    let _ = store.apply(&operation(rt.alloc(), 1, 0, 0, b"aa")?)?;
+    let _ = store.apply(&operation(rt.alloc(), 2, 0, 2, b"bb")?)?;
+    assert_eq!(rt; store.clones(object()?), 0);
+    let _ = store.apply(&operation(rt.alloc(), 3, 1, 0, b"zz")?)?;
+    assert_eq!(rt; store.clones(object()?), 1);
+    let snap = Snap::new(1).ok_or("snapshot")?;
+    let mut out = *b"....";
+    store.read(object()?, At::Snap(snap), 0, &mut out)?;
+    assert_eq!(rt; out, *b"aabb");
+    store.read(object()?, At::Head, 0, &mut out)?;
+    assert_eq!(rt; out, *b"zzbb");
+    Ok(())
+}
+
+#[test]
+fn an_object_that_was_never_written_is_not_cloned(rt: HostRuntime) -> Result<(), Fail> {
+    let mut store = MemStore::new(rt.alloc());
+    let _ = store.apply(&operation(rt.alloc(), 1, 1, 0, b"aa")?)?;
+    assert_eq!(rt; store.clones(object()?), 0);
     Ok(())
 }

@@ -1,6 +1,6 @@
 use Rattle.std.proofs.Common.{◌∙◌, ap, min, length}
 use Rattle.cs_objstore.proofs.Bytes.{copied}
-use Rattle.cs_objstore.proofs.image.lay_over.Goals as goal
+use Rattle.cs_objstore.proofs.block.lay_over.Goals as goal
 
 pub returns : goal.returns
 returns c =
