@@ -4,20 +4,10 @@
 
 mod command;
 mod finished;
-#[cfg(test)]
-mod grammar_tests;
 mod input;
 mod journal;
-#[cfg(test)]
-mod one_file_tests;
 mod run_fault;
 mod serve;
-#[cfg(test)]
-mod snapshot_tests;
-#[cfg(test)]
-mod store_tests;
-#[cfg(test)]
-mod test_runs;
 #[cfg(test)]
 mod tests;
 mod write_fault;

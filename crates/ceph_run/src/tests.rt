@@ -1,10 +1,14 @@
+// What no clause says: that calls succeed with ample memory, and that a world may go to another thread. And which call fails
+// where a device does.
+ghost use Rattle.std.specs.Prelude.{◌≡◌, []};
+
 use crate::command::ceph_main;
 use crate::finished::Finished;
 use crate::serve::serve_run;
-use crate::test_runs::{repeated, run};
 use cs_ids::Memory;
 use cs_io::{FaultySink, FaultySource, MemSink, MemSource, Sink, Source};
-use cs_objstore::MemStore;
+use cs_objstore::{FaultyStore, MemStore, ObjStore};
+use cs_world::World;
 use std::alloc::Global;
 use std::test::Fail;
 
@@ -13,6 +17,49 @@ const HOLD_THEN_ACK: &[u8] =
 
 const HELD: &[u8] =
     b"ceph-journal 1\n1 file 100 1 -> made\n2 grant 100 Frw 4096 -> sent 1 held Frw\n3 toclient -> cap 100 1 Frw 4096\n4 begin 1 100 Fw 8 -> ref 1\n5 revoke 100 Fw -> sent 2 held Frw\n6 toclient -> cap 100 2 Fr 4096\n7 check 100 -> hold Fw\n8 end 1 1 -> ended\n9 check 100 -> ack 2 Fr\n10 tomds -> capack 100 2 held Fr\nend 10\n";
+
+// The second write touches two objects.
+const WRITES: &[u8] =
+    b"ceph-script 1\nfile 100 1\ngrant 100 Fw 1048576\ntoclient\nbegin 1 100 Fw 1048576\nwrite 1 1 0 6161\nwrite 1 1 65535 6162\nwrite 1 1 1 62\nend 1 1\n";
+
+const WROTE: &[u8] =
+    b"ceph-journal 1\n1 file 100 1 -> made\n2 grant 100 Fw 1048576 -> sent 1 held Fw\n3 toclient -> cap 100 1 Fw 1048576\n4 begin 1 100 Fw 1048576 -> ref 1\n5 write 1 1 0 6161 -> wrote\n6 write 1 1 65535 6162 -> wrote\n7 write 1 1 1 62 -> wrote\n8 end 1 1 -> ended\nend 8\n";
+
+// The store's second call reads.
+const READS: &[u8] =
+    b"ceph-script 1\nfile 100 1\ngrant 100 Frw 4096\ntoclient\nbegin 1 100 Frw 8\nwrite 1 1 0 6161\nread 1 1 0 2\n";
+
+const READ_FAILED: &[u8] =
+    b"ceph-journal 1\n1 file 100 1 -> made\n2 grant 100 Frw 4096 -> sent 1 held Frw\n3 toclient -> cap 100 1 Frw 4096\n4 begin 1 100 Frw 8 -> ref 1\n5 write 1 1 0 6161 -> wrote\n";
+
+// The status of the program's call with the word `run` over a store, the store behind it, and what
+// the sink took.
+fn run_over<O: ObjStore>(
+    alloc: Global,
+    input: &[u8],
+    store: O,
+) -> Result<(u8, O, MemSink), Memory>
+    requires { O.ops store ≡ [] }
+{
+    let mut words = Vec::new(alloc);
+    words.push(String::from_str(alloc, "run")?)?;
+    let mut source = MemSource::new(alloc, input)?;
+    let mut sink = MemSink::new(alloc);
+    let Finished {
+        status,
+        store,
+        log: (),
+    } = ceph_main(
+        &(),
+        alloc,
+        words.as_slice(),
+        &mut source,
+        &mut sink,
+        store,
+        (),
+    );
+    Ok((status, store, sink))
+}
 
 fn status<S: Source, K: Sink>(alloc: Global, source: &mut S, sink: &mut K) -> u8 {
     let Finished {
@@ -25,59 +72,9 @@ fn status<S: Source, K: Sink>(alloc: Global, source: &mut S, sink: &mut K) -> u8
 
 #[test]
 fn ample_memory_gives_answers(rt: HostRuntime) -> Result<(), Fail> {
-    let (status, sink) = run(rt.alloc(), HOLD_THEN_ACK)?;
+    let (status, _, sink) = run_over(rt.alloc(), HOLD_THEN_ACK, MemStore::new(rt.alloc()))?;
     assert_eq!(rt; status, 0);
     assert_eq!(rt; sink.bytes(), HELD);
-    Ok(())
-}
-
-#[test]
-fn inputs_end_with_their_status_and_text(rt: HostRuntime) -> Result<(), Fail> {
-    let table: [(&[u8], u8, &[u8]); 4] = [
-        (b"ceph-script 1\n", 0, b"ceph-journal 1\nend 0\n"),
-        (b"", 2, b"ceph-fault script 1 header\n"),
-        (
-            b"ceph-script 1\nlookup 1 1 x\n",
-            2,
-            b"ceph-fault script 2 notbuilt\n",
-        ),
-        (
-            b"ceph-script 1\ngrant 1 Frw 1048577\n",
-            2,
-            b"ceph-fault script 2 range\n",
-        ),
-    ];
-    for (input, wanted, text) in table.iter() {
-        let (status, sink) = run(rt.alloc(), input)?;
-        assert_eq!(rt; status, *wanted);
-        assert_eq!(rt; sink.bytes(), *text);
-    }
-    Ok(())
-}
-
-#[test]
-fn a_line_of_4097_bytes_is_long(rt: HostRuntime) -> Result<(), Fail> {
-    let script = repeated(rt.alloc(), b"ceph-script 1\n", b"x", 4097, b"\n")?;
-    let (status, sink) = run(rt.alloc(), script.as_slice())?;
-    assert_eq!(rt; status, 2);
-    assert_eq!(rt; sink.bytes(), b"ceph-fault script 2 long\n".as_slice());
-    Ok(())
-}
-
-#[test]
-fn the_table_is_full_at_256_references(rt: HostRuntime) -> Result<(), Fail> {
-    let begin = b"ceph-script 1\nfile 100 1\ngrant 100 Frw 4096\ntoclient\n";
-    let script = repeated(
-        rt.alloc(),
-        begin,
-        b"begin 1 100 Fr 0\n",
-        256,
-        b"begin 2 100 Fr 0\n",
-    )?;
-    let (status, sink) = run(rt.alloc(), script.as_slice())?;
-    assert_eq!(rt; status, 0);
-    let end = b"\n259 begin 1 100 Fr 0 -> ref 256\n260 begin 2 100 Fr 0 -> full\nend 260\n";
-    assert!(rt; sink.bytes().ends_with(end));
     Ok(())
 }
 
@@ -136,5 +133,53 @@ fn a_fault_of_the_sink_leaves_whole_lines(rt: HostRuntime) -> Result<(), Fail> {
         let lines = taken.iter().filter(|c| **c == b'\n').count();
         assert_eq!(rt; lines as u32, call.min(13) - 1);
     }
+    Ok(())
+}
+
+#[test]
+fn a_store_that_fails_has_the_operations_before(rt: HostRuntime) -> Result<(), Fail> {
+    for call in 1..6u32 {
+        let failing = FaultyStore::new(rt.alloc(), &[call])?;
+        let (status, store, sink) = run_over(rt.alloc(), WRITES, failing)?;
+        let taken = sink.bytes();
+        assert_eq!(rt; status, if call > 4 { 0 } else { 6 });
+        assert!(rt; WROTE.starts_with(taken));
+        let lines = taken.iter().filter(|c| **c == b'\n').count();
+        let wanted = match call {
+            1 => 5,
+            2 | 3 => 6,
+            4 => 7,
+            _ => 10,
+        };
+        assert_eq!(rt; lines, wanted);
+        assert_eq!(rt; store.ops().len(), call as usize - 1);
+    }
+    Ok(())
+}
+
+#[test]
+fn a_store_that_fails_to_read_has_all_operations(rt: HostRuntime) -> Result<(), Fail> {
+    let failing = FaultyStore::new(rt.alloc(), &[2])?;
+    let (status, store, sink) = run_over(rt.alloc(), READS, failing)?;
+    assert_eq!(rt; status, 6);
+    assert_eq!(rt; sink.bytes(), READ_FAILED);
+    assert_eq!(rt; store.ops().len(), 1);
+    Ok(())
+}
+
+fn crosses_threads<T: Send>(_: &T) {}
+
+// A world is `Send` where its store and its log are.
+fn worlds_cross_threads<O: ObjStore, L: Send>(world: &World<O, L>) {
+    crosses_threads(world)
+}
+
+#[test]
+fn a_world_crosses_threads(rt: HostRuntime) -> Result<(), Fail> {
+    let world = World::make(rt.alloc(), 1, MemStore::new(rt.alloc()), ())
+        .ok()
+        .ok_or("memory")?;
+    worlds_cross_threads(&world);
+    let (_, ()) = world.finish();
     Ok(())
 }

@@ -9,8 +9,6 @@ mod inode;
 mod laws;
 mod operations;
 mod reports;
-#[cfg(test)]
-mod tests;
 
 pub use answers::{Allow, ChmodStep, FlushStep, SnapStep, WriteStep};
 pub use inode::{FIRST_MODE, Inode};

@@ -11,8 +11,6 @@ mod messages;
 mod objects;
 mod printing;
 mod records;
-#[cfg(test)]
-mod tests;
 
 pub use answers::{Answer, Entry, Why, not_yet};
 pub use events::{Event, RefName, is_built};

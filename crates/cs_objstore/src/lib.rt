@@ -9,8 +9,6 @@ mod faulty;
 mod image;
 mod memory;
 mod object;
-#[cfg(test)]
-mod tests;
 mod traits;
 
 pub use answers::{Applied, StoreFault};

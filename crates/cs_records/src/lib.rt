@@ -7,8 +7,6 @@ mod names;
 mod own;
 mod realms;
 mod records;
-#[cfg(test)]
-mod tests;
 
 pub use laws::{
     a_removal_tells_its_realm_alone, a_snapshot_tells_its_realm_and_those_now_below,

@@ -53,8 +53,8 @@ rows =
     (codes "grant 1 Frw 0", events.Grant 1 (record { 0 = 6144 }) 0) ∷
     (codes "revoke 99999 -", events.Revoke 99999 (record { 0 = 0 })) ∷
     (codes "snap 99999 0-to_9.of-32-bytes-abcdefghijklm", events.Snap 99999 (codes "0-to_9.of-32-bytes-abcdefghijklm")) ∷
-    (codes "rmsnap 1", events.RemoveSnap 1) ∷
-    (codes "rmsnap 99999", events.RemoveSnap 99999) ∷
+    (codes "rmsnap 1", events.RmSnap 1) ∷
+    (codes "rmsnap 99999", events.RmSnap 99999) ∷
     (codes "commit", events.Commit) ∷
     (codes "show 1 head 0 1", events.Show 1 at.Head 0 1) ∷
     (codes "show 99999 99999 1048575 4096", events.Show 99999 (at.Snap 99999) 1048575 4096) ∷

@@ -8,7 +8,7 @@ use Rattle.cs_ids.specs.declared.objects.FileMeta.{FileMeta}
 use Rattle.cs_capsnap.specs.declared.snap.CapSnap.{CapSnap as Snap}
 use Rattle.cs_capsnap.specs.CapSnaps as kept
 use Rattle.cs_capsnap.specs.Order.{IsInOrder}
-use Rattle.cs_capsnap.proofs.Kept.{order_push, order_finished, order_sent, order_left}
+use Rattle.cs_capsnap.proofs.Order.{order_push, order_finished, order_sent, order_left}
 use Rattle.cs_capsnap.proofs.Changes.{greatest_push, greatest_finished, greatest_sent, greatest_left}
 use Rattle.cs_laws.specs.CapSnaps.{CapSnap, is_open, is_writing}
 use Rattle.cs_laws.specs.Flushes.{meta_upto, written_meta}

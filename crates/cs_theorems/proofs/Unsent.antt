@@ -4,7 +4,7 @@ use Rattle.std.proofs.lemmas.Bool.{false≢true, or_parts}
 use Rattle.cs_capsnap.specs.declared.snap.CapSnap.{CapSnap}
 use Rattle.cs_capsnap.specs.CapSnaps.{fixed, finished, first_unsent, is_sent_as, is_unsent, is_writing, sent_as, with_first_sent, without_tid, writing_context}
 use Rattle.cs_capsnap.specs.Order.{IsInOrder}
-use Rattle.cs_capsnap.proofs.Kept.{tid-fixed, was_sent}
+use Rattle.cs_capsnap.proofs.Order.{tid-fixed, was_sent}
 
 -- those that aren't sent, in their order
 abbrev pub unsent : List CapSnap → List CapSnap

@@ -6,7 +6,7 @@ use Rattle.std.proofs.lemmas.Bool.{both_ways, cond_both, eqb-true, eq-eqb, false
 use Rattle.cs_capsnap.specs.declared.snap.CapSnap.{CapSnap}
 use Rattle.cs_capsnap.specs.CapSnaps.{fixed, finished, first_unsent, is_sent_as, is_unsent, sent_as, with_first_sent, without_tid}
 use Rattle.cs_capsnap.specs.Order.{IsInOrder}
-use Rattle.cs_capsnap.proofs.Kept.{none_left, tid-fixed}
+use Rattle.cs_capsnap.proofs.Order.{none_left, tid-fixed}
 use Rattle.cs_laws.specs.Flushes.{Flush}
 use Rattle.cs_theorems.proofs.Listed.{Member, Each, each_cons, each_end, each_nil, each_tail, member_left}
 use Rattle.cs_theorems.proofs.Tests.{any_none, member_end}

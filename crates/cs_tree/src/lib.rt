@@ -4,8 +4,6 @@
 
 mod directories;
 mod path;
-#[cfg(test)]
-mod tests;
 
 pub use directories::{Directories, Directory};
 pub use path::DirPath;

@@ -9,6 +9,16 @@ mod flush;
 #[cfg(test)]
 mod gate;
 #[cfg(test)]
+mod inode;
+#[cfg(test)]
+mod laws;
+#[cfg(test)]
 mod realms;
 #[cfg(test)]
+mod records;
+#[cfg(test)]
 mod refs;
+#[cfg(test)]
+mod store;
+#[cfg(test)]
+mod tree;

@@ -13,8 +13,6 @@ mod shows;
 mod snaps;
 mod state;
 mod step;
-#[cfg(test)]
-mod tests;
 mod world;
 mod writes;
 

@@ -83,32 +83,3 @@ impl Recorded {
         }
     }
 }
-
-#[cfg(test)]
-mod tests {
-    use super::*;
-    use cs_ids::Snap;
-    use std::test::Fail;
-
-    fn of_size(size: u64) -> FileMeta {
-        FileMeta {
-            size,
-            mtime: 0,
-            mode: 0o644,
-        }
-    }
-
-    #[test]
-    fn a_later_flush_under_one_number_wins(rt: HostRuntime) -> Result<(), Fail> {
-        let first = Seq::new(1).ok_or("seq")?;
-        let third = Seq::new(3).ok_or("seq")?;
-        let second = Snap::new(2).ok_or("snap")?;
-        let mut recorded = Recorded::new(rt.alloc());
-        recorded.record(third, of_size(3))?;
-        recorded.record(first, of_size(1))?;
-        recorded.record(third, of_size(9))?;
-        assert_eq!(rt; recorded.at(At::Snap(second)).size, 1);
-        assert_eq!(rt; recorded.at(At::Head).size, 9);
-        Ok(())
-    }
-}

@@ -1,11 +1,9 @@
-// The calls that take memory, with ample memory; and that a file may go to another thread.
+// The calls of a file that take memory, with ample memory; and that a file may go to another thread.
 ghost use Rattle.std.specs.Prelude.{◌≡◌, ◌≤◌, IfOk};
 
-use crate::{Allow, ChmodStep, FlushStep, Inode, WriteStep};
-use cs_bits::Caps;
-use cs_caps::Done;
 use cs_flush::Sent;
 use cs_ids::{Bytes, FileMeta, Ino, Seq, Snap, Tid};
+use cs_inode::{Inode, WriteStep};
 use cs_laws::ObjOps;
 use cs_snapctx::SnapContext;
 use std::alloc::Global;
@@ -70,58 +68,6 @@ fn a_read_ends_with_the_file(rt: HostRuntime) -> Result<(), Fail> {
     let mut out = Bytes::from_slice(rt.alloc(), b">")?;
     inode.read(1, 3, b"b\0\0", &mut out)?;
     assert_eq!(rt; out.as_slice(), b">b".as_slice());
-    Ok(())
-}
-
-#[test]
-fn a_reference_needs_what_was_issued(rt: HostRuntime) -> Result<(), Fail> {
-    let ino = Ino::new(7).ok_or("ino")?;
-    let mut inode = Inode::new(rt.alloc(), ino, SnapContext::empty(rt.alloc()));
-    inode.deliver_cap(Caps::FILE_WRITE, Seq::new(1).ok_or("seq")?, 8);
-    assert_eq!(rt; inode.allow(Caps::AUTH_EXCL, 8), Allow::NoCaps);
-    assert_eq!(rt; inode.allow(Caps::FILE_WRITE, 9), Allow::Max);
-    assert_eq!(rt;
-        inode.allow(Caps::FILE_WRITE, 8),
-        Allow::Yes { tag: Seq::zero() }
-    );
-    Ok(())
-}
-
-// A file whose context changed while a writer runs.
-fn snapped(alloc: Global) -> Result<(Inode, bool), Fail> {
-    let ino = Ino::new(7).ok_or("ino")?;
-    let mut inode = Inode::new(alloc, ino, SnapContext::empty(alloc));
-    inode.start_writer();
-    let made = inode.new_context(context(alloc, 1)?)?;
-    Ok((inode, made))
-}
-
-#[test]
-fn a_snapshot_waits_for_the_writer(rt: HostRuntime) -> Result<(), Fail> {
-    let (mut inode, made) = snapped(rt.alloc())?;
-    assert!(rt; made);
-    assert!(rt; inode.snaps_wait());
-    assert_eq!(rt; inode.chmod(0o600), ChmodStep::Snap);
-    assert!(rt; inode.owed(Snap::new(1)));
-    Ok(())
-}
-
-// A file with a new mode, and what a flush of it sends.
-fn flushed(alloc: Global) -> Result<(Inode, FlushStep), Fail> {
-    let ino = Ino::new(7).ok_or("ino")?;
-    let mut inode = Inode::new(alloc, ino, SnapContext::empty(alloc));
-    let _ = inode.chmod(0o600);
-    let step = inode.flush(tid(1)?)?;
-    Ok((inode, step))
-}
-
-#[test]
-fn a_flush_is_acked(rt: HostRuntime) -> Result<(), Fail> {
-    let (mut inode, step) = flushed(rt.alloc())?;
-    assert_eq!(rt; step, FlushStep::Sent(sent(1, 0)?));
-    assert!(rt; inode.owed(None));
-    inode.flush_acked(tid(1)?);
-    assert!(rt; !inode.owed(None));
     Ok(())
 }
 

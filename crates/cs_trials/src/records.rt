@@ -1,9 +1,9 @@
-// The calls that take memory, with ample memory; and that the records may go to another thread.
+// The calls of the records that take memory, with ample memory; and that the records may go to another thread.
 ghost use Rattle.std.specs.Prelude.{◌≡◌, ◌+◌, length, IfOk, OnOk};
 
-use crate::Records;
 use cs_ids::{FileMeta, Ino, Name, Seq, Snap, Tid};
 use cs_laws::Message;
+use cs_records::Records;
 use cs_snapctx::{RealmRecord, SnapList};
 use cs_tree::Directories;
 use std::alloc::Global;

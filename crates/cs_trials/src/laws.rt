@@ -1,5 +1,6 @@
-use crate::{Answer, Event, ObjOp, ObjOps, RefName, Why};
+// Copies of events, answers and operations, with ample memory.
 use cs_ids::{Bytes, Caller, Ino, Obj, RefNo, Tid};
+use cs_laws::{Answer, Event, ObjOp, ObjOps, RefName, Why};
 use cs_snapctx::SnapContext;
 use std::test::Fail;
 

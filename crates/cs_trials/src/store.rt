@@ -2,9 +2,9 @@
 // stores may go to another thread.
 ghost use Rattle.std.specs.Prelude.{◌≡◌, IfOk};
 
-use crate::{Applied, FaultyStore, MemStore, ObjStore, StoreFault};
 use cs_ids::{Bytes, Failed, Ino, Obj, Seq, Snap, Tid};
 use cs_laws::{At, ObjOp};
+use cs_objstore::{Applied, FaultyStore, MemStore, ObjStore, StoreFault};
 use cs_snapctx::SnapContext;
 use std::alloc::Global;
 use std::test::Fail;
@@ -88,15 +88,6 @@ fn the_second_call_fails(rt: HostRuntime) -> Result<(), Fail> {
     Ok(())
 }
 
-#[test]
-fn the_first_call_fails(rt: HostRuntime) -> Result<(), Fail> {
-    let mut store = FaultyStore::new(rt.alloc(), &[1])?;
-    let op = operation(rt.alloc(), 1, 0, 10, b"ab")?;
-    assert_eq!(rt; store.apply(&op), Err(StoreFault::Failed));
-    assert!(rt; store.ops().is_empty());
-    Ok(())
-}
-
 // The writes of one reference, the last of them under a snapshot.
 #[test]
 fn an_object_is_cloned_before_a_later_context(rt: HostRuntime) -> Result<(), Fail> {
@@ -112,13 +103,5 @@ fn an_object_is_cloned_before_a_later_context(rt: HostRuntime) -> Result<(), Fai
     assert_eq!(rt; out, *b"aabb");
     store.read(object()?, At::Head, 0, &mut out)?;
     assert_eq!(rt; out, *b"zzbb");
-    Ok(())
-}
-
-#[test]
-fn an_object_that_was_never_written_is_not_cloned(rt: HostRuntime) -> Result<(), Fail> {
-    let mut store = MemStore::new(rt.alloc());
-    let _ = store.apply(&operation(rt.alloc(), 1, 1, 0, b"aa")?)?;
-    assert_eq!(rt; store.clones(object()?), 0);
     Ok(())
 }

@@ -1,6 +1,6 @@
-// The calls that take memory, with ample memory; and that the directories may go to another thread.
-use crate::{DirPath, Directories};
+// The calls of directories that take memory, with ample memory; and that the directories may go to another thread.
 use cs_ids::Ino;
+use cs_tree::{DirPath, Directories};
 use std::process::Abort;
 use std::test::Fail;
 
