@@ -3,7 +3,7 @@ use Rattle.std.proofs.Common.{◌≡◌, ◌∙◌, sym, ap, refl, subst, ℕ, z
 use Rattle.std.specs.Result.{IsErrAnd}
 use Rattle.std.proofs.lemmas.Bool.{eqb-true}
 use Rattle.std.proofs.lemmas.Bool.Decides.{nat_tests}
-use Rattle.std.proofs.lemmas.List.{append-nil, take_all, take-append-drop, get_or_default}
+use Rattle.std.proofs.lemmas.List.{append-nil, take_all, get_or_default}
 use Rattle.std.proofs.lemmas.Option.{slice_get-get_or}
 use Rattle.std.proofs.Math.Seq.{take-suc}
 use Rattle.std.specs.Io.KnownBytes.{Appends}
@@ -11,7 +11,7 @@ use Rattle.cs_io.specs.Whole.{AppendsFront}
 use Rattle.cs_io.proofs.Known.{appends_more, appends_none}
 use Rattle.cs_laws.specs.declared.events.Event.{Event}
 use Rattle.cs_laws.specs.declared.answers.Entry.{Entry}
-use Rattle.cs_laws.specs.Journal.{history, journal, entry, header, lines, line, text, end_line}
+use Rattle.cs_laws.specs.Journal.{journal, entry, header, lines, line, text, end_line}
 use Rattle.cs_laws.specs.declared.faults.StepFault.{StepFault}
 use Rattle.cs_laws.specs.declared.faults.StepFault.TheVariants as stepping
 use Rattle.cs_laws.specs.declared.objects.ObjOp.{ObjOp}

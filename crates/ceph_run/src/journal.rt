@@ -63,12 +63,8 @@ fn write_entry<K: Sink>(
     text: &mut Bytes,
     sink: &mut K,
 ) -> Result<(), WriteFault>
-    ensures ok {
-        OnOk result (Appends (K.taken sink.old) (K.taken sink.new) (line number (record { event = event.now; answer = answer.now })))
-    }
-    ensures err {
-        OnErr result (AppendsFront (K.taken sink.old) (K.taken sink.new) (line number (record { event = event.now; answer = answer.now })))
-    }
+    ensures ok { OnOk result (Appends (K.taken sink.old) (K.taken sink.new) (line number (record { event = event.now; answer = answer.now }))) }
+    ensures err { OnErr result (AppendsFront (K.taken sink.old) (K.taken sink.new) (line number (record { event = event.now; answer = answer.now }))) }
     ensures later { K.faults sink.old ≤ K.faults sink.new }
     ensures cause { IsErrOf result WriteFault.Sink → Rose (K.faults sink.old) (K.faults sink.new) }
 {

@@ -34,11 +34,7 @@ const READ_FAILED: &[u8] =
 
 // The status of the program's call with the word `run` over a store, the store behind it, and what
 // the sink took.
-fn run_over<O: ObjStore>(
-    alloc: Global,
-    input: &[u8],
-    store: O,
-) -> Result<(u8, O, MemSink), Memory>
+fn run_over<O: ObjStore>(alloc: Global, input: &[u8], store: O) -> Result<(u8, O, MemSink), Memory>
     requires { O.ops store ≡ [] }
 {
     let mut words = Vec::new(alloc);

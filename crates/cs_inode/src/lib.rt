@@ -12,4 +12,4 @@ mod reports;
 
 pub use answers::{Allow, ChmodStep, FlushStep, SnapStep, WriteStep};
 pub use inode::{FIRST_MODE, Inode};
-pub use laws::operations_fit_their_objects;
+pub use laws::{operations_fit_their_objects, values_may_cross_threads};

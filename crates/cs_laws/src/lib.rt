@@ -7,6 +7,7 @@
 mod answers;
 mod events;
 mod faults;
+mod laws;
 mod messages;
 mod objects;
 mod printing;
@@ -15,6 +16,7 @@ mod records;
 pub use answers::{Answer, Entry, Why, not_yet};
 pub use events::{Event, RefName, is_built};
 pub use faults::{Kind, ScriptFault, StepFault};
+pub use laws::values_may_cross_threads;
 pub use messages::Message;
 pub use objects::{At, ObjOp, ObjOps};
 pub use records::{RealmRecordList, Record, RecordBody};

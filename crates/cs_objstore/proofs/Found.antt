@@ -1,5 +1,5 @@
 -- The objects of a store by their keys.
-use Rattle.std.proofs.Common.{◌≡◌, ◌∙◌, sym, refl, ap, ℕ, ◌+◌, ◌<◌, ◌≤◌, ◌==◌, ◌&&◌, Bool, true, false, cond, Option, Some, List, [], ◌∷◌, ◌++◌, length, reverse, nat_eq, unwrap_or, slice_index, EachIndex, arith}
+use Rattle.std.proofs.Common.{◌≡◌, ◌∙◌, sym, refl, ap, ℕ, ◌+◌, ◌==◌, ◌&&◌, Bool, true, false, cond, Option, Some, List, [], ◌∷◌, ◌++◌, reverse, nat_eq, unwrap_or, slice_index, EachIndex, arith}
 use Rattle.std.specs.HashMap.{HashMap, get_by}
 use Rattle.std.specs.HashSet.{HashSet, contains}
 use Rattle.std.proofs.lemmas.Grind.{common_steps}
@@ -11,7 +11,7 @@ use Rattle.cs_laws.specs.Objects.{byte_of, object, operations_at, same_object}
 use Rattle.cs_objstore.specs.Blocks.{byte_in}
 use Rattle.cs_objstore.specs.Found.{Stands, versions_of}
 use Rattle.cs_objstore.specs.Kept.{Keeps, spans}
-use Rattle.cs_objstore.specs.Stores.{has_tid, ReadsObject}
+use Rattle.cs_objstore.specs.Stores.{ReadsObject}
 use Rattle.cs_objstore.specs.Versions.{image_at}
 use Rattle.cs_objstore.specs.declared.memory.Key.{Key}
 use Rattle.cs_objstore.specs.declared.object.Version.{Version}

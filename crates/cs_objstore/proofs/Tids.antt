@@ -1,5 +1,5 @@
 -- Numbers of operations in a list.
-use Rattle.std.proofs.Common.{◌≡◌, ◌∙◌, sym, ap, ℕ, ◌==◌, Bool, true, false, cond, List, [], ◌∷◌, ◌++◌, reverse, nat_eq, refl, arith}
+use Rattle.std.proofs.Common.{◌≡◌, sym, ℕ, ◌==◌, true, cond, List, [], ◌∷◌, ◌++◌, reverse, arith}
 use Rattle.std.proofs.lemmas.List.{reverse-append}
 use Rattle.std.proofs.lemmas.List.Folds.{list_any-append}
 use Rattle.std.proofs.lemmas.List.Sorted.{list_any-IsPermutation, IsPermutation-reverse}

@@ -7,11 +7,13 @@ mod answers;
 mod block;
 mod faulty;
 mod image;
+mod laws;
 mod memory;
 mod object;
 mod traits;
 
 pub use answers::{Applied, StoreFault};
 pub use faulty::FaultyStore;
+pub use laws::values_may_cross_threads;
 pub use memory::MemStore;
 pub use traits::ObjStore;

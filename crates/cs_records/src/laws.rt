@@ -9,6 +9,8 @@ ghost use Rattle.cs_records.specs.Commits.{changed_records, told};
 ghost use Rattle.cs_records.specs.Example.{directories, first, names_after_removal, path, removal, root, second, told_first, told_removal, told_root, told_second};
 ghost use Rattle.cs_records.specs.Log.{IsLog, IsNextRemoval};
 ghost use Rattle.cs_records.specs.Below.{snapped_record, removed_record};
+ghost use denote.Param.Send.{IsSend};
+ghost use Rattle.cs_records.specs.contracts.records.Records as records_row;
 
 /// After a snapshot the client is told of the realm of its directory and, where that is a realm only
 /// from this snapshot on, of each realm that has it now as the nearest realm above, and of no other;
@@ -31,4 +33,9 @@ pub fn told_by_example()
     ensures root { told path directories (first ∷ second ∷ []) (root ∷ []) ≡ told_root }
     ensures removal { told path directories (first ∷ second ∷ root ∷ []) (removal ∷ []) ≡ told_removal }
     ensures name { names_after_removal ≡ true ∷ false ∷ [] }
+{}
+
+/// Values of this crate's types may go to other threads.
+pub fn values_may_cross_threads()
+    ensures { IsSend records_row.the_row }
 {}

@@ -10,6 +10,6 @@ mod records;
 
 pub use laws::{
     a_removal_tells_its_realm_alone, a_snapshot_tells_its_realm_and_those_now_below,
-    told_by_example,
+    told_by_example, values_may_cross_threads,
 };
 pub use records::Records;

@@ -1,5 +1,5 @@
 -- Which events there are, and the scripts that are written of them.
-use Rattle.std.specs.Prelude.{◌≡◌, ℕ, ◌<◌, ◌&&◌, Bool, true, All, List, [], ◌∷◌, ◌++◌, Ok}
+use Rattle.std.specs.Prelude.{◌≡◌, ℕ, ◌<◌, true, All, List, [], ◌∷◌, ◌++◌}
 use Rattle.cs_ids.specs.Names.{is_name}
 use Rattle.cs_ids.specs.Ranges.{IsIn}
 use Rattle.cs_laws.specs.declared.events.Event.{Event}
@@ -8,7 +8,7 @@ use Rattle.cs_laws.specs.declared.events.RefName.{RefName}
 use Rattle.cs_laws.specs.declared.events.RefName.TheVariants as names
 use Rattle.cs_laws.specs.declared.objects.At.{At}
 use Rattle.cs_laws.specs.declared.objects.At.TheVariants as at
-use Rattle.cs_laws.specs.Grammar.{in_time, is_setup, script_header}
+use Rattle.cs_laws.specs.Grammar.{script_header}
 use Rattle.cs_laws.specs.Texts.{event_text}
 
 abbrev pub IsIno : ℕ → Type 0

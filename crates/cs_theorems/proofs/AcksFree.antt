@@ -1,5 +1,5 @@
 -- No acknowledgement gives up a bit in use.
-use Rattle.std.proofs.Common.{◌≡◌, ap, ℕ, true, List, [], ◌∷◌}
+use Rattle.std.proofs.Common.{◌≡◌, ap, ℕ, true, List}
 use Rattle.std.proofs.lemmas.Bool.{eqb-true}
 use Rattle.cs_bits.specs.declared.Caps.{Caps}
 use Rattle.cs_bits.specs.Bits.{no_caps, is_empty}
@@ -8,7 +8,6 @@ use Rattle.cs_laws.specs.declared.events.Event.TheVariants as e
 use Rattle.cs_laws.specs.declared.answers.Answer.{Answer}
 use Rattle.cs_laws.specs.declared.answers.Entry.{Entry}
 use Rattle.cs_laws.specs.Answers.{answer}
-use Rattle.cs_laws.specs.Journal.{entry}
 use Rattle.cs_laws.specs.Laws.{AckIsFree, AcksAreFree}
 use Rattle.cs_laws.specs.Runs.{IsRun}
 use Rattle.cs_theorems.proofs.Runs.{of_run}

@@ -2,11 +2,9 @@
 use Rattle.std.proofs.Common.{◌≡◌, refl, ℕ, List, [], ◌∷◌}
 use Rattle.cs_snapctx.specs.declared.realm.RealmRecord.{RealmRecord}
 use Rattle.cs_laws.specs.declared.answers.Entry.{Entry}
-use Rattle.cs_laws.specs.declared.events.Event.{Event}
 use Rattle.cs_laws.specs.declared.messages.Message.{Message}
 use Rattle.cs_laws.specs.declared.messages.Message.TheVariants as messages
 use Rattle.cs_laws.specs.History.{realms, to_client}
-use Rattle.cs_laws.specs.Journal.{journal}
 use Rattle.cs_laws.specs.Runs.{IsRun}
 use Rattle.cs_theorems.specs.Realms.{NextTellsKnownParents, ParentsAreKnown, TellsKnownParents}
 use Rattle.cs_theorems.proofs.Linked.{told_parents}
@@ -31,4 +29,3 @@ tells_known h i = at (to_client h) refl
 
 pub run_tells_known : (p : ℕ) (h : List Entry) → IsRun p h → NextTellsKnownParents h
 run_tells_known p h run = tells_known h (course_run p h run).setting
-

@@ -13,7 +13,6 @@ use Rattle.cs_laws.specs.declared.answers.Answer.TheVariants as a
 use Rattle.cs_laws.specs.declared.answers.Entry.{Entry}
 use Rattle.cs_laws.specs.declared.messages.Message.{Message}
 use Rattle.cs_laws.specs.declared.messages.Message.TheVariants as messages
-use Rattle.cs_laws.specs.Answers.{answer}
 use Rattle.cs_laws.specs.Context.{path_context, realms_then, with_first}
 use Rattle.cs_laws.specs.Events.{client_knows, is_setup, setup_file}
 use Rattle.cs_laws.specs.History.{context, realms, to_client}

@@ -2,7 +2,7 @@
 use Rattle.std.proofs.Common.{ℕ, List, [], ◌∷◌}
 use Rattle.cs_laws.specs.declared.events.Event.{Event}
 use Rattle.cs_laws.specs.declared.answers.Entry.{Entry}
-use Rattle.cs_laws.specs.Journal.{history, journal, entry}
+use Rattle.cs_laws.specs.Journal.{entry}
 use Rattle.cs_laws.specs.Runs.{IsRun}
 use Rattle.cs_theorems.specs.Contexts.{ContextsNeverFall}
 use Rattle.cs_theorems.specs.Snapshots.{TagsAreOfTheBegin}

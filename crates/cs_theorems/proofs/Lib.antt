@@ -6,22 +6,18 @@ pub mod Numbers
 pub mod Orderings
 pub mod Overlays
 pub mod Pieces
-
 -- Runs, and what the answer to each event can be
 pub mod Runs
 pub mod Inversions
 pub mod Refused
-
 -- References and their uses
 pub mod Begun
 pub mod Uses
 pub mod Known
 pub mod AcksFree
-
 -- Capabilities, at both ends and on their way
 pub mod Held
 pub mod HeldCovers
-
 -- Files that aren't known, counts and limits
 pub mod Blank
 pub mod Untouched
@@ -31,7 +27,6 @@ pub mod Counts
 pub mod Growth
 pub mod Ends
 pub mod Operations
-
 -- Directories, realm records and contexts
 pub mod Paths
 pub mod Listing
@@ -50,7 +45,6 @@ pub mod Settings
 pub mod Applying
 pub mod Contexts
 pub mod Covering
-
 -- Tags, writers and cap snaps
 pub mod Tags
 pub mod Opens
@@ -63,7 +57,6 @@ pub mod Queues
 pub mod QueueSteps
 pub mod QueueAnswers
 pub mod Unsent
-
 -- Flushes and acknowledgements
 pub mod Chains
 pub mod Places
@@ -75,7 +68,6 @@ pub mod Unacked
 pub mod UnackedSteps
 pub mod Waiting
 pub mod WaitingSteps
-
 -- Metadata
 pub mod Modes
 pub mod Covers
@@ -87,7 +79,6 @@ pub mod Owing
 pub mod Recorded
 pub mod RecordedSteps
 pub mod RecordedPlaces
-
 -- Contents, and all together
 pub mod Images
 pub mod Course

@@ -1,6 +1,6 @@
 -- The same at each entry of a journal of today's events, where nothing is lost.
 use Rattle.std.proofs.Common.{◌≡◌, refl, sym, ap, ◌∙◌, subst, ℕ, ◌==◌, ◌||◌, Bool, true, false, cond, List, [], ◌∷◌, ◌++◌, drop, None}
-use Rattle.std.specs.List.{cons_option, filter_map}
+use Rattle.std.specs.List.{cons_option}
 use Rattle.std.proofs.lemmas.Bool.{cond_both, or_parts}
 use Rattle.std.proofs.lemmas.List.{append-nil}
 use Rattle.std.proofs.lemmas.List.Elements.{filter_map-append}
@@ -38,7 +38,6 @@ use Rattle.cs_theorems.specs.Contexts.{Rises}
 use Rattle.cs_theorems.proofs.Along.{Along, along_first, context_rises, delivers, makes, realms_made}
 use Rattle.cs_theorems.proofs.Commits.{Told, told_commit}
 use Rattle.cs_theorems.proofs.Links.{carried}
-use Rattle.cs_theorems.proofs.RealmPaths.{HasRealms}
 use Rattle.cs_theorems.proofs.Ways.{draws_front}
 
 -- dir, up: which are directories, and their paths; ss: the realm records that were sent last; ts: the client's; q: the messages

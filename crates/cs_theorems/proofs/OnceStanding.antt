@@ -9,7 +9,6 @@ use Rattle.cs_laws.specs.declared.answers.Answer.TheVariants as a
 use Rattle.cs_laws.specs.declared.answers.Entry.{Entry}
 use Rattle.cs_laws.specs.Flushes.{Flush, acked, acked_then, sent_then}
 use Rattle.cs_laws.specs.History.{present, sent, snap, stand, to_server}
-use Rattle.cs_laws.specs.Journal.{entry}
 use Rattle.cs_laws.specs.Owed.{is_acked, is_later}
 use Rattle.cs_laws.specs.Laws.{AckedStandOnce, FlushesRise, FlushesStandOnce, InEveryPrefix, tids}
 use Rattle.cs_laws.specs.Lists.{RisesFrom}
@@ -21,7 +20,7 @@ use Rattle.cs_theorems.proofs.Rising.{rises_front}
 use Rattle.cs_theorems.proofs.Chains.{AllRise, flight, run_rise}
 use Rattle.cs_theorems.proofs.Acks.{AllAcked, run_acked}
 use Rattle.cs_theorems.proofs.Places.{AllPlaced, run_placed}
-use Rattle.cs_theorems.proofs.Retired.{record_member, retired_stands, told_stands}
+use Rattle.cs_theorems.proofs.Retired.{record_member, retired_stands}
 use Rattle.cs_theorems.proofs.Tests.{any_some, any_true}
 
 still : (b was : Bool) → was ≡ true → cond b true was ≡ true

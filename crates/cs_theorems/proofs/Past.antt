@@ -15,7 +15,7 @@ use Rattle.cs_snapctx.specs.Context.{Context}
 use Rattle.cs_laws.specs.Events.{clock, setup_file}
 use Rattle.cs_laws.specs.History.{context, live, queued, writes}
 use Rattle.cs_laws.specs.Image.{Write, upto}
-use Rattle.cs_laws.specs.Journal.{history, journal, entry}
+use Rattle.cs_laws.specs.Journal.{entry}
 use Rattle.cs_laws.specs.Writes.{with_write}
 use Rattle.cs_laws.specs.Runs.{IsRun}
 use Rattle.cs_theorems.proofs.Runs.{entry_is, run_before}

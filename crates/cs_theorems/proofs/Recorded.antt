@@ -13,27 +13,23 @@ use Rattle.cs_laws.specs.declared.messages.Message.{Message}
 use Rattle.cs_laws.specs.declared.messages.Message.TheVariants as messages
 use Rattle.cs_laws.specs.declared.objects.At.{At}
 use Rattle.cs_laws.specs.declared.records.Record.{Record}
-use Rattle.cs_laws.specs.declared.records.RecordBody.TheVariants as bodies
-use Rattle.cs_laws.specs.Events.{setup_file}
 use Rattle.cs_laws.specs.Flushes.{Flush, flush_message, flush_record}
 use Rattle.cs_laws.specs.History.{durable, fresh, sent, stand, to_server}
 use Rattle.cs_laws.specs.Journal.{entry}
 use Rattle.cs_laws.specs.Metadata.{last_flush, later_of, meta_at, meta_of, no_meta}
 use Rattle.cs_laws.specs.Shown.{is_before}
-use Rattle.cs_laws.specs.Standing.{recorded, recorded_of}
+use Rattle.cs_laws.specs.Standing.{recorded}
 use Rattle.cs_laws.specs.Laws.{tids}
 use Rattle.cs_laws.specs.Runs.{IsRun}
-use Rattle.cs_laws.specs.Carried.{flush_on}
 use Rattle.cs_theorems.proofs.Places.{recorded_one}
-use Rattle.cs_theorems.specs.Recorded.{AreRising, recorded_meta, recorded_meta_then, with_first, with_message, with_recorded}
+use Rattle.cs_theorems.specs.Recorded.{recorded_meta, recorded_meta_then, with_first, with_message, with_recorded}
 use Rattle.cs_theorems.specs.RecordedAt.{last_recorded}
 use Rattle.cs_theorems.proofs.Chains.{flight, flight_tid, run_rise}
 use Rattle.cs_theorems.proofs.Inversions.{ReceivedIs, received_idle, received_ack, received_flush, received_is, RemoveIs, remove_none, remove_gone, removed, remove_is, SnapIs, snap_unknown, snap_exists, snap_taken, snap_is}
 use Rattle.cs_theorems.proofs.Listed.{Each, member_right}
 use Rattle.cs_theorems.proofs.Rising.{RisesTo, rises_member}
 use Rattle.cs_theorems.proofs.Runs.{of_run}
-use Rattle.cs_theorems.proofs.RecordedSteps.{IsBeside, Rises, are_rising, last_before_is, last_beside, last_end, last_pair, last_with, newer, pair_newer, pair_of, rises_with}
-use Rattle.cs_theorems.proofs.Untouched.{untouched}
+use Rattle.cs_theorems.proofs.RecordedSteps.{IsBeside, Rises, last_before_is, last_beside, last_end, last_pair, last_with, newer, pair_newer, pair_of, rises_with}
 
 -- The numbers rise
 

@@ -4,14 +4,12 @@ use Rattle.std.proofs.lemmas.Bool.{both_ways, cases_lt, cond-false, le-leb, le-l
 use Rattle.cs_bits.specs.Bits.{is_empty}
 use Rattle.cs_ids.specs.declared.objects.FileMeta.{FileMeta}
 use Rattle.cs_laws.specs.declared.answers.Entry.{Entry}
-use Rattle.cs_laws.specs.declared.events.Event.{Event}
 use Rattle.cs_laws.specs.declared.objects.At.{At}
 use Rattle.cs_laws.specs.declared.objects.At.TheVariants as at
 use Rattle.cs_laws.specs.declared.records.Record.{Record}
 use Rattle.cs_laws.specs.Flushes.{Flush, flush_record, written_meta}
 use Rattle.cs_laws.specs.History.{context, dirty, queued, sent, stand, writes}
 use Rattle.cs_laws.specs.Image.{Write, older}
-use Rattle.cs_laws.specs.Journal.{journal}
 use Rattle.cs_laws.specs.Metadata.{last_flush, meta_at, meta_of, no_meta}
 use Rattle.cs_laws.specs.Owed.{mode_at}
 use Rattle.cs_laws.specs.Shown.{is_before, writes_at}
@@ -164,4 +162,3 @@ of_the_writes h i f a free = state_meta h i f a (settled h f a free)
 
 pub meta_is : (p : ℕ) (h : List Entry) → IsRun p h → MetadataIsOfTheWrites h
 meta_is p h run = of_the_writes h (footing_run p h run)
-

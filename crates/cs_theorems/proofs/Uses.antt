@@ -12,14 +12,13 @@ use Rattle.cs_laws.specs.declared.answers.Answer.{Answer}
 use Rattle.cs_laws.specs.declared.answers.Entry.{Entry}
 use Rattle.cs_laws.specs.Answers.{answer, may_change_mode, may_read, may_write}
 use Rattle.cs_laws.specs.History.{live}
-use Rattle.cs_laws.specs.Journal.{entry}
 use Rattle.cs_laws.specs.References.{named}
 use Rattle.cs_laws.specs.Lists.{Member}
 use Rattle.cs_laws.specs.Laws.{IsIssued, IsNamed, UseIsIssued, UsesAreIssued}
 use Rattle.cs_laws.specs.Runs.{IsRun}
 use Rattle.cs_theorems.proofs.Runs.{of_run}
 use Rattle.cs_theorems.specs.References.{LiveWereIssued}
-use Rattle.cs_theorems.proofs.Begun.{issued_step, nothing_issued, live_were_issued}
+use Rattle.cs_theorems.proofs.Begun.{live_were_issued}
 use Rattle.cs_theorems.proofs.Inversions.{ChmodIs, chmod_unknown, chmod_no_bit, chmod_snap, chmod_done, chmod_is, ReadIs, read_unknown, read_no_bit, was_read, read_is, WriteIs, write_unknown, write_no_bit, write_past, wrote, write_is}
 
 -- what a caller and a number find

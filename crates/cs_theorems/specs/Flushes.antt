@@ -1,9 +1,8 @@
 -- How flushes are numbered, and which stand and are on their way.
-use Rattle.std.specs.Prelude.{◌≡◌, ℕ, List, Option, Some, None, map, length}
+use Rattle.std.specs.Prelude.{◌≡◌, List, Option, Some, None, map, length}
 use Rattle.std.specs.List.{range_with_len}
 use Rattle.cs_laws.specs.declared.answers.Entry.{Entry}
 use Rattle.cs_laws.specs.declared.messages.Message.{Message}
-use Rattle.cs_laws.specs.declared.records.Record.{Record}
 use Rattle.cs_laws.specs.declared.records.RecordBody.{RecordBody}
 use Rattle.cs_laws.specs.Carried.{flush_in, flush_on}
 use Rattle.cs_laws.specs.Flushes.{Flush}

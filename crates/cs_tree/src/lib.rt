@@ -3,7 +3,9 @@
 #![tactic(auto)]
 
 mod directories;
+mod laws;
 mod path;
 
 pub use directories::{Directories, Directory};
+pub use laws::values_may_cross_threads;
 pub use path::DirPath;

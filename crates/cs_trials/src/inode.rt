@@ -1,4 +1,4 @@
-// The calls of a file that take memory, with ample memory; and that a file may go to another thread.
+// The calls of a file that take memory, with ample memory.
 ghost use Rattle.std.specs.Prelude.{◌≡◌, ◌≤◌, IfOk};
 
 use cs_flush::Sent;
@@ -37,8 +37,6 @@ fn sent(number: u64, follows: u64) -> Result<Sent, Fail> {
     })
 }
 
-fn crosses_threads<T: Send>(_: &T) {}
-
 // A file to which two bytes were written from an offset on, and the operations of the write.
 fn written(alloc: Global, off: u32) -> Result<(Inode, ObjOps), Fail>
     requires { off ≤ 65535 }
@@ -58,7 +56,6 @@ fn a_write_touches_two_objects(rt: HostRuntime) -> Result<(), Fail> {
     assert_eq!(rt; second.obj.index, 1);
     assert_eq!(rt; second.bytes.as_slice(), b"b".as_slice());
     assert_eq!(rt; inode.size(), 65_537);
-    crosses_threads(&inode);
     Ok(())
 }
 
@@ -93,20 +90,5 @@ fn flushes_are_reported_in_order(rt: HostRuntime) -> Result<(), Fail> {
     let second = reports.get(1).ok_or("second")?;
     assert_eq!(rt; second.sent, sent(2, 1)?);
     assert!(rt; !second.snap);
-    Ok(())
-}
-
-#[test]
-fn dirty_metadata_is_in_use(rt: HostRuntime) -> Result<(), Fail> {
-    let (mut inode, _) = written(rt.alloc(), 0)?;
-    inode.deliver_cap(Caps::FILE_WRITE, Seq::new(1).ok_or("seq")?, 8);
-    inode.deliver_cap(Caps::none(), Seq::new(2).ok_or("seq")?, 8);
-    assert!(rt; inode.check_holds(Caps::none()));
-    let held = Done::Hold {
-        bits: Caps::FILE_WRITE,
-    };
-    assert_eq!(rt; inode.check(Caps::none()), held);
-    inode.restart();
-    assert_eq!(rt; inode.caps().seq(), Seq::zero());
     Ok(())
 }

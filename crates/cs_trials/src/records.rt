@@ -1,4 +1,4 @@
-// The calls of the records that take memory, with ample memory; and that the records may go to another thread.
+// The calls of the records that take memory, with ample memory.
 ghost use Rattle.std.specs.Prelude.{◌≡◌, ◌+◌, length, IfOk, OnOk};
 
 use cs_ids::{FileMeta, Ino, Name, Seq, Snap, Tid};
@@ -131,8 +131,6 @@ fn realm(
     })
 }
 
-fn crosses_threads<T: Send>(_: &T) {}
-
 // Whether the next message tells of this number in this realm, and of its record alone, whose parent and
 // own snapshots are these.
 fn tells_alone(
@@ -196,7 +194,6 @@ fn realms_from_below(rt: HostRuntime) -> Result<(), Fail> {
     assert_eq!(rt; records.commit(&tree, &mut to_client)?, 6);
     tells_all(&rt, alloc, &mut to_client)?;
     assert!(rt; to_client.is_empty());
-    crosses_threads(&records);
     Ok(())
 }
 

@@ -1,5 +1,4 @@
-// Each call that takes memory, with ample memory; which calls of the faulty form fail; and that the
-// stores may go to another thread.
+// Each call of a store that takes memory, with ample memory; and which calls of the faulty form fail.
 ghost use Rattle.std.specs.Prelude.{◌≡◌, IfOk};
 
 use cs_ids::{Bytes, Failed, Ino, Obj, Seq, Snap, Tid};
@@ -51,8 +50,6 @@ fn read_four<S: ObjStore>(store: &mut S, at: At) -> Result<[u8; 4], Fail> {
     Ok(out)
 }
 
-fn crosses_threads<T: Send>(_: &T) {}
-
 #[test]
 fn reads_the_head_and_a_snapshot(rt: HostRuntime) -> Result<(), Fail> {
     let mut store = MemStore::new(rt.alloc());
@@ -71,7 +68,6 @@ fn applies_a_number_once(rt: HostRuntime) -> Result<(), Fail> {
     let again = store.apply(&operation(rt.alloc(), 1, 0, 10, b"ef")?)?;
     assert_eq!(rt; again, Applied::Dup);
     assert_eq!(rt; store.ops().len(), 2);
-    crosses_threads(&store);
     Ok(())
 }
 
@@ -84,7 +80,6 @@ fn the_second_call_fails(rt: HostRuntime) -> Result<(), Fail> {
     assert_eq!(rt; store.read(object()?, At::Head, 9, &mut out), Err(Failed));
     assert_eq!(rt; store.apply(&op), Ok(Applied::Dup));
     assert_eq!(rt; store.ops().len(), 1);
-    crosses_threads(&store);
     Ok(())
 }
 

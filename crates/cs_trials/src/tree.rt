@@ -1,4 +1,4 @@
-// The calls of directories that take memory, with ample memory; and that the directories may go to another thread.
+// The calls of directories that take memory, with ample memory.
 use cs_ids::Ino;
 use cs_tree::{DirPath, Directories};
 use std::process::Abort;
@@ -17,8 +17,6 @@ fn add(rt: &impl Abort, tree: &mut Directories, directory: u64, parent: u64) -> 
     Ok(())
 }
 
-fn crosses_threads<T: Send>(_: &T) {}
-
 #[test]
 fn directories_stand_parents_first(rt: HostRuntime) -> Result<(), Fail> {
     let mut tree = Directories::new(rt.alloc())?;
@@ -35,7 +33,6 @@ fn directories_stand_parents_first(rt: HostRuntime) -> Result<(), Fail> {
     let path = [ino(3)?, ino(4)?, ino(9)?, ino(1)?];
     assert!(rt; tree.path(ino(3)?) == Some(path.as_slice()));
     assert!(rt; tree.path(ino(2)?).is_none());
-    crosses_threads(&tree);
     Ok(())
 }
 

@@ -1,5 +1,5 @@
 -- The tables don't look at the entries that are kept beside them.
-use Rattle.std.proofs.Common.{◌≡◌, ◌∙◌, ap, ℕ, true, List, [], ◌∷◌, ◌++◌, reverse, Vec}
+use Rattle.std.proofs.Common.{◌≡◌, ◌∙◌, ap, ℕ, List, [], ◌∷◌, ◌++◌, reverse, Vec}
 use Rattle.std.proofs.lemmas.List.{reverse-append}
 use Rattle.std.specs.declared.alloc.Global.{Global}
 use Rattle.cs_laws.specs.declared.events.Event.{Event}

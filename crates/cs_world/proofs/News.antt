@@ -1,7 +1,7 @@
 -- What a commit tells, by what was sent last, is what the records tell, since these were sent last as the durable log has them.
 use Rattle.std.proofs.Common.{◌≡◌, refl, ap, ◌∙◌, subst, ℕ, true, List, [], ◌∷◌, ◌++◌, append_assoc}
 use Rattle.cs_snapctx.specs.declared.realm.RealmRecord.{RealmRecord}
-use Rattle.cs_snapctx.specs.Records.{record_of, with_records}
+use Rattle.cs_snapctx.specs.Records.{with_records}
 use Rattle.cs_laws.specs.declared.answers.Entry.{Entry}
 use Rattle.cs_laws.specs.declared.records.Record.{Record}
 use Rattle.cs_laws.specs.Carried.{realms_of}

@@ -1,5 +1,5 @@
 -- A refused event leaves the tables.
-use Rattle.std.proofs.Common.{◌≡◌, ◌∙◌, sym, ap, ℕ, ◌==◌, ◌||◌, true, List, ◌∷◌, length, reverse}
+use Rattle.std.proofs.Common.{◌≡◌, ◌∙◌, sym, ap, ℕ, true, List, ◌∷◌, length, reverse}
 use Rattle.std.specs.Ordering.{nat_cmp}
 use Rattle.std.specs.BTreeMap.{get}
 use Rattle.cs_laws.specs.declared.answers.Entry.{Entry}

@@ -90,29 +90,21 @@ impl<O: ObjStore, L> World<O, L> {
 
         // What is answered and entered, and how the store agrees with it.
         ensures answer { IfOk result (λ a. a ≡ answer self.old.pages self.old.history event.now) }
-        ensures history {
-            OnOk result (self.new ≡ record self.old {
-                history = entry self.old.pages self.old.history event.now ∷ self.old.history;
-                store = self.new.store
-            })
-        }
+        ensures history { OnOk result (self.new ≡ record self.old {
+          history = entry self.old.pages self.old.history event.now ∷ self.old.history;
+          store = self.new.store;
+        }) }
         ensures agrees { OnOk result (Agrees (O.ops self.new.store) self.new.history) }
         ensures refused { IfOk result (λ a. is_refusal event.now a ≡ true → IsAsBefore self.old.history self.new.history) }
 
         // What a fault leaves.
         ensures err { OnErr result (self.new ≡ record self.old { live = false; store = self.new.store }) }
-        ensures front {
-            OnErr result (AppliesFront (brings self.old.pages self.old.history event.now) (applied self.old.history) (O.ops self.new.store))
-        }
+        ensures front { OnErr result (AppliesFront (brings self.old.pages self.old.history event.now) (applied self.old.history) (O.ops self.new.store)) }
 
         // When the devices are called, and why they fail.
-        ensures quiet {
-            calls_store event.now (answer self.old.pages self.old.history event.now) ≡ false → self.new.store ≡ self.old.store
-        }
-        ensures faults {
-            FaultsOf StepFault.Store (calls_store event.now (answer self.old.pages self.old.history event.now))
-                (O.faults self.old.store) (O.faults self.new.store) result
-        }
+        ensures quiet { calls_store event.now (answer self.old.pages self.old.history event.now) ≡ false → self.new.store ≡ self.old.store }
+        ensures faults { FaultsOf StepFault.Store (calls_store event.now (answer self.old.pages self.old.history event.now))
+            (O.faults self.old.store) (O.faults self.new.store) result }
         ensures unlogged { IsErrOf result StepFault.Log → ⊥ }
     {
         self.is_live = false;

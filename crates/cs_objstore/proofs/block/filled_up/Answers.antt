@@ -1,4 +1,4 @@
-use Rattle.std.proofs.Common.{◌≡◌, ◌∙◌, sym, ap, length, take, replicate, ◌++◌, ◌-◌, rules, arith}
+use Rattle.std.proofs.Common.{◌≡◌, ◌∙◌, ap, length, take, replicate, ◌++◌, ◌-◌, rules, arith}
 use Rattle.std.specs.Vec.{vec_len}
 use Rattle.cs_objstore.proofs.Blocks.{filled_up_same}
 use Rattle.cs_objstore.proofs.block.filled_up.Goals as goal

@@ -1,11 +1,10 @@
-use Rattle.std.proofs.Common.{◌∙◌, sym, ap, subst, ⊎_elim, ◌≡◌, true, false}
+use Rattle.std.proofs.Common.{◌∙◌, sym, ap, subst, ⊎_elim, ◌≡◌, true}
 use Rattle.cs_snapctx.specs.Records.{with_records}
 use Rattle.cs_laws.specs.Carried.{is_for_client}
 use Rattle.std.proofs.lemmas.Bool.{false≢true}
 use Rattle.cs_theorems.specs.Realms.{ParentsAreKnown}
 use Rattle.cs_laws.specs.declared.messages.Message.TheVariants as messages
 use Rattle.cs_laws.specs.History.{to_client}
-use Rattle.cs_theorems.specs.Underway.{IsToldClient}
 use Rattle.cs_world.specs.Delivered.{IsFirst}
 use Rattle.cs_world.specs.Tables.{past}
 use Rattle.cs_world.proofs.ContextChange.{with_realms}

@@ -1,8 +1,7 @@
-use Rattle.std.proofs.Common.{subst, ⊎_elim, ◌≡◌, true, false}
+use Rattle.std.proofs.Common.{subst, ⊎_elim, ◌≡◌, false}
 use Rattle.cs_laws.specs.History.{to_server}
 use Rattle.cs_laws.specs.Carried.{is_for_client}
 use Rattle.std.proofs.lemmas.Bool.{true≢false}
-use Rattle.cs_theorems.specs.Underway.{IsToldServer}
 use Rattle.cs_world.specs.Delivered.{IsFirst}
 use Rattle.cs_world.specs.Tables.{past}
 use Rattle.cs_world.proofs.Delivered.{first_received, front_is}

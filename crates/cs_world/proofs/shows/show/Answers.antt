@@ -6,7 +6,6 @@ use Rattle.cs_laws.specs.Metadata.{meta_at}
 use Rattle.cs_laws.specs.Owed.{owed}
 use Rattle.cs_world.specs.declared.shows.Shown.TheVariants as states
 use Rattle.cs_world.specs.Tables.{past}
-use Rattle.cs_world.proofs.Fronts.{any_err}
 use Rattle.cs_world.proofs.Rows.{row_known}
 use Rattle.cs_world.proofs.Showing.{absent_is, count_within, gone_is, meta_small, owes, pending_is, calls_by_count, none_counted, some_counted, shown_is, stored_bytes, table_standing, told_meta}
 use Rattle.cs_world.proofs.shows.show.Goals as goal

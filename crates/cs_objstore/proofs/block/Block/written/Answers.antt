@@ -1,4 +1,4 @@
-use Rattle.std.proofs.Common.{◌≡◌, ◌∙◌, sym, ap, arith, rules, max, length, get_or, ℕ, ◌+◌, ◌<◌}
+use Rattle.std.proofs.Common.{◌≡◌, ◌∙◌, ap, arith, rules, max, length, get_or, ℕ, ◌+◌, ◌<◌}
 use Rattle.std.proofs.lemmas.Grind.{common_steps}
 use Rattle.cs_laws.specs.Image.{byte_over}
 use Rattle.cs_objstore.proofs.Blocks.{block_written}

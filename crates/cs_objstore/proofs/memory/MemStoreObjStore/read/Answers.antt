@@ -1,4 +1,4 @@
-use Rattle.std.proofs.Common.{◌∙◌, ap, length, reverse, ◌-◌, Some, None, [], arith}
+use Rattle.std.proofs.Common.{Some, None, [], arith}
 use Rattle.std.proofs.lemmas.Grind.{common_steps}
 use Rattle.cs_objstore.specs.Found.{versions_of}
 use Rattle.cs_objstore.proofs.Found.{found_is, reads_object}
