@@ -64,12 +64,6 @@ none_cloned (o ∷ os) not = absurd (cc)
 pub clones_counted : (vs : List Version) (os : List ObjOp) → Keeps vs (spans os) → length vs - 1 ≡ times_cloned os
 clones_counted vs os k = ap (λ n. n - 1) (keeps_length vs (spans os) k ∙ spans_count os) ∙ count_less (exists os) (times_cloned os) (none_cloned os)
 
-keeps_top : (vs : List Version) (ss : List Span) → Keeps vs ss → since_of vs ≡ top ss
-keeps_top [] [] k = refl
-keeps_top [] (s ∷ ss) k = absurd k
-keeps_top (v ∷ vs) [] k = absurd k
-keeps_top (v ∷ vs) (s ∷ ss) k = k.0
-
 -- ---- a write
 
 newer_none : (q : ℕ) (vs : List Version) → Keeps vs [] → is_newer q vs ≡ true

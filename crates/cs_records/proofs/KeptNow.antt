@@ -134,11 +134,6 @@ kept_next rs d g dir is_out last of now r more is changed i = record {
       ∙ ap (λ xs. had e xs) (sym (front_grows rs d r more is)));
 }
 
--- the realms are the same
-pub kept_same : (rs : List Record) (d g : ℕ) (dir : ℕ → Option ℕ) (is_out : ℕ → Bool) (last : ℕ → List ℕ → Option ℕ) (of now : ℕ → Option Own) → ((e : ℕ) → now e ≡ of e)
-    → IsKept rs d g dir is_out last of → IsKept rs d g dir is_out last now
-kept_same rs d g dir is_out last of now same i = record { within = i.within; log = i.log; number = i.number; dirs = i.dirs; removed = i.removed; names = i.names; realms = λ e. same e ∙ i.realms e }
-
 pub known_next : (rs : List Record) (d g : ℕ) (dir : ℕ → Option ℕ) (is_out : ℕ → Bool) (last : ℕ → List ℕ → Option ℕ) (of : ℕ → Option Own) (r : Record) → d < length rs → r ≡ get_or rs d r
     → IsKept rs d g dir is_out last of → IsKnown dir r.body
 known_next rs d g dir is_out last of r more is i = known dir (take d rs) r.body (knows_of rs d dir i.dirs) (next_of rs d r more is i.log)

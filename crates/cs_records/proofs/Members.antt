@@ -32,10 +32,6 @@ removed_step rs r below next s removed = at r.body next refl
     at (bodies.Flush snap f tid follows meta) next is = known (ap (λ b. is_removal s b) is)
     at (bodies.Removal t number) next is = choice t number (t == s) refl next is
 
-pub removed_below : (rs : List Record) (s : ℕ) → IsLog rs → is_removed s rs ≡ true → s ≤ greatest_number rs
-unfolding IsBelow
-removed_below rs s log = by_log IsBelow (λ t removed. absurd cc) removed_step rs log s
-
 -- Choices
 
 none_from : {X : Type 0} (o : Option X) → (is_some o ≡ true → ⊥) → o ≡ None

@@ -1,12 +1,9 @@
 // Each call that allocates, with ample memory, and those about it.
-use super::*;
 use cs_ids::{Bytes, Ino, Obj, Tid};
 use cs_laws::ObjOp;
 use cs_snapctx::SnapContext;
+use cs_writeback::{OpsInFlight, Reply, Resend};
 use std::test::Fail;
-
-// Takes a value that may go to another thread.
-fn hand_over<T: Send + Drop>(_value: T) {}
 
 #[test]
 fn an_operation_is_sent(rt: HostRuntime) -> Result<(), Fail> {
@@ -24,6 +21,5 @@ fn an_operation_is_sent(rt: HostRuntime) -> Result<(), Fail> {
     assert!(rt; operations.deliver(tid));
     assert!(rt; operations.reply(tid) == Reply::First);
     assert!(rt; operations.resend(tid) == Resend::Late);
-    hand_over(operations);
     Ok(())
 }

@@ -1,6 +1,6 @@
 // Each call that allocates, with ample memory, and those about it.
-use super::*;
 use cs_ids::{Seq, Snap};
+use cs_pages::{Filled, PageWrite, Pages, Pick};
 use cs_snapctx::{SnapContext, SnapList};
 use std::alloc::Global;
 use std::test::Fail;
@@ -15,9 +15,6 @@ fn context(alloc: Global, seq: u64) -> Result<SnapContext, Fail> {
     Ok(SnapContext::merge(alloc, none, none, seq, &parent, since)?)
 }
 
-// Takes a value that may go to another thread.
-fn hand_over<T: Send + Drop>(_value: T) {}
-
 #[test]
 fn a_page_is_filled_and_written(rt: HostRuntime) -> Result<(), Fail> {
     let alloc = rt.alloc();
@@ -30,6 +27,5 @@ fn a_page_is_filled_and_written(rt: HostRuntime) -> Result<(), Fail> {
     assert!(rt; pages.write(3, 10, b"abc".as_slice(), &first, 3)? == PageWrite::Written);
     assert!(rt; pages.write(3, 11, b"d".as_slice(), &later, 3)? == older);
     assert!(rt; pages.pick() == Pick::Page(3));
-    hand_over(pages);
     Ok(())
 }

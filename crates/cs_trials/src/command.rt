@@ -1,5 +1,5 @@
 // The call that takes memory, with ample memory.
-use super::*;
+use cs_command::{Command, read_command};
 use std::test::Fail;
 
 #[test]

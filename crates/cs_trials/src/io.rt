@@ -1,7 +1,7 @@
 // Each call that takes memory, with ample memory, also the plan of a faulty form; and the edge over std's
 // readers and writers.
-use crate::{FaultySink, FaultySource, ReadAll, StdSink, StdSource, read_all, write_all};
 use cs_ids::Failed;
+use cs_io::{FaultySink, FaultySource, ReadAll, StdSink, StdSource, read_all, write_all};
 use std::test::Fail;
 
 #[test]

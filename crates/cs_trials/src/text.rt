@@ -1,7 +1,7 @@
 // Each call that takes memory, with ample memory, also those of names and lists of bytes; and what a
 // `Display` writes.
-use crate::{HexText, put_dec, put_hex, read_hex};
 use cs_ids::{Bytes, Name, is_name};
+use cs_text::{HexText, put_dec, put_hex, read_hex};
 use std::test::Fail;
 
 #[test]

@@ -1,7 +1,7 @@
 // What no clause says: that these calls succeed with ample memory.
-use crate::{Kind, ParseFault, ScriptFault, parse, print_entry, print_event};
 use cs_ids::{Bytes, Ino};
 use cs_laws::{Answer, Event};
+use cs_script::{Kind, ParseFault, ScriptFault, parse, print_entry, print_event};
 use std::test::Fail;
 
 const SCRIPT: &[u8] = b"ceph-script 1\nfile 100 1\n\nwrite 32 g7 1048573 005aff\nsnap 1 a-1\n";
