@@ -9,7 +9,7 @@ use Rattle.cs_laws.specs.Realms.{Own, own, own_then}
 use Rattle.cs_laws.specs.Realms as realms
 use Rattle.cs_laws.specs.Standing.{dir_in, dir_of, greatest_number, is_removal, is_removed}
 use Rattle.cs_records.specs.Log.{IsLog, IsNext}
-use Rattle.cs_records.specs.Realms.{is_at}
+use Rattle.cs_records.specs.OwnTable.{is_at}
 use Rattle.cs_records.proofs.Logs.{by_log, dir_append, either, either_none, greatest_append, or_false, own_append, removed_append, snap_below, snap_dir}
 
 -- a removed snapshot has a number that was drawn

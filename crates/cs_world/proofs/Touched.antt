@@ -1,12 +1,12 @@
 -- A file's context stays where no realm on the way up has another one.
 use Rattle.std.proofs.Common.{◌≡◌, ◌∙◌, refl, sym, ap, ℕ, zero, suc, ◌+◌, ◌==◌, ◌||◌, Bool, true, false, cond, List, [], ◌∷◌, ◌++◌, map, filter, take, slice_get, is_some, add-one, append_assoc, Option, Some, None, Result, Ok, Err, OnOk, nat_eq, unwrap_or, ◌⊎◌, inl, inr, ⊎_elim}
-use Rattle.std.proofs.lemmas.Bool.{and_parts, eqb-true, false≢true, true≢false}
+use Rattle.std.proofs.lemmas.Bool.{false≢true, true≢false}
 use Rattle.std.proofs.lemmas.List.{map-append}
 use Rattle.std.proofs.lemmas.List.Folds.{list_any-append}
-use Rattle.std.specs.Cmp.Lexicographic.{pointwise}
 use Rattle.std.specs.Option.{option_map, option_to_list}
 use Rattle.cs_realms.specs.Changes.{change, is_of_change, is_same}
 use Rattle.cs_realms.specs.declared.changed.Change.{Change}
+use Rattle.cs_realms.proofs.Renewing.{equal_contexts}
 use Rattle.cs_realms.proofs.Stays.{record_of-with}
 use Rattle.cs_snapctx.specs.Context.{Context, empty_context}
 use Rattle.cs_snapctx.specs.Contexts.{context, context_of}
@@ -25,30 +25,9 @@ or_parts true b e = absurd (true≢false e)
 
 -- One record
 
-numbers_same : (xs ys : List ℕ) → pointwise nat_eq xs ys ≡ true → xs ≡ ys
-numbers_same [] [] e = refl
-numbers_same [] (y ∷ ys) e = absurd (false≢true e)
-numbers_same (x ∷ xs) [] e = absurd (false≢true e)
-numbers_same (x ∷ xs) (y ∷ ys) e =
-    let parts = and_parts (nat_eq x y) (pointwise nat_eq xs ys) e in
-    let first : x ≡ y = eqb-true x y parts.0 in
-    let rest : xs ≡ ys = numbers_same xs ys parts.1 in
-    cc
-
-abbrev context_from : ℕ → List ℕ → Context
-context_from q ss = record { seq = q; snaps = ss }
-
-same_parts : (q s : ℕ) (ts us : List ℕ) → q ≡ s → ts ≡ us → context_from q ts ≡ context_from s us
-same_parts q s ts us seq snaps = cc
-
-same_context : (b c : Context) → is_same (Some b) c ≡ true → b ≡ c
-same_context b c e =
-    let parts = and_parts (nat_eq b.seq c.seq) (pointwise nat_eq b.snaps c.snaps) e in
-    same_parts b.seq c.seq b.snaps c.snaps (eqb-true b.seq c.seq parts.0) (numbers_same b.snaps c.snaps parts.1)
-
 found_same : (b : Option Context) (c : Context) → is_same b c ≡ true → b ≡ Some c
 found_same None c e = absurd (false≢true e)
-found_same (Some b) c e = ap (λ x. let o : Option Context = Some x in o) (same_context b c e)
+found_same (Some b) c e = ap (λ x. let o : Option Context = Some x in o) (equal_contexts b c e)
 
 not_changed : (t : Bool) (x : Change) → cond t None (Some x) ≡ None → t ≡ true
 not_changed true x none = refl

@@ -1,9 +1,9 @@
 use Rattle.std.proofs.Common.{◌∙◌, drop, rules, tests}
 use Rattle.std.proofs.lemmas.Iterator.{YieldsList-from_slice}
 use Rattle.std.proofs.lemmas.Iterator.Search.{find_from_yields_List}
-use Rattle.cs_records.specs.Realms.{is_realm_by, own_in}
+use Rattle.cs_records.specs.OwnTable.{is_realm_by, own_in}
 use Rattle.cs_records.proofs.Lists.{behind_first}
-use Rattle.cs_records.proofs.realms.Realms.parent.Goals as goal
+use Rattle.cs_records.proofs.own_table.OwnTable.parent.Goals as goal
 
 pub returns-in-len1-up : goal.returns-in-len1-up
 returns-in-len1-up c =

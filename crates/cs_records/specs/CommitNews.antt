@@ -13,6 +13,6 @@ abbrev pub changed_records : (ℕ → List ℕ) → List ℕ → List Record →
 changed_records path ds before after = filter_map (λ d. changed_record (realm_record (path d) before d) (realm_record (path d) after d)) ds
 
 -- the messages on these records; before: the records before them
-abbrev pub told : (ℕ → List ℕ) → List ℕ → List Record → List Record → List Message
-told path ds before [] = []
-told path ds before (r ∷ rs) = news_of before (changed_records path ds before (before ++ r ∷ [])) r.body ∷ told path ds (before ++ r ∷ []) rs
+abbrev pub commit_news : (ℕ → List ℕ) → List ℕ → List Record → List Record → List Message
+commit_news path ds before [] = []
+commit_news path ds before (r ∷ rs) = news_of before (changed_records path ds before (before ++ r ∷ [])) r.body ∷ commit_news path ds (before ++ r ∷ []) rs

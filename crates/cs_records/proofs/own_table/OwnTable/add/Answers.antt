@@ -4,8 +4,8 @@ use Rattle.std.specs.Option.{unwrap_or}
 use Rattle.std.specs.Ordering.{nat_cmp}
 use Rattle.cs_records.proofs.Lists.{any_err}
 use Rattle.cs_records.proofs.Tables.{put, put_same}
-use Rattle.cs_records.specs.Realms.{no_own}
-use Rattle.cs_records.proofs.realms.Realms.add.Goals as goal
+use Rattle.cs_records.specs.OwnTable.{no_own}
+use Rattle.cs_records.proofs.own_table.OwnTable.add.Goals as goal
 
 pub returns-in_err-add-in-Some-clause-err : goal.returns-in_err-add-in-Some-clause-err
 returns-in_err-add-in-Some-clause-err c =

@@ -5,11 +5,11 @@ use Rattle.cs_laws.specs.Realms.{Own}
 use Rattle.cs_laws.specs.Standing.{dir_of, greatest_number, is_removed}
 use Rattle.cs_records.specs.Log.{IsLog}
 use Rattle.cs_records.specs.Names.{last_named}
-use Rattle.cs_records.specs.Realms.{had}
+use Rattle.cs_records.specs.OwnTable.{had}
 
 -- rs: all records, of which so many are durable. The look-ups give what the records say, those of realms
 -- what the durable ones say
-pub record IsKept (rs : List Record) (durable greatest : ℕ) (dir : ℕ → Option ℕ) (is_out : ℕ → Bool) (last : ℕ → List ℕ → Option ℕ) (of : ℕ → Option Own) : Type 0 where
+pub record IsIndexed (rs : List Record) (durable greatest : ℕ) (dir : ℕ → Option ℕ) (is_out : ℕ → Bool) (last : ℕ → List ℕ → Option ℕ) (of : ℕ → Option Own) : Type 0 where
   pub within : durable ≤ length rs
   pub log : IsLog rs
   pub number : greatest ≡ greatest_number rs

@@ -2,9 +2,9 @@
 ghost use Rattle.std.specs.Prelude.{◌≡◌, ◌==◌, [], ℕ, None, Some, if◌then◌else◌, IfOk, OnOk, OnErr};
 ghost use Rattle.std.specs.List.{filter_map};
 ghost use Rattle.cs_laws.specs.declared.records.RecordBody.TheVariants as bodies;
-ghost use Rattle.cs_records.specs.Realms.{changed_by, is_realm_by, own_in, parent_by, record_below, with_change};
+ghost use Rattle.cs_records.specs.OwnTable.{changed_by, is_realm_by, own_in, parent_by, record_below, with_change};
 
-use crate::own::OwnSnaps;
+use crate::own_snaps::OwnSnaps;
 use cs_ids::{Ino, Memory, Seq, Snap};
 use cs_laws::{RealmRecordList, RecordBody};
 use cs_snapctx::{RealmRecord, SnapList};
@@ -21,17 +21,17 @@ const FIRST: u64 = 1;
 
 // The realms that have had a snapshot of their own.
 #[derive(Drop)]
-pub struct Realms {
+pub struct OwnTable {
     alloc: Global,
     owns: BTreeMap<Ino, OwnSnaps>,
 }
 
-impl Realms {
+impl OwnTable {
     // No realm has had a snapshot. It takes no memory.
     pub fn new(alloc: Global) -> Self
         ensures { (d : ℕ) → own_in result d ≡ None }
     {
-        Realms {
+        OwnTable {
             alloc,
             owns: BTreeMap::new(alloc),
         }

@@ -8,7 +8,7 @@ use Rattle.cs_laws.specs.declared.messages.Message.TheVariants as messages
 use Rattle.cs_laws.specs.declared.records.RecordBody.{RecordBody}
 use Rattle.cs_laws.specs.declared.records.RecordBody.TheVariants as bodies
 use Rattle.cs_laws.specs.Realms.{Own}
-use Rattle.cs_records.specs.Realms.{changed_by, is_at, is_realm_by, with_change}
+use Rattle.cs_records.specs.OwnTable.{changed_by, is_at, is_realm_by, with_change}
 
 -- dirs: the directory of each snapshot
 

@@ -2,7 +2,7 @@ use Rattle.std.proofs.Common.{◌==◌, not, ◌∙◌, ap, reverse, filter, rul
 use Rattle.std.proofs.lemmas.Fn.{filter_same}
 use Rattle.cs_laws.specs.Realms.{Own}
 use Rattle.cs_records.proofs.Lists.{reverse_filter}
-use Rattle.cs_records.proofs.own.OwnSnaps.remove.Goals as goal
+use Rattle.cs_records.proofs.own_snaps.OwnSnaps.remove.Goals as goal
 
 pub returns : goal.returns
 returns c =

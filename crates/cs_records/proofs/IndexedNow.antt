@@ -11,12 +11,12 @@ use Rattle.cs_laws.specs.Standing.{dir_of, greatest_number, is_removal, is_remov
 use Rattle.cs_laws.specs.declared.messages.Message.{Message}
 use Rattle.cs_tree.specs.declared.directories.Directory.{Directory}
 use Rattle.cs_tree.specs.Directories.{AreDistinct, inos, path_of}
-use Rattle.cs_records.specs.Commits.{told}
-use Rattle.cs_records.specs.Kept.{IsKept}
+use Rattle.cs_records.specs.CommitNews.{commit_news}
+use Rattle.cs_records.specs.Indexed.{IsIndexed}
 use Rattle.cs_records.specs.Log.{IsLog, IsNext, IsNextRemoval, IsNextSnap}
 use Rattle.cs_records.specs.Names.{last_named, named_then}
-use Rattle.cs_records.specs.Realms.{had}
-use Rattle.cs_records.specs.Told.{IsKnown, changed_own, is_new_by, message_by}
+use Rattle.cs_records.specs.OwnTable.{had}
+use Rattle.cs_records.specs.NewsByTables.{IsKnown, changed_own, is_new_by, message_by}
 use Rattle.cs_records.proofs.Logs.{dir_append, dir_stays, either, either_none, greatest_append, log_append, log_front, log_next, named_append, or_false, removed_append}
 use Rattle.cs_records.proofs.Members.{new_dir}
 use Rattle.cs_records.proofs.Telling.{Knows, changed_had, known, message_told}
@@ -40,7 +40,7 @@ log_more rs new r grown log next = subst IsLog (sym grown) (log_append [] rs r l
 pub kept_flush : (rs new : List Record) (d g : ℕ) (dir : ℕ → Option ℕ) (is_out : ℕ → Bool) (last : ℕ → List ℕ → Option ℕ) (of : ℕ → Option Own) (r : Record) → new ≡ rs ++ r ∷ []
     → number_of r.body ≡ 0 → IsNext rs r.body → ((s : ℕ) → dir_of s (r ∷ []) ≡ None) → ((s : ℕ) → is_removal s r.body ≡ false)
     → ((e : ℕ) (name : List ℕ) (was : Option ℕ) → named_then e name r.body was ≡ was)
-    → IsKept rs d g dir is_out last of → IsKept new d g dir is_out last of
+    → IsIndexed rs d g dir is_out last of → IsIndexed new d g dir is_out last of
 kept_flush rs new d g dir is_out last of r grown zero next none in_place unnamed i = record {
   within = within_more rs new d r grown i.within;
   log = log_more rs new r grown i.log next;
@@ -56,7 +56,7 @@ pub kept_snap : (rs new : List Record) (d g n e : ℕ) (name : List ℕ) (dir di
     → new ≡ rs ++ record { body = bodies.Snap n e name } ∷ [] → IsNextSnap rs n e name
     → ((s : ℕ) → dir_now s ≡ cond (n == s) (Some e) (dir s))
     → ((f : ℕ) (other : List ℕ) → last_now f other ≡ cond ((e == f) && bytes_eq other name) (Some n) (last f other))
-    → IsKept rs d g dir is_out last of → IsKept new d n dir_now is_out last_now of
+    → IsIndexed rs d g dir is_out last of → IsIndexed new d n dir_now is_out last_now of
 kept_snap rs new d g n e name dir dir_now is_out last last_now of grown next dirs names i =
     let r : Record = record { body = bodies.Snap n e name } in
     let drawn = next.next in
@@ -83,7 +83,7 @@ kept_snap rs new d g n e name dir dir_now is_out last last_now of grown next dir
 pub kept_removal : (rs new : List Record) (d g n t : ℕ) (dir : ℕ → Option ℕ) (is_out is_out_now : ℕ → Bool) (last : ℕ → List ℕ → Option ℕ) (of : ℕ → Option Own)
     → new ≡ rs ++ record { body = bodies.Removal t n } ∷ [] → IsNextRemoval rs t n
     → ((s : ℕ) → is_out_now s ≡ cond (t == s) true (is_out s))
-    → IsKept rs d g dir is_out last of → IsKept new d n dir is_out_now last of
+    → IsIndexed rs d g dir is_out last of → IsIndexed new d n dir is_out_now last of
 kept_removal rs new d g n t dir is_out is_out_now last of grown next out i =
     let r : Record = record { body = bodies.Removal t n } in
     let drawn = next.next in
@@ -120,7 +120,7 @@ knows_of rs d dir dirs s e is = dirs s ∙ (ap (λ xs. dir_of s xs) (sym (take-a
 
 pub kept_next : (rs : List Record) (d g : ℕ) (dir : ℕ → Option ℕ) (is_out : ℕ → Bool) (last : ℕ → List ℕ → Option ℕ) (of now : ℕ → Option Own) (r : Record) → d < length rs → r ≡ get_or rs d r
     → ((e : ℕ) → now e ≡ changed_own dir of r.body e)
-    → IsKept rs d g dir is_out last of → IsKept rs (d + 1) g dir is_out last now
+    → IsIndexed rs d g dir is_out last of → IsIndexed rs (d + 1) g dir is_out last now
 kept_next rs d g dir is_out last of now r more is changed i = record {
   within = omega (arith, more);
   log = i.log;
@@ -135,7 +135,7 @@ kept_next rs d g dir is_out last of now r more is changed i = record {
 }
 
 pub known_next : (rs : List Record) (d g : ℕ) (dir : ℕ → Option ℕ) (is_out : ℕ → Bool) (last : ℕ → List ℕ → Option ℕ) (of : ℕ → Option Own) (r : Record) → d < length rs → r ≡ get_or rs d r
-    → IsKept rs d g dir is_out last of → IsKnown dir r.body
+    → IsIndexed rs d g dir is_out last of → IsKnown dir r.body
 known_next rs d g dir is_out last of r more is i = known dir (take d rs) r.body (knows_of rs d dir i.dirs) (next_of rs d r more is i.log)
 
 first_behind : (rs : List Record) (d : ℕ) (r : Record) → d < length rs → r ≡ get_or rs d r → take 1 (drop d rs) ≡ r ∷ []
@@ -143,13 +143,13 @@ first_behind rs d r more is = ap (λ xs. take 1 xs) (drop-cons rs d r more) ∙ 
 
 -- what the client is told of it
 pub told_next : (rs : List Record) (d g : ℕ) (dir : ℕ → Option ℕ) (is_out : ℕ → Bool) (last : ℕ → List ℕ → Option ℕ) (of now : ℕ → Option Own) (r : Record) (xs : List Directory) (is_new : Bool) (m : Message)
-    → d < length rs → r ≡ get_or rs d r → ((e : ℕ) → now e ≡ changed_own dir of r.body e) → IsKept rs d g dir is_out last of → AreDistinct xs
+    → d < length rs → r ≡ get_or rs d r → ((e : ℕ) → now e ≡ changed_own dir of r.body e) → IsIndexed rs d g dir is_out last of → AreDistinct xs
     → is_new ≡ is_new_by dir of r.body → m ≡ message_by dir now xs is_new r.body
-    → m ∷ [] ≡ told (path_of xs) (inos xs) (take d rs) (take 1 (drop d rs))
+    → m ∷ [] ≡ commit_news (path_of xs) (inos xs) (take d rs) (take 1 (drop d rs))
 told_next rs d g dir is_out last of now r xs is_new m more is changed i distinct new message =
     let log = front_log rs d i.log in
     let next = next_of rs d r more is i.log in
     let knows = knows_of rs d dir i.dirs in
     ap (λ x. x ∷ []) (message ∙ (ap (λ b. message_by dir now xs b r.body) new
     ∙ message_told dir of now (take d rs) r.body xs log next knows i.realms (λ e. changed e ∙ changed_had dir of (take d rs) r.body log next knows i.realms e) distinct))
-    ∙ ap (λ ys. told (path_of xs) (inos xs) (take d rs) ys) (sym (first_behind rs d r more is))
+    ∙ ap (λ ys. commit_news (path_of xs) (inos xs) (take d rs) ys) (sym (first_behind rs d r more is))

@@ -10,7 +10,7 @@ use Rattle.cs_laws.specs.declared.records.Record.{Record}
 use Rattle.cs_laws.specs.declared.records.RecordBody.{RecordBody}
 use Rattle.cs_laws.specs.declared.records.RecordBody.TheVariants as bodies
 use Rattle.cs_laws.specs.Realms.{Own, is_snap_of, own}
-use Rattle.cs_records.specs.declared.realms.Realms.{Realms}
+use Rattle.cs_records.specs.declared.own_table.OwnTable.{OwnTable}
 
 -- before the first snapshot
 abbrev pub no_own : Own
@@ -21,7 +21,7 @@ abbrev pub had : ℕ → List Record → Option Own
 had d rs = if list_any (λ r. is_snap_of d r.body) rs then Some (own d rs) else None
 
 -- the same by the table
-abbrev pub own_in : Realms → ℕ → Option Own
+abbrev pub own_in : OwnTable → ℕ → Option Own
 own_in t d = get nat_cmp t.owns d
 
 -- after a record that changes the realm
