@@ -1,5 +1,5 @@
 -- A file's context stays where no realm on the way up has another one.
-use Rattle.std.proofs.Common.{◌≡◌, ◌∙◌, refl, sym, ap, ℕ, zero, suc, ◌+◌, ◌==◌, ◌||◌, Bool, true, false, cond, List, [], ◌∷◌, ◌++◌, map, filter, take, slice_get, is_some, add-one, append_assoc, Option, Some, None, Result, Ok, Err, OnOk, nat_eq, unwrap_or, ◌⊎◌, inl, inr, ⊎_elim}
+use Rattle.std.proofs.Common.{◌≡◌, ◌∙◌, refl, sym, ap, ℕ, zero, suc, ◌+◌, ◌==◌, ◌||◌, Bool, true, false, cond, List, [], ◌∷◌, ◌++◌, map, filter, take, slice_get, is_some, add-one, append_assoc, Option, Some, None, Result, Ok, Err, OnOk, unwrap_or, ◌⊎◌, inl, inr, ⊎_elim}
 use Rattle.std.proofs.lemmas.Bool.{false≢true, true≢false}
 use Rattle.std.proofs.lemmas.List.{map-append}
 use Rattle.std.proofs.lemmas.List.Folds.{list_any-append}
@@ -12,12 +12,9 @@ use Rattle.cs_snapctx.specs.Context.{Context, empty_context}
 use Rattle.cs_snapctx.specs.Contexts.{context, context_of}
 use Rattle.cs_snapctx.specs.Records.{is_known, is_of, record_of, with_record}
 use Rattle.cs_snapctx.specs.declared.realm.RealmRecord.{RealmRecord}
-use Rattle.cs_laws.specs.Context.{differs, path_context}
-use Rattle.cs_theorems.proofs.Order.{not_other}
-use Rattle.cs_world.specs.declared.state.FileState.{FileState}
-use Rattle.cs_world.specs.Changed.{Changes, is_among, told_context}
-use Rattle.cs_world.specs.Tables.{Files, PutsRow}
-use Rattle.cs_world.specs.Touched.{OthersStay, StaysIn, TouchesMore, is_touched}
+use Rattle.cs_laws.specs.Context.{path_context}
+use Rattle.cs_world.specs.Changed.{is_among}
+use Rattle.cs_world.specs.Touched.{OthersStay, TouchesMore, is_touched}
 
 or_parts : (a b : Bool) → (a || b) ≡ false → (a ≡ false) × (b ≡ false)
 or_parts false b e = (refl, e)

@@ -13,18 +13,18 @@ loop-i-init c = record {
 
 pub unreachable-requires : goal.unreachable-requires
 unreachable-requires c =
-    never_past c.args.told.now c.loop-i.i (sym c.get.ensures ∙ ap option_copied c.in_default.is) (omega (arith, c.loop-i-test.true, c.len-i-end.ensures))
+    never_past c.args.told.now c.loop-i.i (sym c.get.ensures.value ∙ ap option_copied c.in_default.is) (omega (arith, c.loop-i-test.true, c.len-i-end.ensures))
 
 pub take_one-requires : goal.take_one-requires
 take_one-requires c =
     next_known c.args.told.now c.loop-i.i c.loop-i.realms (with_records c.args.told.now c.args.realms.now) c.in-Some.record.now
-    (sym c.get.ensures ∙ ap option_copied c.in-Some.is) c.loop-i.invariant.rest
+    (sym c.get.ensures.value ∙ ap option_copied c.in-Some.is) c.loop-i.invariant.rest
 
 pub loop-i-preserved : goal.loop-i-preserved
 loop-i-preserved c = record {
   rest =
       rest_next c.args.told.now c.loop-i.i c.loop-i.realms (with_records c.args.told.now c.args.realms.now) c.take_one.new.realms c.in-Some.record.now
-      (sym c.get.ensures ∙ ap option_copied c.in-Some.is) c.in_ok-take_one.ensures.records c.loop-i.invariant.rest;
+      (sym c.get.ensures.value ∙ ap option_copied c.in-Some.is) c.in_ok-take_one.ensures.records c.loop-i.invariant.rest;
   stay =
       others_next c.loop-i.touched.items c.take_one.new.touched.items c.args.realms.now c.loop-i.realms c.take_one.new.realms c.loop-i.invariant.stay
       c.in_ok-take_one.ensures.touched;
