@@ -1,8 +1,8 @@
 pub mod Agreement
 pub mod Answers
 pub mod CapSnaps
-pub mod Carried
 pub mod Capabilities
+pub mod Carried
 pub mod Context
 pub mod Devices
 pub mod Events
@@ -25,6 +25,7 @@ pub mod Refusals
 pub mod Runs
 pub mod Sessions
 pub mod Shown
+pub mod Spellings
 pub mod Standing
 pub mod Texts
 pub mod Tree
