@@ -31,15 +31,6 @@ writes whole (Err writing.Memory) bytes a b m n small ok err cause = record {
   known = inr (inr refl);
 }
 
--- nothing was written for want of memory
-pub unwritten : (whole : ℕ) (bytes : List ℕ) (a : Option (List ℕ)) (m : ℕ) → whole < 4 → Writes whole 8 bytes a a m m
-unwritten whole bytes a m small = record {
-  whole = λ e. absurd (omega arith);
-  cut = λ s. (bytes, took_none a bytes);
-  sink = λ e. absurd (omega arith);
-  known = inr (inr refl);
-}
-
 err_of : {Q : Type 0} (whole : ℕ) (r : Result (Unit {0}) WriteFault) → whole < 4 → (write_status whole r ≡ 5) ⊎ (write_status whole r ≡ 8) → OnErr r Q → Q
 err_of whole (Ok x) small (inl e) q = absurd (omega arith)
 err_of whole (Ok x) small (inr e) q = absurd (omega arith)

@@ -4,8 +4,6 @@
 mod command;
 mod fault;
 mod run;
-#[cfg(test)]
-mod tests;
 
 pub use command::{Command, read_command};
 pub use fault::WordsFault;

@@ -12,7 +12,6 @@ ghost use Rattle.cs_flush.specs.contracts.flushes.Flushes as flushes_row;
 ghost use Rattle.cs_flush.specs.contracts.sent.Sent as sent_row;
 ghost use Rattle.cs_flush.specs.contracts.sent.FlushAck as flush_ack_row;
 ghost use Rattle.cs_flush.specs.contracts.report.FlushReport as flush_report_row;
-ghost use Rattle.cs_flush.specs.contracts.report.FlushReportList as flush_report_list_row;
 
 /// An empty list rises, and each step keeps the order.
 pub fn steps_keep_the_order()
@@ -75,5 +74,5 @@ pub fn two_flushes_by_example()
 /// Values of this crate's types may go to other threads.
 pub fn values_may_cross_threads()
     ensures flushes { IsSend flushes_row.the_row × IsSend sent_row.the_row × IsSend flush_ack_row.the_row }
-    ensures reports { IsSend flush_report_row.the_row × IsSend flush_report_list_row.the_row }
+    ensures reports { IsSend flush_report_row.the_row }
 {}

@@ -1,9 +1,10 @@
-//! Numbers in their ranges, names, lists of bytes, and the words in which every device tells its
+//! Numbers in their ranges, names, lists, and the words in which every device tells its
 //! faults. All other crates stand on this one.
 #![tactic(auto)]
 
 mod bytes;
 mod devices;
+mod items;
 mod laws;
 mod memory;
 mod names;
@@ -12,6 +13,7 @@ mod objects;
 
 pub use bytes::Bytes;
 pub use devices::Failed;
+pub use items::Items;
 pub use laws::{names_by_example, values_may_cross_threads};
 pub use memory::Memory;
 pub use names::{Name, is_name};

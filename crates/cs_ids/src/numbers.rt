@@ -78,7 +78,7 @@ impl Snap {
         }
     }
 
-    /// The number behind `count` numbers that were drawn from 1 on, so `count + 1`.
+    /// The number behind `count` numbers that were drawn from 1 on: `count + 1`, so 1 to 99,999.
     pub fn after(count: u64) -> Self
         requires { count < 99999 }
         ensures { result ≡ count + 1 }
@@ -131,7 +131,7 @@ impl Seq {
         }
     }
 
-    /// The number behind `count` numbers that were drawn from 1 on, so `count + 1`.
+    /// The number behind `count` numbers that were drawn from 1 on: `count + 1`, so 1 to 99,999.
     pub fn after(count: u64) -> Self
         requires { count < 99999 }
         ensures { result ≡ count + 1 }
@@ -191,7 +191,7 @@ impl Tid {
         }
     }
 
-    /// The number behind `count` numbers that were drawn from 1 on, so `count + 1`.
+    /// The number behind `count` numbers that were drawn from 1 on: `count + 1`, so 1 to 99,999.
     pub fn after(count: u64) -> Self
         requires { count < 99999 }
         ensures { result ≡ count + 1 }
@@ -244,7 +244,7 @@ impl RefNo {
         }
     }
 
-    /// The number behind `count` numbers that were drawn from 1 on, so `count + 1`.
+    /// The number behind `count` numbers that were drawn from 1 on: `count + 1`, so 1 to 99,999.
     pub fn after(count: u64) -> Self
         requires { count < 99999 }
         ensures { result ≡ count + 1 }

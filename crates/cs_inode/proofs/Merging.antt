@@ -1,10 +1,10 @@
 -- The reports of two rising lists, merged by the numbers of their flushes.
-use Rattle.std.proofs.Common.{◌≡◌, ◌∙◌, refl, sym, ap, ℕ, zero, suc, ◌+◌, ◌-◌, ◌<◌, ◌≤◌, Bool, true, false, not, cond, ltb, nat_lt, if◌then◌else◌, Bor, List, [], ◌∷◌, ◌++◌, append_assoc, add-one, drop, filter, length, map, All, AllPairs, Option, Some, None, slice_get, length-drop, arith}
+use Rattle.std.proofs.Common.{◌≡◌, ◌∙◌, refl, sym, ap, ℕ, zero, suc, ◌+◌, ◌-◌, ◌<◌, ◌≤◌, ◌==◌, Bool, true, false, not, cond, ltb, nat_lt, if◌then◌else◌, Bor, List, [], ◌∷◌, ◌++◌, append_assoc, add-one, drop, filter, length, map, All, AllPairs, Option, Some, None, slice_get, length-drop, arith}
 use Rattle.std.specs.Option.{option_copied}
 use Rattle.std.specs.Slice.{IsItemAt}
-use Rattle.std.proofs.lemmas.Bool.{ltb-true, ltb-false}
+use Rattle.std.proofs.lemmas.Bool.{eqb-false, ltb-true, ltb-false}
 use Rattle.std.proofs.lemmas.List.{append-nil, length-append}
-use Rattle.std.proofs.lemmas.List.Elements.{All-nil, All-cons, All-head, All-tail, All-weaker}
+use Rattle.std.proofs.lemmas.List.Elements.{All-nil, All-cons, All-head, All-map, All-tail, All-weaker}
 use Rattle.std.proofs.lemmas.List.Kept.{AllPairs-cons}
 use Rattle.std.proofs.lemmas.Option.{slice_get_past, slice_get_read}
 use Rattle.cs_ids.specs.declared.objects.FileMeta.{FileMeta}
@@ -18,6 +18,14 @@ use Rattle.cs_inode.specs.Reports.{AreReports, file_report, first_report, snap_r
 -- what is told of a cap snap that was sent
 abbrev pub Told : Type 0
 Told = ℕ × ℕ × FileMeta
+
+-- no cap snap was sent in the flush of a number
+abbrev pub IsUntold : ℕ → List Told → Type 0
+IsUntold n us = All (λ u. (u.0 == n) ≡ false) us
+
+-- none was in one of these flushes of the file
+abbrev pub AllUntold : List Sent → List Told → Type 0
+AllUntold xs us = All (λ x. IsUntold x.tid us) xs
 
 -- x goes behind all of the others that have a lesser number, and then the rest
 abbrev front : (List FlushReport → List FlushReport) → FlushReport → List FlushReport → List FlushReport
@@ -44,7 +52,8 @@ files_at ino x xs rest [] = ap (λ rs. file_report ino x ∷ rs) (rest [])
 files_at ino x xs rest (u ∷ us) = at (ltb u.0 x.tid) (files_at ino x xs rest us)
   where
     at : (b : Bool) → filter (λ r. not r.snap) (reports_of ino (x ∷ xs) us) ≡ map (file_report ino) (x ∷ xs)
-        → filter (λ r. not r.snap) (cond b (snap_report ino u ∷ reports_of ino (x ∷ xs) us) (file_report ino x ∷ reports_of ino xs (u ∷ us))) ≡ map (file_report ino) (x ∷ xs)
+        → filter (λ r. not r.snap) (cond b (snap_report ino u ∷ reports_of ino (x ∷ xs) us) (file_report ino x ∷ reports_of ino xs (u ∷ us)))
+        ≡ map (file_report ino) (x ∷ xs)
     at true before = before
     at false before = ap (λ rs. file_report ino x ∷ rs) (rest (u ∷ us))
 
@@ -62,7 +71,8 @@ snaps_at ino x xs rest [] = rest []
 snaps_at ino x xs rest (u ∷ us) = at (ltb u.0 x.tid) (snaps_at ino x xs rest us)
   where
     at : (b : Bool) → filter (λ r. r.snap) (reports_of ino (x ∷ xs) us) ≡ map (snap_report ino) us
-        → filter (λ r. r.snap) (cond b (snap_report ino u ∷ reports_of ino (x ∷ xs) us) (file_report ino x ∷ reports_of ino xs (u ∷ us))) ≡ map (snap_report ino) (u ∷ us)
+        → filter (λ r. r.snap) (cond b (snap_report ino u ∷ reports_of ino (x ∷ xs) us) (file_report ino x ∷ reports_of ino xs (u ∷ us)))
+        ≡ map (snap_report ino) (u ∷ us)
     at true before = ap (λ rs. snap_report ino u ∷ rs) before
     at false before = rest (u ∷ us)
 
@@ -73,92 +83,111 @@ snaps_of ino (x ∷ xs) us = snaps_at ino x xs (λ vs. snaps_of ino xs vs) us
 -- They are in order
 
 abbrev IsUpward : List FlushReport → Type 0
-IsUpward rs = AllPairs (λ a b. a.sent.tid ≤ b.sent.tid) rs
+IsUpward rs = AllPairs (λ a b. a.sent.tid < b.sent.tid) rs
 
-abbrev AllFrom : ℕ → List FlushReport → Type 0
-AllFrom low rs = All (λ r. low ≤ r.sent.tid) rs
+abbrev AllAbove : ℕ → List FlushReport → Type 0
+AllAbove low rs = All (λ r. low < r.sent.tid) rs
 
-upward_head : (x : FlushReport) (xs : List FlushReport) → IsUpward (x ∷ xs) → AllFrom x.sent.tid xs
+-- no report has the number
+abbrev IsOther : ℕ → List FlushReport → Type 0
+IsOther n rs = All (λ r. (r.sent.tid == n) ≡ false) rs
+
+-- no number is in both lists
+abbrev AllOther : List FlushReport → List FlushReport → Type 0
+AllOther xs ys = All (λ x. IsOther x.sent.tid ys) xs
+
+other_tail : (xs : List FlushReport) (y : FlushReport) (ys : List FlushReport) → AllOther xs (y ∷ ys) → AllOther xs ys
+other_tail xs y ys o =
+    All-weaker (λ x. IsOther x.sent.tid (y ∷ ys)) (λ x. IsOther x.sent.tid ys) (λ x a. All-tail (λ r. (r.sent.tid == x.sent.tid) ≡ false) y ys a) xs o
+
+upward_head : (x : FlushReport) (xs : List FlushReport) → IsUpward (x ∷ xs) → AllAbove x.sent.tid xs
 upward_head x xs up = λ k d l. up 0 (suc k) d (omega arith) (omega arith)
 
 upward_tail : (x : FlushReport) (xs : List FlushReport) → IsUpward (x ∷ xs) → IsUpward xs
 upward_tail x xs up = λ i j d l m. up (suc i) (suc j) d (omega arith) (omega arith)
 
-from_front : (low : ℕ) (rest : List FlushReport → List FlushReport) (x : FlushReport) (ys : List FlushReport) → low ≤ x.sent.tid
-    → ((zs : List FlushReport) → AllFrom low zs → AllFrom low (rest zs)) → AllFrom low ys → AllFrom low (front rest x ys)
-from_front low rest x [] first more all = All-cons (λ r. low ≤ r.sent.tid) x (rest []) first (more [] all)
-from_front low rest x (y ∷ ys) first more all =
-    at (ltb y.sent.tid x.sent.tid) (from_front low rest x ys first more (All-tail (λ r. low ≤ r.sent.tid) y ys all))
+above_front : (low : ℕ) (rest : List FlushReport → List FlushReport) (x : FlushReport) (ys : List FlushReport) → low < x.sent.tid
+    → ((zs : List FlushReport) → AllAbove low zs → AllAbove low (rest zs)) → AllAbove low ys → AllAbove low (front rest x ys)
+above_front low rest x [] first more all = All-cons (λ r. low < r.sent.tid) x (rest []) first (more [] all)
+above_front low rest x (y ∷ ys) first more all =
+    at (ltb y.sent.tid x.sent.tid) (above_front low rest x ys first more (All-tail (λ r. low < r.sent.tid) y ys all))
   where
-    at : (b : Bool) → AllFrom low (front rest x ys) → AllFrom low (cond b (y ∷ front rest x ys) (x ∷ rest (y ∷ ys)))
-    at true before = All-cons (λ r. low ≤ r.sent.tid) y (front rest x ys) (All-head (λ r. low ≤ r.sent.tid) y ys all) before
-    at false before = All-cons (λ r. low ≤ r.sent.tid) x (rest (y ∷ ys)) first (more (y ∷ ys) all)
+    at : (b : Bool) → AllAbove low (front rest x ys) → AllAbove low (cond b (y ∷ front rest x ys) (x ∷ rest (y ∷ ys)))
+    at true before = All-cons (λ r. low < r.sent.tid) y (front rest x ys) (All-head (λ r. low < r.sent.tid) y ys all) before
+    at false before = All-cons (λ r. low < r.sent.tid) x (rest (y ∷ ys)) first (more (y ∷ ys) all)
 
-from_merge : (low : ℕ) (xs ys : List FlushReport) → AllFrom low xs → AllFrom low ys → AllFrom low (merge xs ys)
-from_merge low [] ys a b = b
-from_merge low (x ∷ xs) ys a b =
-    from_front low (λ zs. merge xs zs) x ys (All-head (λ r. low ≤ r.sent.tid) x xs a)
-    (λ zs c. from_merge low xs zs (All-tail (λ r. low ≤ r.sent.tid) x xs a) c) b
+above_merge : (low : ℕ) (xs ys : List FlushReport) → AllAbove low xs → AllAbove low ys → AllAbove low (merge xs ys)
+above_merge low [] ys a b = b
+above_merge low (x ∷ xs) ys a b =
+    above_front low (λ zs. merge xs zs) x ys (All-head (λ r. low < r.sent.tid) x xs a)
+    (λ zs c. above_merge low xs zs (All-tail (λ r. low < r.sent.tid) x xs a) c) b
 
-from_less : (low high : ℕ) (xs : List FlushReport) → low ≤ high → AllFrom high xs → AllFrom low xs
-from_less low high xs l all = All-weaker (λ r. high ≤ r.sent.tid) (λ r. low ≤ r.sent.tid) (λ r k. omega arith) xs all
+above_less : (low high : ℕ) (xs : List FlushReport) → low < high → AllAbove high xs → AllAbove low xs
+above_less low high xs l all = All-weaker (λ r. high < r.sent.tid) (λ r. low < r.sent.tid) (λ r k. omega arith) xs all
 
-upward_at : (x : FlushReport) (xs : List FlushReport) → AllFrom x.sent.tid xs → ((zs : List FlushReport) → IsUpward zs → IsUpward (merge xs zs))
-    → (ys : List FlushReport) → IsUpward ys → IsUpward (merge (x ∷ xs) ys)
-upward_at x xs low rest [] up =
-    AllPairs-cons (λ a b. a.sent.tid ≤ b.sent.tid) x (merge xs []) (from_merge x.sent.tid xs [] low (All-nil (λ r. x.sent.tid ≤ r.sent.tid))) (rest [] up)
-upward_at x xs low rest (y ∷ ys) up = at (ltb y.sent.tid x.sent.tid) refl (upward_at x xs low rest ys (upward_tail y ys up))
+upward_at : (x : FlushReport) (xs : List FlushReport) → AllAbove x.sent.tid xs
+    → ((zs : List FlushReport) → IsUpward zs → AllOther xs zs → IsUpward (merge xs zs))
+    → (ys : List FlushReport) → IsUpward ys → AllOther (x ∷ xs) ys → IsUpward (merge (x ∷ xs) ys)
+upward_at x xs low rest [] up o =
+    AllPairs-cons (λ a b. a.sent.tid < b.sent.tid) x (merge xs []) (above_merge x.sent.tid xs [] low (All-nil (λ r. x.sent.tid < r.sent.tid)))
+    (rest [] up (All-tail (λ z. IsOther z.sent.tid []) x xs o))
+upward_at x xs low rest (y ∷ ys) up o =
+    at (ltb y.sent.tid x.sent.tid) refl (upward_at x xs low rest ys (upward_tail y ys up) (other_tail (x ∷ xs) y ys o))
   where
     at : (b : Bool) → ltb y.sent.tid x.sent.tid ≡ b → IsUpward (merge (x ∷ xs) ys) → IsUpward (cond b (y ∷ merge (x ∷ xs) ys) (x ∷ merge xs (y ∷ ys)))
     at true e before =
         let l : y.sent.tid < x.sent.tid = ltb-true y.sent.tid x.sent.tid e in
-        AllPairs-cons (λ a b. a.sent.tid ≤ b.sent.tid) y (merge (x ∷ xs) ys)
-        (from_merge y.sent.tid (x ∷ xs) ys
-        (All-cons (λ r. y.sent.tid ≤ r.sent.tid) x xs (omega arith) (from_less y.sent.tid x.sent.tid xs (omega arith) low)) (upward_head y ys up))
+        AllPairs-cons (λ a b. a.sent.tid < b.sent.tid) y (merge (x ∷ xs) ys)
+        (above_merge y.sent.tid (x ∷ xs) ys
+        (All-cons (λ r. y.sent.tid < r.sent.tid) x xs l (above_less y.sent.tid x.sent.tid xs l low)) (upward_head y ys up))
         before
     at false e before =
-        let l : x.sent.tid ≤ y.sent.tid = ltb-false y.sent.tid x.sent.tid e in
-        AllPairs-cons (λ a b. a.sent.tid ≤ b.sent.tid) x (merge xs (y ∷ ys))
-        (from_merge x.sent.tid xs (y ∷ ys) low
-        (All-cons (λ r. x.sent.tid ≤ r.sent.tid) y ys l (from_less x.sent.tid y.sent.tid ys l (upward_head y ys up))))
-        (rest (y ∷ ys) up)
+        let other = All-head (λ z. IsOther z.sent.tid (y ∷ ys)) x xs o in
+        let apart = eqb-false y.sent.tid x.sent.tid (All-head (λ r. (r.sent.tid == x.sent.tid) ≡ false) y ys other) in
+        let from : x.sent.tid ≤ y.sent.tid = ltb-false y.sent.tid x.sent.tid e in
+        let l : x.sent.tid < y.sent.tid = omega (arith, apart) in
+        AllPairs-cons (λ a b. a.sent.tid < b.sent.tid) x (merge xs (y ∷ ys))
+        (above_merge x.sent.tid xs (y ∷ ys) low
+        (All-cons (λ r. x.sent.tid < r.sent.tid) y ys l (above_less x.sent.tid y.sent.tid ys l (upward_head y ys up))))
+        (rest (y ∷ ys) up (All-tail (λ z. IsOther z.sent.tid (y ∷ ys)) x xs o))
 
-upward_merge : (xs ys : List FlushReport) → IsUpward xs → IsUpward ys → IsUpward (merge xs ys)
-upward_merge [] ys a b = b
-upward_merge (x ∷ xs) ys a b = upward_at x xs (upward_head x xs a) (λ zs c. upward_merge xs zs (upward_tail x xs a) c) ys b
-
-files_from : (ino low : ℕ) (xs : List Sent) → All (λ x. low < x.tid) xs → AllFrom low (map (file_report ino) xs)
-files_from ino low [] all = All-nil (λ r. low ≤ r.sent.tid)
-files_from ino low (x ∷ xs) all =
-    let first : low < x.tid = All-head (λ y. low < y.tid) x xs all in
-    All-cons (λ r. low ≤ r.sent.tid) (file_report ino x) (map (file_report ino) xs) (omega arith) (files_from ino low xs (All-tail (λ y. low < y.tid) x xs all))
+upward_merge : (xs ys : List FlushReport) → IsUpward xs → IsUpward ys → AllOther xs ys → IsUpward (merge xs ys)
+upward_merge [] ys a b o = b
+upward_merge (x ∷ xs) ys a b o = upward_at x xs (upward_head x xs a) (λ zs c p. upward_merge xs zs (upward_tail x xs a) c p) ys b o
 
 files_upward : (ino : ℕ) (xs : List Sent) → IsRising xs → IsUpward (map (file_report ino) xs)
 files_upward ino [] r = λ i j d l m. absurd (omega arith)
 files_upward ino (x ∷ xs) r =
-    AllPairs-cons (λ a b. a.sent.tid ≤ b.sent.tid) (file_report ino x) (map (file_report ino) xs)
-    (files_from ino x.tid xs (rising_head x xs r)) (files_upward ino xs (rising_tail x xs r))
+    AllPairs-cons (λ a b. a.sent.tid < b.sent.tid) (file_report ino x) (map (file_report ino) xs)
+    (All-map (λ y. x.tid < y.sent.tid) (file_report ino) xs (rising_head x xs r)) (files_upward ino xs (rising_tail x xs r))
 
-snaps_from : (ino low : ℕ) (us : List Told) → All (λ t. low < t) (map (λ u. u.0) us) → AllFrom low (map (snap_report ino) us)
-snaps_from ino low [] all = All-nil (λ r. low ≤ r.sent.tid)
-snaps_from ino low (u ∷ us) all =
-    let first : low < u.0 = All-head (λ t. low < t) u.0 (map (λ v. v.0) us) all in
-    All-cons (λ r. low ≤ r.sent.tid) (snap_report ino u) (map (snap_report ino) us) (omega arith)
-    (snaps_from ino low us (All-tail (λ t. low < t) u.0 (map (λ v. v.0) us) all))
+snaps_above : (ino low : ℕ) (us : List Told) → All (λ t. low < t) (map (λ u. u.0) us) → AllAbove low (map (snap_report ino) us)
+snaps_above ino low [] all = All-nil (λ r. low < r.sent.tid)
+snaps_above ino low (u ∷ us) all =
+    All-cons (λ r. low < r.sent.tid) (snap_report ino u) (map (snap_report ino) us) (All-head (λ t. low < t) u.0 (map (λ v. v.0) us) all)
+    (snaps_above ino low us (All-tail (λ t. low < t) u.0 (map (λ v. v.0) us) all))
 
 snaps_upward : (ino : ℕ) (us : List Told) → IsAscending (map (λ u. u.0) us) → IsUpward (map (snap_report ino) us)
 snaps_upward ino [] a = λ i j d l m. absurd (omega arith)
 snaps_upward ino (u ∷ us) a =
-    AllPairs-cons (λ a b. a.sent.tid ≤ b.sent.tid) (snap_report ino u) (map (snap_report ino) us)
-    (snaps_from ino u.0 us (λ k d l. a 0 (suc k) d (omega arith) (omega arith)))
+    AllPairs-cons (λ a b. a.sent.tid < b.sent.tid) (snap_report ino u) (map (snap_report ino) us)
+    (snaps_above ino u.0 us (λ k d l. a 0 (suc k) d (omega arith) (omega arith)))
     (snaps_upward ino us (λ i j d l m. a (suc i) (suc j) d (omega arith) (omega arith)))
 
-are_reports : (ino : ℕ) (xs : List Sent) (us : List Told) (rs : List FlushReport) → IsRising xs → IsAscending (map (λ u. u.0) us) → rs ≡ reports_of ino xs us
-    → AreReports ino xs us rs
-are_reports ino xs us rs rising ascending is = rw is (record {
+reports_other : (ino : ℕ) (xs : List Sent) (us : List Told) → AllUntold xs us → AllOther (map (file_report ino) xs) (map (snap_report ino) us)
+reports_other ino xs us o =
+    All-map (λ r. IsOther r.sent.tid (map (snap_report ino) us)) (file_report ino) xs
+    (All-weaker (λ x. IsUntold x.tid us) (λ x. IsOther x.tid (map (snap_report ino) us))
+    (λ x p. All-map (λ r. (r.sent.tid == x.tid) ≡ false) (snap_report ino) us p) xs o)
+
+are_reports : (ino : ℕ) (xs : List Sent) (us : List Told) (rs : List FlushReport) → IsRising xs → IsAscending (map (λ u. u.0) us) → AllUntold xs us
+    → rs ≡ reports_of ino xs us → AreReports ino xs us rs
+are_reports ino xs us rs rising ascending apart is = rw is (record {
   of_files = files_of ino xs us;
   of_snaps = snaps_of ino xs us;
-  order = upward_merge (map (file_report ino) xs) (map (snap_report ino) us) (files_upward ino xs rising) (snaps_upward ino us ascending);
+  order =
+      upward_merge (map (file_report ino) xs) (map (snap_report ino) us) (files_upward ino xs rising) (snaps_upward ino us ascending)
+      (reports_other ino xs us apart);
 })
 
 -- One by one
@@ -283,12 +312,14 @@ one_more_snap ino xs us rs more r n i e s grown =
       left =
           rw next
           (i.left ∙ (ap (λ q. rs ++ q) took.0 ∙ (sym (append_assoc rs (r ∷ []) (reports_of ino (drop n xs) (drop 1 (drop k us))))
-          ∙ (ap (λ q. q ++ reports_of ino (drop n xs) (drop 1 (drop k us))) (sym grown) ∙ ap (λ q. more ++ reports_of ino (drop n xs) q) (behind_place us k)))));
+          ∙ (ap (λ q. q ++ reports_of ino (drop n xs) (drop 1 (drop k us))) (sym grown)
+          ∙ ap (λ q. more ++ reports_of ino (drop n xs) q) (behind_place us k)))));
     }
 
 pub all_made : (ino : ℕ) (xs : List Sent) (us : List Told) (rs : List FlushReport) (n : ℕ) → IsUnderway ino xs us rs n
-    → first_report ino (slice_get xs n) (slice_get us (length rs - n)) ≡ None → IsRising xs → IsAscending (map (λ u. u.0) us) → AreReports ino xs us rs
-all_made ino xs us rs n i e rising ascending =
+    → first_report ino (slice_get xs n) (slice_get us (length rs - n)) ≡ None → IsRising xs → IsAscending (map (λ u. u.0) us) → AllUntold xs us
+    → AreReports ino xs us rs
+all_made ino xs us rs n i e rising ascending apart =
     let k : ℕ = length rs - n in
     let none = none_left ino (drop n xs) (drop k us) (one_first ino xs us n k None e) in
-    are_reports ino xs us rs rising ascending (sym (i.left ∙ (ap (λ q. rs ++ q) none ∙ append-nil rs)))
+    are_reports ino xs us rs rising ascending apart (sym (i.left ∙ (ap (λ q. rs ++ q) none ∙ append-nil rs)))

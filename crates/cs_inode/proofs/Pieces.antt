@@ -83,7 +83,8 @@ each_fits tid f off bytes ctx (p ∷ ps) is =
     (each_fits (tid + 1) f off bytes ctx ps (All-tail (IsPieceOf off (length bytes)) p ps is))
 
 -- the operations of a write fit into their objects
-pub operations_fit : (tid f off : ℕ) (bytes : List ℕ) (ctx : Context) → All (λ op. op.off + length op.bytes ≤ 65536) (operations tid f off bytes ctx (pieces_of OBJECT_SIZE off (length bytes)))
+pub operations_fit : (tid f off : ℕ) (bytes : List ℕ) (ctx : Context)
+    → All (λ op. op.off + length op.bytes ≤ 65536) (operations tid f off bytes ctx (pieces_of OBJECT_SIZE off (length bytes)))
 operations_fit tid f off bytes ctx =
     each_fits tid f off bytes ctx (pieces_of OBJECT_SIZE off (length bytes))
     (all_pieces off (length bytes) (pieces_of OBJECT_SIZE off (length bytes)) (pieces_of-cuts OBJECT_SIZE off (length bytes) (omega arith)))
@@ -103,8 +104,8 @@ few_operations tid f off bytes ctx fit =
     )
 
 -- with the numbers from the first on
-pub numbered : (tid f off : ℕ) (bytes : List ℕ) (ctx : Context) (ps : List Piece) (k : ℕ) (op : ObjOp) → slice_get (operations tid f off bytes ctx ps) k ≡ Some op
-    → op.tid ≡ tid + k
+pub numbered : (tid f off : ℕ) (bytes : List ℕ) (ctx : Context) (ps : List Piece) (k : ℕ) (op : ObjOp)
+    → slice_get (operations tid f off bytes ctx ps) k ≡ Some op → op.tid ≡ tid + k
 numbered tid f off bytes ctx [] k op e = absurd cc
 numbered tid f off bytes ctx (p ∷ ps) zero op e =
     let is : operation tid f off bytes ctx p ≡ op = cc in

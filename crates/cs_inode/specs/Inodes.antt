@@ -1,5 +1,5 @@
 -- What the client keeps of one file, and what each call makes of it.
-use Rattle.std.specs.Prelude.{ℕ, ◌+◌, ◌-◌, ◌==◌, ◌&&◌, ◌||◌, not, Bool, true, false, List, [], ◌∷◌, ◌++◌, Option, Some, None, length, max, nat_lt, unwrap_or, if◌then◌else◌}
+use Rattle.std.specs.Prelude.{◌≡◌, ℕ, ◌+◌, ◌-◌, ◌==◌, ◌&&◌, ◌||◌, not, Bool, true, false, List, [], ◌∷◌, ◌++◌, Option, Some, None, length, max, nat_lt, unwrap_or, All, if◌then◌else◌}
 use Rattle.std.specs.List.{list_any}
 use Rattle.cs_bits.specs.declared.Caps.{Caps}
 use Rattle.cs_bits.specs.Bits.{auth_excl, file_write, is_empty, no_caps, union}
@@ -11,6 +11,7 @@ use Rattle.cs_geom.specs.declared.places.TheConstants.{OBJECT_SIZE}
 use Rattle.cs_geom.specs.Cuts.{pieces_of}
 use Rattle.cs_capsnap.specs.declared.snap.CapSnap.{CapSnap}
 use Rattle.cs_capsnap.specs.CapSnaps as snaps
+use Rattle.cs_flush.specs.declared.sent.Sent.{Sent}
 use Rattle.cs_flush.specs.Flushes as flushes
 use Rattle.cs_flush.specs.Flushes.{FileFlushes}
 use Rattle.cs_laws.specs.declared.objects.ObjOp.{ObjOp}
@@ -57,6 +58,10 @@ used refs i = union refs i.flushes.dirty
 -- the greatest number of a flush that isn't acknowledged, or 0 where there is none
 abbrev pub greatest_tid : FileInode → ℕ
 greatest_tid i = max (flushes.greatest_tid i.flushes.unacked) (snaps.greatest_tid i.snaps)
+
+-- no unacknowledged flush of the file has the number of one of a cap snap
+abbrev pub AreApart : List Sent → List CapSnap → Type 0
+AreApart unacked xs = All (λ x. snaps.has_tid x.tid xs ≡ false) unacked
 
 -- Writers
 

@@ -1,5 +1,5 @@
 -- The flushes of a file that are sent again after a reconnect.
-use Rattle.std.specs.Prelude.{◌≡◌, ℕ, ◌≤◌, true, false, not, Option, Some, None, List, filter, map, nat_lt, AllPairs, if◌then◌else◌}
+use Rattle.std.specs.Prelude.{◌≡◌, ℕ, ◌<◌, true, false, not, Option, Some, None, List, filter, map, nat_lt, AllPairs, if◌then◌else◌}
 use Rattle.cs_ids.specs.declared.objects.FileMeta.{FileMeta}
 use Rattle.cs_capsnap.specs.CapSnaps.{unacked}
 use Rattle.cs_flush.specs.declared.report.FlushReport.{FlushReport}
@@ -13,11 +13,11 @@ file_report ino x = record { ino = ino; sent = x; snap = false }
 abbrev pub snap_report : ℕ → (ℕ × ℕ × FileMeta) → FlushReport
 snap_report ino u = record { ino = ino; sent = record { tid = u.0; follows = u.1; meta = u.2 }; snap = true }
 
--- the reports are those of these flushes of a file and of its cap snaps, together in the order of their numbers
+-- the reports are those of these flushes of a file and of its cap snaps, together, and their numbers rise
 pub record AreReports (ino : ℕ) (files : List Sent) (snaps : List (ℕ × ℕ × FileMeta)) (rs : List FlushReport) : Type 0 where
   pub of_files : filter (λ r. not r.snap) rs ≡ map (file_report ino) files
   pub of_snaps : filter (λ r. r.snap) rs ≡ map (snap_report ino) snaps
-  pub order : AllPairs (λ a b. a.sent.tid ≤ b.sent.tid) rs
+  pub order : AllPairs (λ a b. a.sent.tid < b.sent.tid) rs
 
 -- all of a file's
 abbrev pub ReportsUnacked : FileInode → List FlushReport → Type 0

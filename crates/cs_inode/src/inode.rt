@@ -26,7 +26,8 @@ use std::mem;
 /// The mode of a file that was made and not changed since: 0644.
 pub const FIRST_MODE: u16 = 0o644;
 
-/// What the client keeps of one file.
+/// What the client keeps of one file. No unacknowledged flush of the file has the number of one of a
+/// cap snap.
 #[derive(Drop)]
 pub struct Inode {
     alloc: Global,
@@ -40,11 +41,13 @@ pub struct Inode {
 }
 
 impl Model for Inode {
-    ghost use Rattle.cs_inode.specs.Inodes.{FileInode};
+    ghost use Rattle.cs_inode.specs.Inodes.{AreApart, FileInode};
 
     ghost Value = { FileInode };
 
     ghost view = { λ i. record { ino = i.ino; context = i.context; caps = i.caps; snaps = i.snaps; flushes = i.flushes; meta = i.meta; writers = i.writers } };
+
+    ghost invariant = { λ i. AreApart i.flushes.unacked i.snaps };
 }
 
 impl Inode {
@@ -101,6 +104,7 @@ impl Inode {
 
     /// A reference that may write has ended. Where it was the last, a cap snap that is writing gets the
     /// file's size and mtime.
+    #[tactic(auto, using(crate::proofs::Apart::apart_finished))]
     pub fn stop_writer(&mut self)
         requires { 1 ≤ self.old.writers }
         ensures { self.new ≡ without_writer self.old }
@@ -150,12 +154,11 @@ impl Inode {
         self.meta.size
     }
 
-    /// Adds the bytes from the offset `off` on, below 1,048,576, to `out`: at most `len`, which is 1 to
+    /// Adds the bytes from the offset `off` on, below 1,048,576, to `out`: at most `len`, which is at most
     /// 4,096, and none past the file's size. `base` is what the store has there, in as many bytes as `len`
     /// and the greatest size of a file, 1,048,576, allow. After `Memory` `out` is as before.
     pub fn read(&self, off: u32, len: u32, base: &[u8], out: &mut Bytes) -> Result<(), Memory>
         requires within { off < greatest_end }
-        requires some { 1 ≤ len }
         requires few { len ≤ most_shown }
         requires base { length base.now ≡ min len (greatest_end - off) }
         ensures ok { OnOk result (out.new ≡ out.old ++ take (min len (self.now.meta.size - off)) base.now) }
@@ -211,6 +214,7 @@ impl Inode {
     /// Sends size, mtime and mode in a flush of this number, greater than that of each flush that isn't
     /// acknowledged; nothing is dirty then. `Snap` while a cap snap is writing, `Clean` where nothing is
     /// dirty. After `Memory` the file is as before.
+    #[tactic(auto, using(crate::proofs::Apart::apart_flushed))]
     pub fn flush(&mut self, tid: Tid) -> Result<FlushStep, Memory>
         requires { greatest_tid self.old < tid }
         ensures answer { IfOk result (λ s. s ≡ flush_answer tid self.old) }
@@ -231,6 +235,7 @@ impl Inode {
 
     /// Sends the first cap snap that wasn't sent, in a flush of this number, greater than that of each
     /// flush that isn't acknowledged. `None` where each was sent, `Writing` while this one is writing.
+    #[tactic(auto, using(crate::proofs::Apart::apart_sent))]
     pub fn flush_snaps(&mut self, tid: Tid) -> SnapStep
         requires { greatest_tid self.old < tid }
         ensures answer { result ≡ flush_snaps_answer tid self.old }
@@ -296,8 +301,8 @@ impl Inode {
         &self.context
     }
 
-    /// The unacknowledged flushes of the file and of its cap snaps, in the order of their numbers. No
-    /// error but `Memory`.
+    /// The unacknowledged flushes of the file and of its cap snaps, in the order of their numbers, no
+    /// two of which are equal. No error but `Memory`.
     pub fn unacked(&self, alloc: Global) -> Result<FlushReportList, Memory>
         ensures { IfOk result (ReportsUnacked self.now) }
     {

@@ -3,6 +3,7 @@ ghost use Rattle.std.specs.Prelude.{◌≡◌, IfOk};
 ghost use Rattle.std.specs.Option.{option_copied};
 ghost use Rattle.cs_capsnap.specs.CapSnaps.{unacked};
 ghost use Rattle.cs_flush.specs.Flushes.{IsRising};
+ghost use Rattle.cs_inode.specs.Inodes.{AreApart};
 ghost use Rattle.cs_inode.specs.Reports.{AreReports, file_report, first_report, snap_report};
 
 use cs_capsnap::CapSnaps;
@@ -11,14 +12,15 @@ use cs_ids::{FileMeta, Ino, Memory, Seq, Tid};
 use std::alloc::Global;
 
 // The unacknowledged flushes of a file and those of its cap snaps, together in the order of their
-// numbers.
+// numbers, no two of which are equal.
 pub(crate) fn merged(
     alloc: Global,
     ino: Ino,
     files: &[Sent],
     snaps: &CapSnaps,
 ) -> Result<FlushReportList, Memory>
-    requires { IsRising files.now }
+    requires rising { IsRising files.now }
+    requires apart { AreApart files.now snaps.now }
     ensures { IfOk result (AreReports ino files.now (unacked snaps.now)) }
 {
     let mut reports = FlushReportList::new(alloc);

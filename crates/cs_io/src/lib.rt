@@ -5,8 +5,6 @@
 mod faulty;
 mod memory;
 mod standard;
-#[cfg(test)]
-mod tests;
 mod traits;
 mod whole;
 

@@ -43,7 +43,8 @@ laid start off place skipped count out bytes a b c k h =
         | inl to ↦
             let e : skipped + (k - place) ≡ off + k - start = omega arith in
             in_middle place skipped count out bytes (drop count (drop place out)) k room fits from to
-            ∙ over_there start (off + k) (get_or out k 0) (get_or bytes (skipped + (k - place)) 0) bytes (omega arith) (omega arith) (ap (λ i. get_or bytes i 0) (sym e))
+            ∙ over_there start (off + k) (get_or out k 0) (get_or bytes (skipped + (k - place)) 0) bytes (omega arith) (omega arith)
+            (ap (λ i. get_or bytes i 0) (sym e))
         | inr behind ↦
             at_end place skipped count out bytes k within fits behind
             ∙ over_behind start (off + k) (get_or out k 0) bytes (omega arith)

@@ -10,12 +10,13 @@ use Rattle.cs_laws.specs.declared.objects.ObjOp.{ObjOp}
 use Rattle.cs_laws.specs.Objects.{byte_of, object, operations_at, same_object}
 use Rattle.cs_objstore.specs.Blocks.{byte_in}
 use Rattle.cs_objstore.specs.Found.{Stands, versions_of}
-use Rattle.cs_objstore.specs.Kept.{Keeps, spans}
+use Rattle.cs_objstore.specs.Kept.{Keeps, Span, spans}
 use Rattle.cs_objstore.specs.Stores.{ReadsObject}
-use Rattle.cs_objstore.specs.Versions.{image_at}
+use Rattle.cs_objstore.specs.Versions.{image_at, AreSame}
 use Rattle.cs_objstore.specs.declared.memory.Key.{Key}
 use Rattle.cs_objstore.specs.declared.object.Version.{Version}
 use Rattle.cs_objstore.proofs.Kept.{reads_state, state}
+use Rattle.cs_objstore.proofs.Same.{keeps_same}
 use Rattle.cs_objstore.proofs.Tids.{has_tid_pushed, reverse_pushed}
 
 -- what is found under a key
@@ -70,24 +71,25 @@ put_found key at obj m n w ino index is =
     ∙ (ap (λ i. cond ((i == obj.ino) && (key.index == obj.index)) w (versions_of obj m)) ino
     ∙ ap (λ i. cond ((at.ino == obj.ino) && (i == obj.index)) w (versions_of obj m)) index))
 
--- an entry that is as it was
-put_same : {S : Type 0} (at obj : Obj) (m : HashMap Key (List Version) S) (w : List Version) (b : Bool) → same_object at obj ≡ b → w ≡ versions_of at m
-    → cond b w (versions_of obj m) ≡ versions_of obj m
-put_same at obj m w true same is = is ∙ same_found at obj m same
-put_same at obj m w false same is = refl
+-- an entry that has the bytes that it had
+put_same : {S : Type 0} (at obj : Obj) (m : HashMap Key (List Version) S) (w : List Version) (ss : List Span) (b : Bool) → same_object at obj ≡ b
+    → AreSame (versions_of at m) w → Keeps (versions_of obj m) ss → Keeps (cond b w (versions_of obj m)) ss
+put_same at obj m w ss true same is k = keeps_same (versions_of at m) w ss is (rw (same_found at obj m same) k)
+put_same at obj m w ss false same is k = k
 
 -- what a table has under each key, where one key was given an object
 abbrev pub Puts : {S : Type 0} → Key → List Version → HashMap Key (List Version) S → HashMap Key (List Version) S → Type 0
 Puts key w m n = (obj : Obj) → get_by (λ (k : Key). (obj.ino == k.ino) && (obj.index == k.index)) n
     ≡ cond ((key.ino == obj.ino) && (key.index == obj.index)) (Some w) (get_by (λ (k : Key). (obj.ino == k.ino) && (obj.index == k.index)) m)
 
--- an object that was found is put back as it was
+-- an object that was found is put back with the bytes that it had
 pub stands_same : {S T : Type 0} (ops new : List ObjOp) (key : Key) (at : Obj) (w : List Version) (m n : HashMap Key (List Version) S) (t u : HashSet ℕ T)
-    → Stands ops m t → new ≡ ops → key.ino ≡ at.ino → key.index ≡ at.index → w ≡ versions_of at m → Puts key w m n
+    → Stands ops m t → new ≡ ops → key.ino ≡ at.ino → key.index ≡ at.index → AreSame (versions_of at m) w → Puts key w m n
     → ((tid : ℕ) → contains nat_eq u tid ≡ contains nat_eq t tid) → Stands new n u
 stands_same ops new key at w m n t u stands is ino index same puts numbers =
     rw is record {
-      kept = λ obj. rw (put_found key at obj m n w ino index (puts obj) ∙ put_same at obj m w (same_object at obj) refl same) (stands.kept obj);
+      kept = λ obj. rw (put_found key at obj m n w ino index (puts obj))
+          (put_same at obj m w (spans (object obj (reverse ops))) (same_object at obj) refl same (stands.kept obj));
       numbers = λ tid. numbers tid ∙ stands.numbers tid;
     }
 
@@ -98,11 +100,13 @@ kept_by obj op ops false w vs is keeps written = rw is keeps
 
 -- one object is written
 pub stands_written : {S T : Type 0} (ops new : List ObjOp) (key : Key) (op : ObjOp) (w : List Version) (m n : HashMap Key (List Version) S) (t u : HashSet ℕ T)
-    → Stands ops m t → new ≡ ops ++ op ∷ [] → ((tid : ℕ) → contains nat_eq u tid ≡ cond (op.tid == tid) true (contains nat_eq t tid)) → key.ino ≡ op.obj.ino → key.index ≡ op.obj.index
+    → Stands ops m t → new ≡ ops ++ op ∷ [] → ((tid : ℕ) → contains nat_eq u tid ≡ cond (op.tid == tid) true (contains nat_eq t tid))
+    → key.ino ≡ op.obj.ino → key.index ≡ op.obj.index
     → ((os : List ObjOp) → Keeps (versions_of op.obj m) (spans os) → Keeps w (spans (op ∷ os))) → Puts key w m n → Stands new n u
 stands_written ops new key op w m n t u stands is numbers ino index written puts =
     rw is record {
-      kept = λ obj. rw (reverse_pushed, put_found key op.obj obj m n w ino index (puts obj)) (kept_by obj op (reverse ops) (same_object op.obj obj) w (versions_of obj m) refl (stands.kept obj)
+      kept = λ obj. rw (reverse_pushed, put_found key op.obj obj m n w ino index (puts obj))
+          (kept_by obj op (reverse ops) (same_object op.obj obj) w (versions_of obj m) refl (stands.kept obj)
           (λ same. written (object obj (reverse ops)) (rw (same_found op.obj obj m same) (stands.kept obj))));
       numbers = λ tid. numbers tid ∙ (ap (λ b. cond (op.tid == tid) true b) (stands.numbers tid) ∙ sym (has_tid_pushed ops op tid));
     }

@@ -9,8 +9,9 @@ use Rattle.cs_laws.specs.Objects.{all_below, before, byte_of}
 use Rattle.cs_objstore.specs.Blocks.{byte_in}
 use Rattle.cs_objstore.specs.Clones.{exists, times_cloned}
 use Rattle.cs_objstore.specs.Kept.{Keeps, Span, grown, spans}
-use Rattle.cs_objstore.specs.Versions.{image_at, image_of, is_newer, newer, since_of}
+use Rattle.cs_objstore.specs.Versions.{image_at, image_of, is_newer, newer, since_of, AreSame}
 use Rattle.cs_objstore.specs.declared.object.Version.{Version}
+use Rattle.cs_objstore.proofs.Same.{keeps_same}
 use Rattle.cs_objstore.proofs.Spans.{above_top, any_span, any_spans, newest, newest_spans, ops_below, spans_count, state_of_span, top}
 
 -- the operations of a state, by those of the object
@@ -30,7 +31,8 @@ keeps_below : (n : ℕ) (vs : List Version) (ss : List Span) (i : ℕ) → Keeps
 keeps_below n [] [] i k = refl
 keeps_below n [] (s ∷ ss) i k = absurd k
 keeps_below n (v ∷ vs) [] i k = absurd k
-keeps_below n (v ∷ vs) (s ∷ ss) i k = below_step (nat_lt v.since n) (nat_lt s.since n) v vs s ss n i (ap (λ x. nat_lt x n) k.0) (k.1 i) (keeps_below n vs ss i k.2)
+keeps_below n (v ∷ vs) (s ∷ ss) i k =
+    below_step (nat_lt v.since n) (nat_lt s.since n) v vs s ss n i (ap (λ x. nat_lt x n) k.0) (k.1 i) (keeps_below n vs ss i k.2)
 
 keeps_newest : (vs : List Version) (ss : List Span) (i : ℕ) → Keeps vs ss → byte_in (image_of vs) i ≡ byte_of (newest ss) i
 keeps_newest [] [] i k = refl
@@ -64,12 +66,6 @@ none_cloned (o ∷ os) not = absurd (cc)
 pub clones_counted : (vs : List Version) (os : List ObjOp) → Keeps vs (spans os) → length vs - 1 ≡ times_cloned os
 clones_counted vs os k = ap (λ n. n - 1) (keeps_length vs (spans os) k ∙ spans_count os) ∙ count_less (exists os) (times_cloned os) (none_cloned os)
 
-keeps_top : (vs : List Version) (ss : List Span) → Keeps vs ss → since_of vs ≡ top ss
-keeps_top [] [] k = refl
-keeps_top [] (s ∷ ss) k = absurd k
-keeps_top (v ∷ vs) [] k = absurd k
-keeps_top (v ∷ vs) (s ∷ ss) k = k.0
-
 -- ---- a write
 
 newer_none : (q : ℕ) (vs : List Version) → Keeps vs [] → is_newer q vs ≡ true
@@ -86,13 +82,14 @@ newer_by q vs [] k = newer_none q vs k
 newer_by q vs (o ∷ os) k = newer_some q vs (spans (o ∷ os)) k (any_spans (o ∷ os)) ∙ sym (above_top (o ∷ os) q refl)
 
 -- a version more, or a head that goes on
-keeps_by : (op : ObjOp) (os : List ObjOp) (b : Bool) (old : List Version) (ss : List Span) (n : Version) (ns : List Version) → Keeps old ss → (b ≡ false → any_span ss ≡ true)
-    → n.since ≡ cond b op.ctx.seq (since_of old) → ns ≡ cond b old (drop 1 old) → ((i : ℕ) → byte_in n.image i ≡ byte_of (op ∷ os) i)
+keeps_by : (op : ObjOp) (os : List ObjOp) (b : Bool) (old : List Version) (ss : List Span) (n : Version) (ns : List Version) → Keeps old ss
+    → (b ≡ false → any_span ss ≡ true)
+    → n.since ≡ cond b op.ctx.seq (since_of old) → AreSame (cond b old (drop 1 old)) ns → ((i : ℕ) → byte_in n.image i ≡ byte_of (op ∷ os) i)
     → Keeps (n ∷ ns) (cond b (record { since = op.ctx.seq; ops = op ∷ os } ∷ ss) (grown (op ∷ os) ss))
-keeps_by op os true old ss n ns k some since rest bytes = (since, bytes, rw rest k)
+keeps_by op os true old ss n ns k some since rest bytes = (since, bytes, keeps_same old ns ss rest k)
 keeps_by op os false old [] n ns k some since rest bytes = let none = some refl in absurd (cc)
 keeps_by op os false [] (s ∷ ss) n ns k some since rest bytes = absurd k
-keeps_by op os false (v ∷ vs) (s ∷ ss) n ns k some since rest bytes = (since ∙ k.0, bytes, rw rest k.2)
+keeps_by op os false (v ∷ vs) (s ∷ ss) n ns k some since rest bytes = (since ∙ k.0, bytes, keeps_same vs ns ss rest k.2)
 
 exists_spans : (q : ℕ) (os : List ObjOp) → all_below q os ≡ false → any_span (spans os) ≡ true
 exists_spans q [] not = absurd (cc)
@@ -100,7 +97,7 @@ exists_spans q (o ∷ os) not = any_spans (o ∷ os)
 
 pub keeps_written : (op : ObjOp) (os : List ObjOp) (old new : List Version) → Keeps old (spans os) → 0 < length new
     → since_of new ≡ cond (is_newer op.ctx.seq old) op.ctx.seq (since_of old)
-    → drop 1 new ≡ cond (is_newer op.ctx.seq old) old (drop 1 old)
+    → AreSame (cond (is_newer op.ctx.seq old) old (drop 1 old)) (drop 1 new)
     → ((i : ℕ) → byte_in (image_of new) i ≡ byte_over op.off op.bytes i (byte_in (image_of old) i))
     → Keeps new (spans (op ∷ os))
 keeps_written op os old [] k some since rest bytes = absurd (omega arith)

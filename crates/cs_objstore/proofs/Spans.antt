@@ -131,7 +131,8 @@ state_of_span n (o ∷ os) = below_by n o os (all_below o.ctx.seq os) refl (stat
 -- ---- clones
 
 count_by : (o : ObjOp) (os : List ObjOp) (b : Bool) → all_below o.ctx.seq os ≡ b → length (spans os) ≡ cond (exists os) (times_cloned os + 1) 0
-    → length (cond b (record { since = o.ctx.seq; ops = o ∷ os } ∷ spans os) (grown (o ∷ os) (spans os))) ≡ cond (exists os && b) (times_cloned os + 1) (times_cloned os) + 1
+    → length (cond b (record { since = o.ctx.seq; ops = o ∷ os } ∷ spans os) (grown (o ∷ os) (spans os)))
+    ≡ cond (exists os && b) (times_cloned os + 1) (times_cloned os) + 1
 count_by o [] true is so = refl
 count_by o (p ∷ ps) true is so = grind (arith, common_steps, so)
 count_by o [] false is so = absurd (cc)

@@ -1,7 +1,8 @@
 -- The versions of an object that a store keeps, the newest first.
-use Rattle.std.specs.Prelude.{ℕ, suc, ◌<◌, Bool, true, List, [], ◌∷◌, drop, nat_lt, if◌then◌else◌}
+use Rattle.std.specs.Prelude.{◌≡◌, ℕ, suc, ◌<◌, Bool, true, List, [], ◌∷◌, drop, nat_lt, if◌then◌else◌}
 use Rattle.cs_laws.specs.declared.objects.At.{At}
 use Rattle.cs_laws.specs.declared.objects.At.TheVariants as at
+use Rattle.cs_objstore.specs.Blocks.{BlockState, HasAllBytesOf}
 use Rattle.cs_objstore.specs.declared.object.Version.{Version}
 
 -- each began with a greater number than the one before it
@@ -10,13 +11,20 @@ Falls [] = Unit {0}
 Falls (v ∷ []) = Unit {0}
 Falls (v ∷ w ∷ vs) = (w.since < v.since) × Falls (w ∷ vs)
 
+-- the versions of two lists have the same numbers and bytes, however they share them
+abbrev pub AreSame : List Version → List Version → Type 0
+AreSame [] [] = Unit {0}
+AreSame [] (w ∷ ws) = ⊥
+AreSame (v ∷ vs) [] = ⊥
+AreSame (v ∷ vs) (w ∷ ws) = (w.since ≡ v.since) × HasAllBytesOf v.image w.image × AreSame vs ws
+
 -- the number is above those of all versions
 abbrev pub is_newer : ℕ → List Version → Bool
 is_newer seq [] = true
 is_newer seq (v ∷ vs) = nat_lt v.since seq
 
 -- the head's blocks, and the number that it began with
-abbrev pub image_of : List Version → List (List ℕ)
+abbrev pub image_of : List Version → List BlockState
 image_of [] = []
 image_of (v ∷ vs) = v.image
 
@@ -42,5 +50,5 @@ place at.Head vs = 0
 place (at.Snap s) vs = newer s vs
 
 -- its blocks: none where the object wasn't written by then
-abbrev pub image_at : At → List Version → List (List ℕ)
+abbrev pub image_at : At → List Version → List BlockState
 image_at a vs = image_of (drop (place a vs) vs)

@@ -2,6 +2,7 @@
 ghost use Rattle.std.specs.Prelude.{◌≡◌, ◌+◌, ◌≤◌, ◌↔◌, [], length, reverse, true, IfOk, IsErrOf, is_err};
 ghost use Rattle.cs_ids.specs.Devices.{HasCause, Rose};
 ghost use Rattle.cs_faults.specs.Plans.{first_call, after_call, is_listed};
+ghost use Rattle.cs_geom.specs.declared.places.TheConstants.{OBJECT_SIZE};
 ghost use Rattle.cs_objstore.specs.Stores.{Applies, ReadsObject};
 
 use crate::{Applied, MemStore, ObjStore, StoreFault};
@@ -54,7 +55,7 @@ impl ObjStore for FaultyStore {
 
     /// Fails where the call is listed, and else applies as a store in memory does.
     fn apply(&mut self, op: &ObjOp) -> Result<Applied, StoreFault>
-        requires { op.now.off + length op.now.bytes ≤ 65536 }
+        requires { op.now.off + length op.now.bytes ≤ OBJECT_SIZE }
         ensures list { Applies (reverse self.old.ops) (reverse self.new.ops) op.now result }
         ensures later { self.old.plan.faults ≤ self.new.plan.faults }
         ensures failed { IsErrOf result StoreFault.Failed → Rose self.old.plan.faults self.new.plan.faults }
@@ -67,7 +68,7 @@ impl ObjStore for FaultyStore {
 
     /// Fails where the call is listed, and else reads as a store in memory does.
     fn read(&mut self, obj: Obj, at: At, off: u32, out: &mut [u8]) -> Result<(), Failed>
-        requires { off + length out.old ≤ 65536 }
+        requires { off + length out.old ≤ OBJECT_SIZE }
         ensures kept { self.new.ops ≡ self.old.ops }
         ensures bytes { IfOk result (λ _. ReadsObject (reverse self.old.ops) obj at off out.new) }
         ensures cause { HasCause self.old.plan.faults self.new.plan.faults result }

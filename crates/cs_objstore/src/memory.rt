@@ -1,5 +1,6 @@
 // A store in memory.
 ghost use Rattle.std.specs.Prelude.{◌≡◌, ◌+◌, ◌≤◌, ◌++◌, [], ◌∷◌, length, reverse, IsOk, IfOk, OnOk, OnErr, IsErrOf};
+ghost use Rattle.cs_geom.specs.declared.places.TheConstants.{OBJECT_SIZE};
 ghost use Rattle.cs_objstore.specs.Clones.{clones_of};
 ghost use Rattle.cs_objstore.specs.Stores.{has_tid, Applies, ReadsObject};
 
@@ -93,9 +94,9 @@ impl MemStore {
         self.tids.contains(tid)
     }
 
-    // Applies an operation whose number is new. After `Memory` all is as before.
+    // Applies an operation whose number is new. After `Memory` the list is as before.
     fn write(&mut self, op: &ObjOp) -> Result<(), Memory>
-        requires { op.now.off + length op.now.bytes ≤ 65536 }
+        requires { op.now.off + length op.now.bytes ≤ OBJECT_SIZE }
         ensures ok { OnOk result (self.new ≡ self.old ++ op.now ∷ []) }
         ensures err { OnErr result (self.new ≡ self.old) }
     {
@@ -116,7 +117,7 @@ impl ObjStore for MemStore {
     /// Applies the operation where none of its number was applied before, or finds no memory for it.
     #[tactic(auto, using(crate::proofs::Tids::has_tid_reverse, crate::proofs::Tids::reverse_pushed))]
     fn apply(&mut self, op: &ObjOp) -> Result<Applied, StoreFault>
-        requires { op.now.off + length op.now.bytes ≤ 65536 }
+        requires { op.now.off + length op.now.bytes ≤ OBJECT_SIZE }
         ensures list { Applies (reverse self.old) (reverse self.new) op.now result }
         ensures unfailing { IsErrOf result StoreFault.Failed → ⊥ }
     {
@@ -129,7 +130,7 @@ impl ObjStore for MemStore {
 
     /// Reads the object, and never fails.
     fn read(&mut self, obj: Obj, at: At, off: u32, out: &mut [u8]) -> Result<(), Failed>
-        requires { off + length out.old ≤ 65536 }
+        requires { off + length out.old ≤ OBJECT_SIZE }
         ensures kept { self.new ≡ self.old }
         ensures bytes { IfOk result (λ _. ReadsObject (reverse self.old) obj at off out.new) }
         ensures unfailing { IsOk result }

@@ -1,7 +1,8 @@
 // An object: its head, and the clones that serve its snapshots.
-ghost use Rattle.std.specs.Prelude.{◌≡◌, ◌+◌, ◌-◌, ◌<◌, ◌≤◌, ◌++◌, [], ◌∷◌, length, drop, slice_index, EachIndex, IfOk, OnOk, OnErr};
-ghost use Rattle.cs_objstore.specs.Blocks.{byte_in, Writes};
-ghost use Rattle.cs_objstore.specs.Versions.{clones_after, image_at, image_of, is_newer, newer, place, since_after, since_of};
+ghost use Rattle.std.specs.Prelude.{◌≡◌, ◌+◌, ◌-◌, ◌<◌, ◌≤◌, ◌++◌, true, false, [], ◌∷◌, length, drop, slice_index, EachIndex, IfOk, OnOk, OnErr};
+ghost use Rattle.cs_geom.specs.declared.places.TheConstants.{OBJECT_SIZE};
+ghost use Rattle.cs_objstore.specs.Blocks.{byte_in, HasAllBytesOf, Writes};
+ghost use Rattle.cs_objstore.specs.Versions.{clones_after, image_at, image_of, is_newer, newer, place, since_after, since_of, AreSame};
 
 use crate::image::Image;
 use cs_ids::{Memory, Seq, Snap};
@@ -17,6 +18,25 @@ pub struct Version {
     // The number of the context of the operation that began it.
     since: Seq,
     image: Image,
+}
+
+impl Version {
+    // Writes an operation to the version, and adds it to the list. After `Memory` the list is as
+    // before, and the version has the bytes that it had.
+    fn write(&mut self, alloc: Global, op: &ObjOp, ops: &mut ObjOps) -> Result<(), Memory>
+        requires { op.now.off + length op.now.bytes ≤ OBJECT_SIZE }
+        ensures since { self.new.since ≡ self.old.since }
+        ensures listed { OnOk result (ops.new ≡ ops.old ++ op.now ∷ []) }
+        ensures written { OnOk result (Writes op.now.off op.now.bytes self.old.image self.new.image) }
+        ensures err { OnErr result ((ops.new ≡ ops.old) × HasAllBytesOf self.old.image self.new.image) }
+    {
+        let copy = op.copy(alloc)?;
+        let bytes = op.bytes.as_slice();
+        self.image.make_ready(alloc, op.off, bytes.len())?;
+        ops.push(copy)?;
+        self.image.write(op.off, bytes);
+        Ok(())
+    }
 }
 
 /// The versions of an object, the newest first: the head, and then its clones. No version is there
@@ -100,45 +120,77 @@ impl Object {
         }
     }
 
-    // What the head is after an operation.
-    fn next(&self, alloc: Global, op: &ObjOp) -> Result<Version, Memory>
-        requires { op.now.off + length op.now.bytes ≤ 65536 }
-        ensures since { IfOk result (λ v. v.since ≡ since_after op.now.ctx.seq self.now) }
-        ensures bytes { IfOk result (λ v. Writes op.now.off op.now.bytes (image_of self.now) v.image) }
+    // The version that an operation of a newer context begins: it has the bytes of the head, with
+    // which it shares all blocks. After `Memory` too the versions have the bytes that they had.
+    #[tactic(auto, using(crate::proofs::Same::same_head))]
+    fn begin(&mut self, alloc: Global, since: Seq) -> Result<Version, Memory>
+        ensures kept { AreSame self.old self.new }
+        ensures since { IfOk result (λ v. v.since ≡ since) }
+        ensures bytes { IfOk result (λ v. HasAllBytesOf (image_of self.old) v.image) }
     {
-        let bytes = op.bytes.as_slice();
-        match self.versions.front() {
-            Some(head) => Ok(Version {
-                since: head.since.max(op.ctx.seq()),
-                image: head.image.written(alloc, op.off, bytes)?,
-            }),
-            None => Ok(Version {
-                since: op.ctx.seq(),
-                image: Image::new(alloc).written(alloc, op.off, bytes)?,
-            }),
-        }
+        let Some(head) = self.versions.front_mut() else {
+            return Ok(Version {
+                since,
+                image: Image::new(alloc),
+            });
+        };
+        let image = head.image.share(alloc)?;
+        Ok(Version { since, image })
     }
 
     /// Writes an operation to the head, and adds it to the list. Before one whose context has a
-    /// number above all earlier ones the head becomes a clone. After `Memory` all is as before.
+    /// number above all earlier ones the head becomes a clone. After `Memory` the list is as before,
+    /// and the versions have the bytes that they had.
     pub fn write(&mut self, alloc: Global, op: &ObjOp, ops: &mut ObjOps) -> Result<(), Memory>
-        requires { op.now.off + length op.now.bytes ≤ 65536 }
+        requires { op.now.off + length op.now.bytes ≤ OBJECT_SIZE }
         ensures listed { OnOk result (ops.new ≡ ops.old ++ op.now ∷ []) }
         ensures written { OnOk result (Writes op.now.off op.now.bytes (image_of self.old) (image_of self.new)) }
         ensures since { OnOk result (since_of self.new ≡ since_after op.now.ctx.seq self.old) }
-        ensures clones { OnOk result (drop 1 self.new ≡ clones_after op.now.ctx.seq self.old) }
+        ensures clones { OnOk result (AreSame (clones_after op.now.ctx.seq self.old) (drop 1 self.new)) }
         ensures some { OnOk result (0 < length self.new) }
-        ensures err { OnErr result ((ops.new ≡ ops.old) × (self.new ≡ self.old)) }
+        ensures err { OnErr result ((ops.new ≡ ops.old) × AreSame self.old self.new) }
     {
-        let version = self.next(alloc, op)?;
-        let newer = self.is_newer(op.ctx.seq());
-        let copy = op.copy(alloc)?;
-        self.versions.reserve(1)?;
-        ops.push(copy)?;
-        if !newer {
-            self.versions.pop_front();
+        if self.is_newer(op.ctx.seq()) {
+            self.write_newer(alloc, op, ops)
+        } else {
+            self.write_head(alloc, op, ops)
         }
+    }
+
+    // The same for an operation whose context has a number above all earlier ones.
+    fn write_newer(&mut self, alloc: Global, op: &ObjOp, ops: &mut ObjOps) -> Result<(), Memory>
+        requires within { op.now.off + length op.now.bytes ≤ OBJECT_SIZE }
+        requires newer { is_newer op.now.ctx.seq self.old ≡ true }
+        ensures listed { OnOk result (ops.new ≡ ops.old ++ op.now ∷ []) }
+        ensures written { OnOk result (Writes op.now.off op.now.bytes (image_of self.old) (image_of self.new)) }
+        ensures since { OnOk result (since_of self.new ≡ op.now.ctx.seq) }
+        ensures clones { OnOk result (AreSame self.old (drop 1 self.new)) }
+        ensures some { OnOk result (0 < length self.new) }
+        ensures err { OnErr result ((ops.new ≡ ops.old) × AreSame self.old self.new) }
+    {
+        let mut version = self.begin(alloc, op.ctx.seq())?;
+        self.versions.reserve(1)?;
+        version.write(alloc, op, ops)?;
         self.versions.push_front(version)?;
+        Ok(())
+    }
+
+    // The same for one whose context's number isn't: the head goes on.
+    #[tactic(auto, using(crate::proofs::Same::same_head, crate::proofs::Same::same_behind))]
+    fn write_head(&mut self, alloc: Global, op: &ObjOp, ops: &mut ObjOps) -> Result<(), Memory>
+        requires within { op.now.off + length op.now.bytes ≤ OBJECT_SIZE }
+        requires not_newer { is_newer op.now.ctx.seq self.old ≡ false }
+        ensures listed { OnOk result (ops.new ≡ ops.old ++ op.now ∷ []) }
+        ensures written { OnOk result (Writes op.now.off op.now.bytes (image_of self.old) (image_of self.new)) }
+        ensures since { OnOk result (since_of self.new ≡ since_of self.old) }
+        ensures clones { OnOk result (AreSame (drop 1 self.old) (drop 1 self.new)) }
+        ensures some { OnOk result (0 < length self.new) }
+        ensures err { OnErr result ((ops.new ≡ ops.old) × AreSame self.old self.new) }
+    {
+        let Some(head) = self.versions.front_mut() else {
+            unreachable!();
+        };
+        head.write(alloc, op, ops)?;
         Ok(())
     }
 }

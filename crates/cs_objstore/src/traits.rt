@@ -1,5 +1,6 @@
 // What a client writes its objects to and reads them from.
 ghost use Rattle.std.specs.Prelude.{◌≡◌, ◌+◌, ◌≤◌, ℕ, List, length, IfOk, IsErrOf};
+ghost use Rattle.cs_geom.specs.declared.places.TheConstants.{OBJECT_SIZE};
 ghost use Rattle.cs_ids.specs.Devices.{HasCause, Rose};
 ghost use Rattle.cs_laws.specs.declared.objects.ObjOp.{ObjOp};
 ghost use Rattle.cs_objstore.specs.Stores.{Applies, ReadsObject};
@@ -21,7 +22,7 @@ pub trait ObjStore: Drop + Send {
     /// only where the count of faults rose in this call. After `Failed` and after `Memory` the list
     /// of operations is as before.
     fn apply(&mut self, op: &ObjOp) -> Result<Applied, StoreFault>
-        requires { op.now.off + length op.now.bytes ≤ 65536 }
+        requires { op.now.off + length op.now.bytes ≤ OBJECT_SIZE }
         ensures list { Applies (ops self.old) (ops self.new) op.now result }
         ensures later { faults self.old ≤ faults self.new }
         ensures failed { IsErrOf result StoreFault.Failed → Rose (faults self.old) (faults self.new) };
@@ -32,7 +33,7 @@ pub trait ObjStore: Drop + Send {
     /// clones an object before such an operation. `Failed` comes only where the count of faults rose
     /// in this call. The list of operations stays as it was.
     fn read(&mut self, obj: Obj, at: At, off: u32, out: &mut [u8]) -> Result<(), Failed>
-        requires { off + length out.old ≤ 65536 }
+        requires { off + length out.old ≤ OBJECT_SIZE }
         ensures kept { ops self.new ≡ ops self.old }
         ensures bytes { IfOk result (λ _. ReadsObject (ops self.old) obj at off out.new) }
         ensures cause { HasCause (faults self.old) (faults self.new) result };

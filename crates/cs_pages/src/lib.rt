@@ -7,8 +7,6 @@ mod block;
 mod laws;
 mod page;
 mod pages;
-#[cfg(test)]
-mod tests;
 
 pub use block::Block;
 pub use cs_states::{PageState, PageWrite, Pick};

@@ -213,6 +213,7 @@ impl Pages {
     pub fn owed_to(&self, follows: Seq) -> u32
         ensures { result ≡ owed_to follows (states self.now) }
     {
+        // No more are counted than are cached, so that the count has room.
         let most = self.cached();
         let mut count: u32 = 0;
         for (_, page) in self.pages.iter() {
@@ -241,6 +242,7 @@ impl Pages {
     fn owed_under(&self, seq: Seq) -> u32
         ensures { result ≡ owed_under seq (states self.now) }
     {
+        // No more are counted than are cached, so that the count has room.
         let most = self.cached();
         let mut count: u32 = 0;
         for (_, page) in self.pages.iter() {

@@ -100,7 +100,7 @@ equal_numbers (x ∷ xs) (y ∷ ys) e =
 abbrev context_from : ℕ → List ℕ → Context
 context_from q ss = record { seq = q; snaps = ss }
 
-equal_contexts : (b c : Context) → is_same (Some b) c ≡ true → b ≡ c
+pub equal_contexts : (b c : Context) → is_same (Some b) c ≡ true → b ≡ c
 equal_contexts b c e =
     let parts = and_parts (nat_eq b.seq c.seq) (pointwise nat_eq b.snaps c.snaps) e in
     same_parts b.seq c.seq b.snaps c.snaps (eqb-true b.seq c.seq parts.0) (equal_numbers b.snaps c.snaps parts.1)

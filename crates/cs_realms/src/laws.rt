@@ -9,7 +9,6 @@ ghost use Rattle.cs_snapctx.specs.Trees.{AreContexts, HasRoomFor, IsAcyclic};
 ghost use denote.Param.Send.{IsSend};
 ghost use Rattle.cs_realms.specs.contracts.realms.Realms as realms_row;
 ghost use Rattle.cs_realms.specs.contracts.changed.Change as change_row;
-ghost use Rattle.cs_realms.specs.contracts.changed.Changed as changed_row;
 ghost use Rattle.cs_realms.specs.contracts.fault.RealmFault as realm_fault_row;
 
 /// The last record of its realm counts, and those of the other realms stay.
@@ -50,6 +49,6 @@ pub fn contexts_by_example()
 /// Values of this crate's types may go to other threads.
 pub fn values_may_cross_threads()
     ensures tree { IsSend realms_row.the_row }
-    ensures changes { IsSend change_row.the_row × IsSend changed_row.the_row }
+    ensures changes { IsSend change_row.the_row }
     ensures faults { IsSend realm_fault_row.the_row }
 {}

@@ -106,7 +106,7 @@ impl Realms {
             &mut changes,
         );
         self.records[place] = last;
-        Ok(Changed::of(changes))
+        Ok(Changed::from_vec(changes))
     }
 
     // Takes the first record of a realm, which goes to the end. Room for it comes first, so that nothing
@@ -141,7 +141,7 @@ impl Realms {
             old: None,
             new: answered,
         });
-        Ok(Changed::of(changes))
+        Ok(Changed::from_vec(changes))
     }
 
     /// The context of a realm, or None exactly where it is unknown. It takes time in the number of realms.

@@ -13,11 +13,11 @@ use Rattle.cs_laws.specs.declared.records.RecordBody.{RecordBody}
 use Rattle.cs_laws.specs.declared.records.RecordBody.TheVariants as bodies
 use Rattle.cs_laws.specs.Realms as realms
 use Rattle.cs_laws.specs.Standing.{dir_in, dir_of, greatest_number, is_removed}
-use Rattle.cs_records.specs.Commits.{changed_records}
+use Rattle.cs_records.specs.CommitNews.{changed_records}
 use Rattle.cs_records.specs.Log.{IsLog, IsNextRemoval}
 use Rattle.cs_records.specs.Below.{removed_record, snapped_record}
 use Rattle.cs_laws.specs.Realms.{Own, is_realm, is_snap_of, own, own_then, realm_record}
-use Rattle.cs_records.specs.Realms.{had, is_at, is_realm_by, no_own, parent_by, record_below}
+use Rattle.cs_records.specs.OwnTable.{had, is_at, is_realm_by, no_own, parent_by, record_below}
 use Rattle.cs_records.proofs.Logs.{had_one_append, no_own_yet, or_false, own_append, seq_below}
 use Rattle.cs_records.proofs.Members.{own_has}
 

@@ -1,5 +1,5 @@
 pub mod Changed
-pub mod KeptNow
+pub mod IndexedNow
 pub mod Lists
 pub mod Logs
 pub mod Members

@@ -11,7 +11,7 @@ use Rattle.cs_laws.specs.Realms as realms
 use Rattle.cs_laws.specs.Standing.{dir_in, dir_of, greatest_number, has_snap, is_removal, is_removed, is_snap, number_of}
 use Rattle.cs_records.specs.Log.{IsLog, IsLogAfter, IsNext}
 use Rattle.cs_records.specs.Names.{last_named, named_after, named_then}
-use Rattle.cs_records.specs.Realms.{no_own}
+use Rattle.cs_records.specs.OwnTable.{no_own}
 
 pub or_false : (b : Bool) → (b || false) ≡ b
 or_false true = refl

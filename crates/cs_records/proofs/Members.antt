@@ -9,7 +9,7 @@ use Rattle.cs_laws.specs.Realms.{Own, own, own_then}
 use Rattle.cs_laws.specs.Realms as realms
 use Rattle.cs_laws.specs.Standing.{dir_in, dir_of, greatest_number, is_removal, is_removed}
 use Rattle.cs_records.specs.Log.{IsLog, IsNext}
-use Rattle.cs_records.specs.Realms.{is_at}
+use Rattle.cs_records.specs.OwnTable.{is_at}
 use Rattle.cs_records.proofs.Logs.{by_log, dir_append, either, either_none, greatest_append, or_false, own_append, removed_append, snap_below, snap_dir}
 
 -- a removed snapshot has a number that was drawn
@@ -31,10 +31,6 @@ removed_step rs r below next s removed = at r.body next refl
     at (bodies.Snap number d name) next is = known (ap (λ b. is_removal s b) is)
     at (bodies.Flush snap f tid follows meta) next is = known (ap (λ b. is_removal s b) is)
     at (bodies.Removal t number) next is = choice t number (t == s) refl next is
-
-pub removed_below : (rs : List Record) (s : ℕ) → IsLog rs → is_removed s rs ≡ true → s ≤ greatest_number rs
-unfolding IsBelow
-removed_below rs s log = by_log IsBelow (λ t removed. absurd cc) removed_step rs log s
 
 -- Choices
 

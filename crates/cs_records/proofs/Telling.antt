@@ -16,10 +16,10 @@ use Rattle.cs_laws.specs.declared.records.RecordBody.TheVariants as bodies
 use Rattle.cs_laws.specs.Realms as realms
 use Rattle.cs_laws.specs.Realms.{Own, is_realm, is_snap_of, own, own_then, realm_record}
 use Rattle.cs_laws.specs.Standing.{dir_of, has_snap, news_of}
-use Rattle.cs_records.specs.Commits.{changed_records, told}
+use Rattle.cs_records.specs.CommitNews.{changed_records, commit_news}
 use Rattle.cs_records.specs.Log.{IsLog, IsNext}
-use Rattle.cs_records.specs.Realms.{changed_by, had, is_at, is_realm_by, no_own}
-use Rattle.cs_records.specs.Told.{IsKnown, changed_own, is_new_by, message_by}
+use Rattle.cs_records.specs.OwnTable.{changed_by, had, is_at, is_realm_by, no_own}
+use Rattle.cs_records.specs.NewsByTables.{IsKnown, changed_own, is_new_by, message_by}
 use Rattle.cs_records.proofs.Changed as changes
 use Rattle.cs_records.proofs.Changed.{IsChange, change_by_removal, change_by_snap, changed_one, has_by, own_by, parent_by_realms, record_by_realms}
 use Rattle.cs_records.proofs.Logs.{had_one_append, or_false, own_append, snap_dir}
@@ -131,17 +131,17 @@ message_told dirs of now rs (bodies.Removal s n) xs log next knows same after di
 
 -- Lists of messages
 
-pub told_append : (path : ℕ → List ℕ) (ds : List ℕ) (before rs ss : List Record) → told path ds before (rs ++ ss) ≡ told path ds before rs ++ told path ds (before ++ rs) ss
-told_append path ds before [] ss = ap (λ xs. told path ds xs ss) (sym (append-nil before))
-told_append path ds before (r ∷ rs) ss =
+pub commit_news_append : (path : ℕ → List ℕ) (ds : List ℕ) (before rs ss : List Record) → commit_news path ds before (rs ++ ss) ≡ commit_news path ds before rs ++ commit_news path ds (before ++ rs) ss
+commit_news_append path ds before [] ss = ap (λ xs. commit_news path ds xs ss) (sym (append-nil before))
+commit_news_append path ds before (r ∷ rs) ss =
     ap (λ ms. news_of before (changed_records path ds before (before ++ r ∷ [])) r.body ∷ ms)
-    (told_append path ds (before ++ r ∷ []) rs ss ∙ ap (λ xs. told path ds (before ++ r ∷ []) rs ++ told path ds xs ss) (append_assoc before (r ∷ []) rs))
+    (commit_news_append path ds (before ++ r ∷ []) rs ss ∙ ap (λ xs. commit_news path ds (before ++ r ∷ []) rs ++ commit_news path ds xs ss) (append_assoc before (r ∷ []) rs))
 
 -- one of the records that aren't durable becomes so, and the client is told of it
 pub same_told : (path : ℕ → List ℕ) (ds : List ℕ) (durable fresh now rest : List Record) (sent new : List Message) → now ≡ durable ++ take 1 fresh → rest ≡ drop 1 fresh
-    → new ≡ sent ++ told path ds durable (take 1 fresh)
-    → new ++ told path ds now rest ≡ sent ++ told path ds durable fresh
+    → new ≡ sent ++ commit_news path ds durable (take 1 fresh)
+    → new ++ commit_news path ds now rest ≡ sent ++ commit_news path ds durable fresh
 same_told path ds durable fresh now rest sent new grown left is =
     rw (is, grown, left)
-    (append_assoc sent (told path ds durable (take 1 fresh)) (told path ds (durable ++ take 1 fresh) (drop 1 fresh))
-    ∙ ap (λ ms. sent ++ ms) (sym (told_append path ds durable (take 1 fresh) (drop 1 fresh)) ∙ ap (λ rs. told path ds durable rs) (take-append-drop 1 fresh)))
+    (append_assoc sent (commit_news path ds durable (take 1 fresh)) (commit_news path ds (durable ++ take 1 fresh) (drop 1 fresh))
+    ∙ ap (λ ms. sent ++ ms) (sym (commit_news_append path ds durable (take 1 fresh) (drop 1 fresh)) ∙ ap (λ rs. commit_news path ds durable rs) (take-append-drop 1 fresh)))

@@ -4,7 +4,7 @@ use Rattle.cs_snapctx.specs.declared.realm.RealmRecord.{RealmRecord}
 use Rattle.cs_laws.specs.declared.records.Record.{Record}
 use Rattle.cs_laws.specs.declared.records.RecordBody.TheVariants as bodies
 use Rattle.cs_laws.specs.Realms.{is_realm, realm_record}
-use Rattle.cs_records.specs.Realms.{is_at}
+use Rattle.cs_records.specs.OwnTable.{is_at}
 
 -- the record of e after a snapshot of d, where e is d, or d is a realm only now and the nearest one above e
 abbrev pub snapped_record : (ℕ → List ℕ) → List Record → ℕ → ℕ → List ℕ → ℕ → Option RealmRecord

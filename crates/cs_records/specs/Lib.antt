@@ -1,9 +1,9 @@
 pub mod Below
-pub mod Commits
+pub mod CommitNews
 pub mod Example
-pub mod Kept
+pub mod Indexed
 pub mod Log
 pub mod Names
-pub mod Realms
+pub mod NewsByTables
+pub mod OwnTable
 pub mod Records
-pub mod Told

@@ -3,9 +3,9 @@ use Rattle.std.specs.Prelude.{◌++◌, List}
 use Rattle.cs_laws.specs.declared.records.Record.{Record}
 
 -- the durable records, and those behind them that aren't, each the oldest first
-pub record Standing : Type 0 where
+pub record RecordLog : Type 0 where
   pub durable : List Record
   pub fresh : List Record
 
-abbrev pub all : Standing → List Record
+abbrev pub all : RecordLog → List Record
 all s = s.durable ++ s.fresh

@@ -5,7 +5,7 @@ ghost use Rattle.cs_laws.specs.declared.records.Record.{Record};
 ghost use Rattle.cs_laws.specs.declared.records.RecordBody.TheVariants as bodies;
 ghost use Rattle.cs_laws.specs.Realms.{is_realm};
 ghost use Rattle.cs_laws.specs.Standing.{dir_of, greatest_number, has_snap_named};
-ghost use Rattle.cs_records.specs.Commits.{changed_records, told};
+ghost use Rattle.cs_records.specs.CommitNews.{changed_records, commit_news};
 ghost use Rattle.cs_records.specs.Example.{directories, first, names_after_removal, path, removal, root, second, told_first, told_removal, told_root, told_second};
 ghost use Rattle.cs_records.specs.Log.{IsLog, IsNextRemoval};
 ghost use Rattle.cs_records.specs.Below.{snapped_record, removed_record};
@@ -28,10 +28,10 @@ pub fn a_removal_tells_its_realm_alone()
 /// is below the root's. One of directory 2 makes that the parent of 3's realm, which is told with it. One
 /// of the root tells of the root alone, and the removal of the first of directory 3 alone.
 pub fn told_by_example()
-    ensures first { told path directories [] (first ∷ []) ≡ told_first }
-    ensures second { told path directories (first ∷ []) (second ∷ []) ≡ told_second }
-    ensures root { told path directories (first ∷ second ∷ []) (root ∷ []) ≡ told_root }
-    ensures removal { told path directories (first ∷ second ∷ root ∷ []) (removal ∷ []) ≡ told_removal }
+    ensures first { commit_news path directories [] (first ∷ []) ≡ told_first }
+    ensures second { commit_news path directories (first ∷ []) (second ∷ []) ≡ told_second }
+    ensures root { commit_news path directories (first ∷ second ∷ []) (root ∷ []) ≡ told_root }
+    ensures removal { commit_news path directories (first ∷ second ∷ root ∷ []) (removal ∷ []) ≡ told_removal }
     ensures name { names_after_removal ≡ true ∷ false ∷ [] }
 {}
 

@@ -4,8 +4,8 @@
 
 mod laws;
 mod names;
-mod own;
-mod realms;
+mod own_snaps;
+mod own_table;
 mod records;
 
 pub use laws::{

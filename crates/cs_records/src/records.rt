@@ -1,17 +1,17 @@
 // The records of the server's log, after the CephFS documentation of the metadata server's journal.
-ghost use Rattle.std.specs.Prelude.{◌≡◌, ◌++◌, ◌∷◌, ◌+◌, ◌<◌, ◌==◌, if◌then◌else◌, [], ℕ, Some, nat_eq, nat_lt, length, take, drop, vec_len, vec_capacity, true, false, OnOk, OnErr, IfOk};
+ghost use Rattle.std.specs.Prelude.{◌≡◌, ◌++◌, ◌∷◌, ◌+◌, ◌<◌, ◌==◌, if◌then◌else◌, [], ℕ, Some, nat_eq, nat_lt, length, take, drop, true, false, OnOk, OnErr, IfOk};
 ghost use Rattle.cs_laws.specs.declared.records.Record.{Record};
 ghost use Rattle.cs_laws.specs.declared.records.RecordBody.TheVariants as bodies;
 ghost use Rattle.cs_laws.specs.Standing.{dir_of, greatest_number, has_snap, has_snap_named, is_removed};
 ghost use Rattle.cs_tree.specs.Directories.{inos, path_of};
-ghost use Rattle.cs_records.specs.Commits.{told};
-ghost use Rattle.cs_records.specs.Realms.{own_in};
+ghost use Rattle.cs_records.specs.CommitNews.{commit_news};
+ghost use Rattle.cs_records.specs.OwnTable.{own_in};
 ghost use Rattle.cs_records.specs.Records.{all};
-ghost use Rattle.cs_records.specs.Told.{IsKnown, changed_own, is_new_by, message_by, realm_by};
+ghost use Rattle.cs_records.specs.NewsByTables.{IsKnown, changed_own, is_new_by, message_by, realm_by};
 ghost use Rattle.indexmap.specs.IndexMap.{get, spare};
 
 use crate::names::Names;
-use crate::realms::Realms;
+use crate::own_table::OwnTable;
 use cs_ids::{FileMeta, Ino, Memory, Name, Seq, Snap, Tid};
 use cs_laws::{Message, Record, RecordBody};
 use cs_tree::{Directories, Directory};
@@ -41,23 +41,23 @@ pub struct Records {
     removed: IndexSet<Snap>,
     names: Names,
     // The realms by the durable records.
-    realms: Realms,
+    realms: OwnTable,
 }
 
 impl Model for Records {
     ghost use Rattle.std.specs.Prelude.{take, drop, nat_eq};
     ghost use Rattle.indexmap.specs.IndexMap.{get};
     ghost use Rattle.indexmap.specs.IndexSet.{contains};
-    ghost use Rattle.cs_records.specs.Kept.{IsKept};
+    ghost use Rattle.cs_records.specs.Indexed.{IsIndexed};
     ghost use Rattle.cs_records.specs.Names.{name_in};
-    ghost use Rattle.cs_records.specs.Realms.{own_in};
-    ghost use Rattle.cs_records.specs.Records.{Standing};
+    ghost use Rattle.cs_records.specs.OwnTable.{own_in};
+    ghost use Rattle.cs_records.specs.Records.{RecordLog};
 
-    ghost Value = { Standing };
+    ghost Value = { RecordLog };
 
     ghost view = { λ r. record { durable = take r.durable r.records.items; fresh = drop r.durable r.records.items } };
 
-    ghost invariant = { λ r. IsKept r.records.items r.durable r.greatest (get nat_eq r.dirs) (contains nat_eq r.removed) (name_in r.names) (own_in r.realms) };
+    ghost invariant = { λ r. IsIndexed r.records.items r.durable r.greatest (get nat_eq r.dirs) (contains nat_eq r.removed) (name_in r.names) (own_in r.realms) };
 }
 
 impl Records {
@@ -74,7 +74,7 @@ impl Records {
             dirs: IndexMap::new(alloc),
             removed: IndexSet::new(alloc),
             names: Names::new(alloc),
-            realms: Realms::new(alloc),
+            realms: OwnTable::new(alloc),
         }
     }
 
@@ -128,23 +128,20 @@ impl Records {
         ensures fresh { IfOk result (λ n. self.new.fresh ≡ self.old.fresh ++ record { body = bodies.Snap n dir name.now } ∷ []) }
         ensures err { OnErr result (self.new.fresh ≡ self.old.fresh) }
     {
-        let number = following(self.greatest);
+        let number = Snap::after(self.greatest);
         let copy = Name::from_slice(self.alloc, name.as_slice())?;
         self.records.reserve(1)?;
         self.dirs.reserve(1)?;
         self.names.add(dir, name, number)?;
         enter_dir(&mut self.dirs, number, dir);
         self.greatest = number.get();
-        enter(
-            &mut self.records,
-            Record {
-                body: RecordBody::Snap {
-                    number,
-                    dir,
-                    name: copy,
-                },
+        self.records.push_reserved(Record {
+            body: RecordBody::Snap {
+                number,
+                dir,
+                name: copy,
             },
-        );
+        });
         Ok(number)
     }
 
@@ -159,16 +156,13 @@ impl Records {
         ensures fresh { IfOk result (λ n. self.new.fresh ≡ self.old.fresh ++ record { body = bodies.Removal snap n } ∷ []) }
         ensures err { OnErr result (self.new.fresh ≡ self.old.fresh) }
     {
-        let number = following(self.greatest);
+        let number = Snap::after(self.greatest);
         self.records.reserve(1)?;
         self.removed.insert(snap)?;
         self.greatest = number.get();
-        enter(
-            &mut self.records,
-            Record {
-                body: RecordBody::Removal { snap, number },
-            },
-        );
+        self.records.push_reserved(Record {
+            body: RecordBody::Removal { snap, number },
+        });
         Ok(number)
     }
 
@@ -211,7 +205,7 @@ impl Records {
         ensures records { all self.new ≡ all self.old }
         ensures durable { OnOk result (self.new.durable ≡ all self.old) }
         ensures fresh { OnOk result (self.new.fresh ≡ []) }
-        ensures told { OnOk result (to_client.new.items ≡ to_client.old.items ++ told (path_of directories.now) (inos directories.now) self.old.durable self.old.fresh) }
+        ensures told { OnOk result (to_client.new.items ≡ to_client.old.items ++ commit_news (path_of directories.now) (inos directories.now) self.old.durable self.old.fresh) }
     {
         let from = self.durable;
         let to = self.records.len();
@@ -231,7 +225,7 @@ impl Records {
         ensures records { all self.new ≡ all self.old }
         ensures durable { OnOk result (self.new.durable ≡ self.old.durable ++ take 1 self.old.fresh) }
         ensures fresh { OnOk result (self.new.fresh ≡ drop 1 self.old.fresh) }
-        ensures told { OnOk result (to_client.new.items ≡ to_client.old.items ++ told (path_of directories.now) (inos directories.now) self.old.durable (take 1 self.old.fresh)) }
+        ensures told { OnOk result (to_client.new.items ≡ to_client.old.items ++ commit_news (path_of directories.now) (inos directories.now) self.old.durable (take 1 self.old.fresh)) }
     {
         let body = &self.records[self.durable].body;
         let is_new = is_new_realm(&self.realms, &self.dirs, body);
@@ -261,7 +255,7 @@ fn realm_of(dirs: &IndexMap<Snap, Ino>, body: &RecordBody) -> Option<Ino>
 }
 
 // Whether a record makes a directory a realm.
-fn is_new_realm(realms: &Realms, dirs: &IndexMap<Snap, Ino>, body: &RecordBody) -> bool
+fn is_new_realm(realms: &OwnTable, dirs: &IndexMap<Snap, Ino>, body: &RecordBody) -> bool
     ensures { result ≡ is_new_by (get nat_eq dirs.now) (own_in realms.now) body.now }
 {
     match realm_of(dirs, body) {
@@ -272,7 +266,7 @@ fn is_new_realm(realms: &Realms, dirs: &IndexMap<Snap, Ino>, body: &RecordBody) 
 
 // Brings the realms up to a record. After `Memory` all realms are as before.
 fn change_realm(
-    realms: &mut Realms,
+    realms: &mut OwnTable,
     dirs: &IndexMap<Snap, Ino>,
     body: &RecordBody,
 ) -> Result<(), Memory>
@@ -296,7 +290,7 @@ fn change_realm(
 // What the client is told of a record, by the realms after it; `is_new` tells whether it made a
 // directory a realm.
 fn message_of(
-    realms: &Realms,
+    realms: &OwnTable,
     dirs: &IndexMap<Snap, Ino>,
     directories: &[Directory],
     is_new: bool,
@@ -325,27 +319,6 @@ fn message_of(
                 realms: realms.changed(directories, dir, is_new)?,
             })
         }
-    }
-}
-
-// The number behind a count.
-fn following(count: u64) -> Snap
-    requires { count < 99998 }
-    ensures { result ≡ count + 1 }
-{
-    let Some(number) = Snap::new(count + 1) else {
-        unreachable!()
-    };
-    number
-}
-
-fn enter(records: &mut Vec<Record>, entry: Record)
-    requires { vec_len records.old < vec_capacity records.old }
-    ensures { records.new.items ≡ records.old.items ++ entry ∷ [] }
-{
-    match records.push(entry) {
-        Ok(()) => {}
-        Err(_) => unreachable!(),
     }
 }
 

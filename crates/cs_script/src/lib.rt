@@ -9,8 +9,6 @@ mod line_fault;
 mod lines;
 mod printing;
 mod script;
-#[cfg(test)]
-mod tests;
 
 pub use cs_laws::{Kind, ScriptFault};
 pub use lines::{ParseFault, parse};

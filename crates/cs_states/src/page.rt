@@ -1,6 +1,6 @@
 // What a page of a file is to the client, after the CephFS documentation of buffered writes and the
 // comments of Linux's fs/ceph/addr.c.
-ghost use Rattle.std.specs.Prelude.{◌≡◌, is_some};
+ghost use Rattle.std.specs.Prelude.{◌≡◌};
 
 use cs_ids::{Seq, Tid};
 
@@ -29,13 +29,6 @@ impl PageState {
             PageState::Absent | PageState::Clean => None,
             PageState::Dirty { seq } | PageState::Sent { seq, .. } => Some(seq),
         }
-    }
-
-    /// Whether the page is owed.
-    pub fn is_owed(self) -> bool
-        ensures { result ≡ is_some (owed_seq self) }
-    {
-        self.owed_seq().is_some()
     }
 
     /// Whether the page is owed under the context of this number.

@@ -4,8 +4,6 @@
 mod hexadecimal;
 mod lines;
 mod numbers;
-#[cfg(test)]
-mod tests;
 
 pub use hexadecimal::{HexText, each_hex_text_is_read, put_hex, read_hex};
 pub use lines::{Line, Lines, MAX_LINE};

@@ -18,10 +18,6 @@ pub record AreListed (known : ℕ → Bool) (fs : List ℕ) : Type 0 where
   pub listed : (f : ℕ) → (known f ≡ true) ↔ Member f fs
   pub once : IsEachOnce fs
 
-known_or : (b was : Bool) → cond b true was ≡ true → (b ≡ false → was ≡ true)
-known_or true was t no_test = absurd cc
-known_or false was t no_test = t
-
 listed_one : (b was : Bool) (g f : ℕ) (fs : List ℕ) → (g == f) ≡ b → (was ≡ true) ↔ Member f fs → (cond b true was ≡ true) ↔ Member f (g ∷ fs)
 listed_one true was g f fs is i = (λ _. inl (eqb-true g f is), λ _. refl)
 listed_one false was g f fs is i =

@@ -1,5 +1,5 @@
 -- What a file's queue tells of the answers to events, and of the context and the metadata that the client sends.
-use Rattle.std.proofs.Common.{◌≡◌, refl, sym, ap, ◌∙◌, subst, ℕ, ◌+◌, ◌≤◌, Bool, true, false, cond, not, ◌||◌, ◌&&◌, ◌==◌, List, [], ◌∷◌, Some, None, count_by, length, arith}
+use Rattle.std.proofs.Common.{◌≡◌, refl, sym, ap, ◌∙◌, subst, ℕ, ◌+◌, ◌≤◌, Bool, true, false, cond, not, ◌||◌, ◌&&◌, ◌==◌, List, [], ◌∷◌, count_by, length, arith}
 use Rattle.std.proofs.lemmas.Bool.{eqb-true, false≢true, false_from_ne_true}
 use Rattle.std.proofs.lemmas.List.Sums.{length-filter}
 use Rattle.cs_bits.specs.Bits.{is_empty}
@@ -78,21 +78,6 @@ queue_makes p h run f new =
 
 -- The first unsent one
 
-pub queue_none : (p : ℕ) (h : List Entry) → IsRun p h → (f : ℕ) → queued h f ≡ [] → kept.first_unsent (snaps h f) ≡ None
-queue_none p h run f none =
-    first_none (length (sent h)) (live h) (writes h f) (snaps h f)
-    (subst (λ qs. Queue (length (sent h)) (live h) (writes h f) qs (snaps h f)) none (all_queue p h run f))
-
-of_none : (n : ℕ) (rs : List Live) (ws : List Write) (qs : List CapSnap) (xs : List Snap) → Queue n rs ws qs xs → kept.first_unsent xs ≡ None → qs ≡ []
-of_none n rs ws [] xs i none = refl
-of_none n rs ws (q ∷ qs) xs i none = absurd (some_none (sym (first_is n rs ws q qs xs i).is ∙ none))
-  where
-    some_none : {y : Snap} → Some y ≡ None → ⊥
-    some_none e = cc
-
-pub none_queued : (p : ℕ) (h : List Entry) → IsRun p h → (f : ℕ) → kept.first_unsent (snaps h f) ≡ None → queued h f ≡ []
-none_queued p h run f none = of_none (length (sent h)) (live h) (writes h f) (queued h f) (snaps h f) (all_queue p h run f) none
-
 pub queue_first : (p : ℕ) (h : List Entry) → IsRun p h → (f : ℕ) (q : CapSnap) (qs : List CapSnap) → queued h f ≡ q ∷ qs
     → IsFirst (live h) (writes h f) q (snaps h f)
 queue_first p h run f q qs is =
@@ -163,14 +148,3 @@ pub queue_message : (p : ℕ) (h : List Entry) → IsRun p h → (f tid : ℕ) (
     → kept.readiness 0 (kept.first_unsent (snaps h f)) ≡ ready.Ready found number
     → messages.FlushSnap f tid number found ≡ flush_message (flush_snap f tid number (queued_mode (queued h f)) (writes h f))
 queue_message p h run f tid found number told = ap (λ m. messages.FlushSnap f tid number m) (queue_ready p h run f found number told).meta
-
--- the metadata of the first unsent one, once it isn't written on
-pub queue_meta : (p : ℕ) (h : List Entry) → IsRun p h → (f : ℕ) (q : CapSnap) (qs : List CapSnap) (x : Snap) → queued h f ≡ q ∷ qs
-    → kept.first_unsent (snaps h f) ≡ Some x → x.writing ≡ false → x.meta ≡ meta_upto q.follows q.mode (writes h f)
-queue_meta p h run f q qs x is found done =
-    let first : IsFirst (live h) (writes h f) q (snaps h f) = queue_first p h run f q qs is in
-    let same : first.snap ≡ x = some_same (sym first.is ∙ found) in
-    (subst (λ y. IsSeen (live h) (writes h f) y q) same first.seen).meta done
-  where
-    some_same : {y z : Snap} → Some y ≡ Some z → y ≡ z
-    some_same e = cc

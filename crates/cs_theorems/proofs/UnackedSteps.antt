@@ -5,7 +5,7 @@ use Rattle.std.proofs.lemmas.Bool.{and_from, and_parts, both_ways, cond_both, eq
 use Rattle.std.proofs.lemmas.List.{length-append}
 use Rattle.std.proofs.Math.Nat.{eq-or-lt_of_le}
 use Rattle.cs_flush.specs.declared.sent.Sent.{Sent}
-use Rattle.cs_flush.specs.Flushes.{IsRising, after_ack, greatest_tid}
+use Rattle.cs_flush.specs.Flushes.{after_ack, greatest_tid}
 use Rattle.cs_laws.specs.declared.events.Event.{Event}
 use Rattle.cs_laws.specs.declared.events.Event.TheVariants as e
 use Rattle.cs_laws.specs.declared.answers.Answer.{Answer}
@@ -77,9 +77,6 @@ all_unacked p h run =
 
 -- The list is in order, and has flushes that were sent
 
-pub unacked_rising : (p : ℕ) (h : List Entry) → IsRun p h → (f : ℕ) → IsRising (unacked h f)
-unacked_rising p h run f = (all_unacked p h run f).rising
-
 pub unacked_tids : (p : ℕ) (h : List Entry) → IsRun p h → (f : ℕ) → greatest_tid (unacked h f) ≤ length (sent h)
 unacked_tids p h run f = (all_unacked p h run f).tids
 
@@ -129,9 +126,3 @@ pub kept_owed : (p : ℕ) (h : List Entry) → IsRun p h → (f : ℕ) (u : Sent
 kept_owed p h run f u m =
     let j : WasFlushed f (sent h) (λ n. acked h f n) u = (all_unacked p h run f).kept u m in
     (j.flush, record { there = j.there; file = j.own.file; head = j.own.head; free = acked_of h f j.flush j.there j.own j.free }, j.is)
-
--- one that is kept isn't acknowledged
-pub kept_free : (p : ℕ) (h : List Entry) → IsRun p h → (f : ℕ) (x : Flush) → Member x (sent h) → IsOwn f x → Member (sent_of x) (unacked h f) → is_acked h x ≡ false
-kept_free p h run f x there own m =
-    let j : WasFlushed f (sent h) (λ n. acked h f n) (sent_of x) = (all_unacked p h run f).kept (sent_of x) m in
-    acked_of h f x there own (subst (IsFree f (sent h) (λ n. acked h f n)) (ap (λ (u : Sent). u.tid) j.is) j.free)

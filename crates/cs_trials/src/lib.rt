@@ -5,13 +5,19 @@
 #[cfg(test)]
 mod capsnap;
 #[cfg(test)]
+mod command;
+#[cfg(test)]
 mod flush;
 #[cfg(test)]
 mod gate;
 #[cfg(test)]
 mod inode;
 #[cfg(test)]
+mod io;
+#[cfg(test)]
 mod laws;
+#[cfg(test)]
+mod pages;
 #[cfg(test)]
 mod realms;
 #[cfg(test)]
@@ -19,6 +25,12 @@ mod records;
 #[cfg(test)]
 mod refs;
 #[cfg(test)]
+mod script;
+#[cfg(test)]
 mod store;
 #[cfg(test)]
+mod text;
+#[cfg(test)]
 mod tree;
+#[cfg(test)]
+mod writeback;

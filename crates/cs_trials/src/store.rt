@@ -61,17 +61,6 @@ fn reads_the_head_and_a_snapshot(rt: HostRuntime) -> Result<(), Fail> {
 }
 
 #[test]
-fn applies_a_number_once(rt: HostRuntime) -> Result<(), Fail> {
-    let mut store = MemStore::new(rt.alloc());
-    let answers = write_both(rt.alloc(), &mut store)?;
-    assert_eq!(rt; answers, (Applied::New, Applied::New));
-    let again = store.apply(&operation(rt.alloc(), 1, 0, 10, b"ef")?)?;
-    assert_eq!(rt; again, Applied::Dup);
-    assert_eq!(rt; store.ops().len(), 2);
-    Ok(())
-}
-
-#[test]
 fn the_second_call_fails(rt: HostRuntime) -> Result<(), Fail> {
     let mut store = FaultyStore::new(rt.alloc(), &[2])?;
     let op = operation(rt.alloc(), 1, 0, 10, b"ab")?;

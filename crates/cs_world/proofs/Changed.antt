@@ -14,6 +14,7 @@ use Rattle.cs_theorems.proofs.Tests.{any_some}
 use Rattle.cs_world.specs.declared.state.FileState.{FileState}
 use Rattle.cs_world.specs.Changed.{Changes, ChangesAll, ContextsRise, RisesIn, count_changed, is_among, needs_at, needs_told, told_row}
 use Rattle.cs_world.specs.Tables.{Files}
+use Rattle.cs_world.specs.Touched.{FilesStay, StaysIn}
 
 -- Lists of files
 
@@ -81,6 +82,11 @@ same_before up ts old mid fs f rows absent =
 pub next_rises : (up : ℕ → List ℕ) (ts : List RealmRecord) (old mid : Files) (fs : List ℕ) (f : ℕ) → ChangesAll up ts old mid fs → (Member f fs → ⊥)
     → ContextsRise up ts old → RisesIn up ts (get nat_cmp mid f)
 next_rises up ts old mid fs f rows absent rises = subst (λ o. RisesIn up ts o) (sym (same_before up ts old mid fs f rows absent)) (rises f)
+
+pub next_stays : (up : ℕ → List ℕ) (ts : List RealmRecord) (touched : List ℕ) (old mid : Files) (fs : List ℕ) (f : ℕ) → ChangesAll up ts old mid fs
+    → (Member f fs → ⊥) → FilesStay up touched ts old → StaysIn up touched ts (get nat_cmp mid f)
+next_stays up ts touched old mid fs f rows absent stay =
+    subst (λ o. StaysIn up touched ts o) (sym (same_before up ts old mid fs f rows absent)) (stay f)
 
 -- The row of one more file is changed: fs are those before it
 pub record ChangesNext (up : ℕ → List ℕ) (ts : List RealmRecord) (old mid new : Files) (fs : List ℕ) (f : ℕ) (needed : Bool) : Type 0 where

@@ -47,6 +47,8 @@ use Rattle.cs_world.specs.declared.state.State.{State}
 use Rattle.cs_world.specs.Changed.{ChangesAll, ContextsRise, RisesIn, changed_row, count_changed, is_among, needs_at, needs_snap, needs_told, told_context, told_row}
 use Rattle.cs_world.specs.Delivered.{TellsRealms}
 use Rattle.cs_world.specs.Tables.{Files, Refines, inode, row, row_of}
+use Rattle.cs_world.specs.Touched.{FilesStay, OthersStay, StaysIn, is_touched}
+use Rattle.cs_world.proofs.Touched.{way_stays}
 
 -- The files in the order in which they were made
 
@@ -191,6 +193,17 @@ contexts_rise h s number realm ts t run told f = subst (λ o. RisesIn (path_of s
     at true =
         subst (λ c. differs (context h f) c ≡ true → (context h f).seq < c.seq) (sym (same_context h s ts f t))
         (rises (context h f) (new_context h ts f) (moves_to h s number realm ts f run told))
+    at false = tt
+
+-- and stays where no realm on the way up has another one
+pub files_stay : (h : List Entry) (s : State) (touched : List ℕ) (ts : List RealmRecord) → Refines h s → OthersStay touched (realms h) ts
+    → FilesStay (path_of s.directories) touched ts s.files
+files_stay h s touched ts t others f = subst (λ o. StaysIn (path_of s.directories) touched ts o) (sym (t.rows f)) (at (setup_file h f))
+  where
+    at : (known : Bool) → StaysIn (path_of s.directories) touched ts (cond known (Some (row h f)) None)
+    at true = λ quiet.
+        way_stays touched (client_file_path h f) (realms h) ts others (subst (λ up. is_touched touched up ≡ false) (t.tree.paths (home h f)) quiet)
+        ∙ sym (same_context h s ts f t)
     at false = tt
 
 -- the row under another context, and with one cap snap more, or not

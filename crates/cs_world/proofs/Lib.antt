@@ -23,5 +23,6 @@ pub mod Refused
 pub mod Rows
 pub mod Showing
 pub mod TakenIn
+pub mod Touched
 pub mod RecordedAt
 pub mod Written

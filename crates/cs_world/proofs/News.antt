@@ -10,7 +10,7 @@ use Rattle.cs_laws.specs.Realms.{differing, is_realm, realm_records}
 use Rattle.cs_laws.specs.Runs.{IsRun}
 use Rattle.cs_laws.specs.Standing.{news, news_of, news_on}
 use Rattle.cs_laws.specs.Tree.{directories, is_directory, path}
-use Rattle.cs_records.specs.Commits.{changed_records, told}
+use Rattle.cs_records.specs.CommitNews.{changed_records, commit_news}
 use Rattle.cs_theorems.proofs.Commits.{now_is, sent_after}
 use Rattle.cs_theorems.proofs.Course.{course_run}
 use Rattle.cs_theorems.proofs.Fronts.{OfDir, realm_dir}
@@ -27,7 +27,7 @@ module _ (up : ℕ → List ℕ) (dirs : List ℕ) where
       now_is up dirs [] ss vs ∙ ap (λ g. differing_at g (realm_at up vs) dirs) (λ i d. has.has d i)
 
   news_is : (ss : List RealmRecord) (ds rs : List Record) → ((d : ℕ) → is_realm (ds ++ rs) d ≡ true → Member d dirs) → HasRealms up ds ss
-      → news up dirs ss ds rs ≡ told up dirs ds rs
+      → news up dirs ss ds rs ≡ commit_news up dirs ds rs
   news_is ss ds [] listed has = refl
   news_is ss ds (r ∷ rs) listed has =
       ap (λ now. news_of ds now r.body ∷ news up dirs (with_records (realms_of (news_on up dirs ss ds r)) ss) more rs) (differing_is_changed ss ds more has)
@@ -42,7 +42,7 @@ module _ (up : ℕ → List ℕ) (dirs : List ℕ) where
       inside d is = listed d (subst (λ xs. is_realm xs d ≡ true) (append_assoc ds (r ∷ []) rs) is)
 
 pub news_told : (p : ℕ) (h : List Entry) → IsRun p h
-    → news (λ d. path h d) (directories h) (last_sent h) (durable h) (fresh h) ≡ told (λ d. path h d) (directories h) (durable h) (fresh h)
+    → news (λ d. path h d) (directories h) (last_sent h) (durable h) (fresh h) ≡ commit_news (λ d. path h d) (directories h) (durable h) (fresh h)
 news_told p h run =
     let i : Setting h = (course_run p h run).setting in
     news_is (λ d. path h d) (directories h) (last_sent h) (durable h) (fresh h)

@@ -157,12 +157,6 @@ calls_by_count p h f a off len meta count run known state there free is counted 
 
 -- What is asked of the store lies in the file
 
-pub count_few : (size off len : ℕ) → is_shown off len ≡ true → shown_count size off len ≤ 4096
-count_few size off len fit =
-    let parts = and_parts (nat_lt off greatest_end) (nat_le 1 len && nat_le len most_shown) fit in
-    let few : len ≤ most_shown = leb-true len most_shown (and_parts (nat_le 1 len) (nat_le len most_shown) parts.1).1 in
-    omega (arith, few)
-
 pub count_within : (size off len : ℕ) → is_shown off len ≡ true → size ≤ greatest_end → off + shown_count size off len ≤ 1048576
 count_within size off len fit small =
     let parts = and_parts (nat_lt off greatest_end) (nat_le 1 len && nat_le len most_shown) fit in

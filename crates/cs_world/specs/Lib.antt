@@ -6,3 +6,4 @@ pub mod Sending
 pub mod Shown
 pub mod Storing
 pub mod Tables
+pub mod Touched

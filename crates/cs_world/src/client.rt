@@ -1,5 +1,5 @@
 // The client's events: deliveries and checks.
-ghost use Rattle.std.specs.Prelude.{◌≡◌, None, IfOk, OnErr, OnOk};
+ghost use Rattle.std.specs.Prelude.{◌≡◌, ◌++◌, None, IfOk, OnErr, OnOk, map};
 ghost use Rattle.std.specs.BTreeMap.{get};
 ghost use Rattle.std.specs.Ordering.{nat_cmp};
 ghost use Rattle.cs_laws.specs.declared.events.Event.TheVariants as events;
@@ -9,6 +9,7 @@ ghost use Rattle.cs_laws.specs.History.{realms, to_client};
 ghost use Rattle.cs_theorems.specs.Realms.{ParentsAreKnown};
 ghost use Rattle.cs_world.specs.Delivered.{IsFirst, TellsRealms};
 ghost use Rattle.cs_world.specs.Tables.{Steps, KeepsJournal, IsReady, CompletesIn, past};
+ghost use Rattle.cs_world.specs.Touched.{OthersStay, TouchesMore};
 
 use crate::snaps::change_all;
 use crate::state::{FileState, State};
@@ -16,7 +17,7 @@ use cs_bits::Caps;
 use cs_caps::Done;
 use cs_ids::{Ino, Memory, Seq, Snap, Tid};
 use cs_laws::{Answer, Message, RealmRecordList};
-use cs_realms::{RealmFault, Realms};
+use cs_realms::{Changed, RealmFault, Realms};
 use cs_snapctx::RealmRecord;
 use std::collections::BTreeMap;
 
@@ -48,8 +49,9 @@ pub fn to_client(state: &mut State) -> Result<Answer, Memory>
             realms,
         } => {
             let (number, realm) = (*number, *realm);
-            take_in(&mut state.realms, realms)?;
-            deliver_snap(state, number, realm)
+            let mut touched = Vec::new(state.alloc);
+            take_in(&mut state.realms, realms, &mut touched)?;
+            deliver_snap(state, number, realm, touched.as_slice())
         }
         Message::CapAck { .. } | Message::Flush { .. } | Message::FlushSnap { .. } => {
             unreachable!()
@@ -91,9 +93,15 @@ fn deliver_ack(state: &mut State, file: Ino, tid: Tid) -> Answer
 }
 
 // A snapshot or a removal is told, and its realm records are taken in: the files' contexts follow.
-fn deliver_snap(state: &mut State, number: Snap, realm: Ino) -> Result<Answer, Memory>
+fn deliver_snap(
+    state: &mut State,
+    number: Snap,
+    realm: Ino,
+    touched: &[Ino],
+) -> Result<Answer, Memory>
     requires ready { IsReady (record state.old { realms = realms (past state.old) }) }
     requires told { TellsRealms (past state.old) number realm state.old.realms }
+    requires touched { OthersStay touched.now (realms (past state.old)) state.old.realms }
     ensures ok { IfOk result (λ a. Steps state.old state.new events.ToClient a) }
     ensures err { OnErr result (KeepsJournal state.old state.new) }
 {
@@ -103,6 +111,7 @@ fn deliver_snap(state: &mut State, number: Snap, realm: Ino) -> Result<Answer, M
         state.made.as_slice(),
         &state.directories,
         &state.realms,
+        touched,
     )?;
     let _ = state.to_client.pop_front();
     Ok(Answer::SnapTold {
@@ -112,30 +121,50 @@ fn deliver_snap(state: &mut State, number: Snap, realm: Ino) -> Result<Answer, M
     })
 }
 
-// Takes realm records in, each as the last one of its realm. They come parents first.
-fn take_in(realms: &mut Realms, told: &RealmRecordList) -> Result<(), Memory>
+// Takes realm records in, each as the last one of its realm. They come parents first. The realms whose
+// contexts change are touched.
+fn take_in(
+    realms: &mut Realms,
+    told: &RealmRecordList,
+    touched: &mut Vec<Ino>,
+) -> Result<(), Memory>
     requires { ParentsAreKnown realms.old told.now }
-    ensures { OnOk result (realms.new ≡ with_records told.now realms.old) }
+    ensures records { OnOk result (realms.new ≡ with_records told.now realms.old) }
+    ensures touched { OnOk result (OthersStay touched.new.items realms.old realms.new) }
 {
     for i in 0..told.len() {
         let Some(record) = told.get(i) else {
             unreachable!()
         };
-        take_one(realms, record)?;
+        take_one(realms, record, touched)?;
     }
     Ok(())
 }
 
 // Takes one in, of which the parent is known, if it names one.
-fn take_one(realms: &mut Realms, told: &RealmRecord) -> Result<(), Memory>
+fn take_one(realms: &mut Realms, told: &RealmRecord, touched: &mut Vec<Ino>) -> Result<(), Memory>
     requires { missing_parent realms.old told.now ≡ None }
-    ensures { OnOk result (realms.new ≡ with_record told.now realms.old) }
+    ensures records { OnOk result (realms.new ≡ with_record told.now realms.old) }
+    ensures touched { OnOk result (TouchesMore touched.old.items touched.new.items realms.old realms.new) }
 {
     match realms.apply(told) {
-        Ok(_) => Ok(()),
+        Ok(changed) => touch(&changed, touched),
         Err(RealmFault::Memory) => Err(Memory),
         Err(RealmFault::NoParent { .. }) => unreachable!(),
     }
+}
+
+// Adds the realms of these changes.
+fn touch(changed: &Changed, touched: &mut Vec<Ino>) -> Result<(), Memory>
+    ensures { OnOk result (touched.new.items ≡ touched.old.items ++ map (λ c. c.realm) changed.now) }
+{
+    for i in 0..changed.len() {
+        let Some(change) = changed.get(i) else {
+            unreachable!()
+        };
+        touched.push(change.realm)?;
+    }
+    Ok(())
 }
 
 #[tactic(auto, using(crate::proofs::Checks::says_nothing, crate::proofs::Checks::says_hold, crate::proofs::Checks::says_ack))]

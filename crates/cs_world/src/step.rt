@@ -93,10 +93,7 @@ fn enter(entries: &mut Vec<Entry>, event: Event, answer: Answer)
 {
     let _told: Option<RefName> = None;
     let _at: Option<At> = None;
-    match entries.push(Entry { event, answer }) {
-        Ok(()) => {}
-        Err(_) => unreachable!(),
-    }
+    entries.push_reserved(Entry { event, answer });
 }
 
 /// Does an event, and enters it with its answer. The room for the entry is taken first.

@@ -5,8 +5,6 @@
 
 mod laws;
 mod operations;
-#[cfg(test)]
-mod tests;
 
 pub use cs_states::{Delivery, Reply, Resend};
 pub use laws::{a_lost_copy_by_example, a_step_is_of_one_operation, operations_may_cross_threads};

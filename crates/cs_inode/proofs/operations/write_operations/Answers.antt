@@ -31,11 +31,13 @@ operation-requires-clause-number c =
 
 pub operation-requires-clause-from : goal.operation-requires-clause-from
 operation-requires-clause-from c =
-    (first_piece c.args.off (length c.args.bytes.now) c.in-Some.piece c.next.new.self c.loop-piece.piece-iterator c.in-Some.ensures.steps c.loop-piece.invariant.pieces).from
+    let all = c.loop-piece.piece-iterator in
+    (first_piece c.args.off (length c.args.bytes.now) c.in-Some.piece c.next.new.self all c.in-Some.ensures.steps c.loop-piece.invariant.pieces).from
 
 pub operation-requires-clause-to : goal.operation-requires-clause-to
 operation-requires-clause-to c =
-    (first_piece c.args.off (length c.args.bytes.now) c.in-Some.piece c.next.new.self c.loop-piece.piece-iterator c.in-Some.ensures.steps c.loop-piece.invariant.pieces).to
+    let all = c.loop-piece.piece-iterator in
+    (first_piece c.args.off (length c.args.bytes.now) c.in-Some.piece c.next.new.self all c.in-Some.ensures.steps c.loop-piece.invariant.pieces).to
 
 pub loop-piece-preserved : goal.loop-piece-preserved
 loop-piece-preserved c =

@@ -7,7 +7,7 @@ use Rattle.cs_theorems.proofs.Counts.{files_few}
 use Rattle.cs_tree.specs.Directories.{path_of}
 use Rattle.cs_world.specs.Changed.{ChangesAll, count_changed}
 use Rattle.cs_world.specs.Tables.{past}
-use Rattle.cs_world.proofs.ContextChange.{contexts_rise, made_all, told_answer, told_refines}
+use Rattle.cs_world.proofs.ContextChange.{contexts_rise, files_stay, made_all, told_answer, told_refines}
 use Rattle.cs_world.proofs.client.deliver_snap.Goals as goal
 
 pub change_all-requires-clause-few : goal.change_all-requires-clause-few
@@ -29,6 +29,12 @@ change_all-requires-clause-rises c =
     let h = past s in
     let before = record s { realms = realms h } in
     contexts_rise h before c.args.number c.args.realm s.realms c.requires.ready.tables c.requires.ready.run c.requires.told
+
+pub change_all-requires-clause-stay : goal.change_all-requires-clause-stay
+change_all-requires-clause-stay c =
+    let s = c.args.state.now in
+    let h = past s in
+    files_stay h (record s { realms = realms h }) c.args.touched.now s.realms c.requires.ready.tables c.requires.touched
 
 pub returns-clause-ok : goal.returns-clause-ok
 returns-clause-ok c =

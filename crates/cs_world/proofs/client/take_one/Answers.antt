@@ -1,4 +1,5 @@
 use Rattle.std.proofs.Common.{◌≡◌, ◌∙◌, sym, ap, Some, None, Err}
+use Rattle.cs_world.proofs.Touched.{touches_all}
 use Rattle.cs_world.proofs.client.take_one.Goals as goal
 
 pub unreachable-requires : goal.unreachable-requires
@@ -6,3 +7,8 @@ unreachable-requires c =
     let missing = (c.apply.ensures.no_parent c.in-Err-NoParent.field-0-0).0 (c.in-Err-NoParent.is ∙ ap Err c.in-Err-NoParent.field-0-is) in
     let never : None ≡ Some c.in-Err-NoParent.field-0-0 = sym c.requires ∙ missing in
     cc
+
+pub returns-in-Ok-clause-touched : goal.returns-in-Ok-clause-touched
+returns-in-Ok-clause-touched c =
+    touches_all c.touch.result c.args.told.now c.args.realms.now c.apply.new.self c.in-Ok.changed c.args.touched.now.items c.touch.new.touched.items
+    c.in-Ok.ensures.records c.in-Ok.ensures.each c.touch.ensures

@@ -7,6 +7,7 @@ use Rattle.cs_laws.specs.declared.messages.Message.TheVariants as messages
 use Rattle.cs_laws.specs.History.{to_client}
 use Rattle.cs_world.specs.Delivered.{IsFirst}
 use Rattle.cs_world.specs.Tables.{past}
+use Rattle.cs_world.specs.Touched.{OthersStay}
 use Rattle.cs_world.proofs.ContextChange.{with_realms}
 use Rattle.cs_world.proofs.Delivered.{first_told, front_is, told_parents}
 use Rattle.cs_world.proofs.client.to_client.Goals as goal
@@ -34,8 +35,13 @@ deliver_snap-requires-clause-told c =
     record {
       told = m.realms;
       first = rw m.is at front;
-      after = c.in_ok-take_in-in-Snap.ensures ∙ ap (λ ts. with_records m.realms ts) c.requires.tables.realms;
+      after = c.in_ok-take_in-in-Snap.ensures.records ∙ ap (λ ts. with_records m.realms ts) c.requires.tables.realms;
     }
+
+pub deliver_snap-requires-clause-touched : goal.deliver_snap-requires-clause-touched
+deliver_snap-requires-clause-touched c =
+    subst (λ ts. OthersStay c.as_slice.result.now ts c.take_in.new.realms) c.requires.tables.realms
+    (subst (λ ds. OthersStay ds c.args.state.now.realms c.take_in.new.realms) (sym c.as_slice.ensures.value) c.in_ok-take_in-in-Snap.ensures.touched)
 
 pub unreachable-requires : goal.unreachable-requires
 unreachable-requires c =

@@ -2,7 +2,7 @@ use Rattle.std.proofs.Common.{◌∙◌, ◌++◌, refl, sym, ap, length, arith}
 use Rattle.std.proofs.lemmas.List.{length-reverse}
 use Rattle.cs_laws.specs.declared.answers.Answer.TheVariants as answers
 use Rattle.cs_laws.specs.History.{to_client}
-use Rattle.cs_records.specs.Commits.{told}
+use Rattle.cs_records.specs.CommitNews.{commit_news}
 use Rattle.cs_theorems.proofs.Counts.{fresh_few}
 use Rattle.cs_world.proofs.News.{news_told}
 use Rattle.cs_world.specs.Tables.{past}
@@ -28,7 +28,7 @@ returns-clause-ok c =
         made = t.made;
         sent_to_client =
             done.told
-            ∙ ((λ i. t.sent_to_client i ++ told (λ d. t.tree.paths d i) (t.tree.order i) (t.durable i) (t.fresh i))
+            ∙ ((λ i. t.sent_to_client i ++ commit_news (λ d. t.tree.paths d i) (t.tree.order i) (t.durable i) (t.fresh i))
             ∙ ap (λ ms. to_client h ++ ms) (sym (news_told s.pages h c.requires.run)));
         sent_to_server = t.sent_to_server;
         clock = t.clock;

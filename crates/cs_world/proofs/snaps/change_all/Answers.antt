@@ -1,7 +1,7 @@
 use Rattle.std.proofs.Common.{◌≡◌, ◌∙◌, ◌+◌, cond, take, take_all, arith}
 use Rattle.std.proofs.lemmas.List.{length-take}
 use Rattle.cs_tree.specs.Directories.{path_of}
-use Rattle.cs_world.proofs.Changed.{ChangesNext, front_more, front_without, next_rows, next_count, next_rises, count_small}
+use Rattle.cs_world.proofs.Changed.{ChangesNext, front_more, front_without, next_rows, next_count, next_rises, next_stays, count_small}
 use Rattle.cs_world.proofs.snaps.change_all.Goals as goal
 use Rattle.cs_world.proofs.snaps.change_all.Goals.{then-branch, else-branch}
 
@@ -16,6 +16,13 @@ change-requires-clause-rises c =
     let made = c.args.made.now in
     next_rises (path_of c.args.directories.now) c.args.realms.now c.args.files.now c.loop-file.files (take c.loop-file.file-index made) c.file-item.result c.loop-file.invariant.rows
     (front_without made c.loop-file.file-index c.file-item.result c.loop-file-test.true c.file-item.is c.requires.once) c.requires.rises
+
+pub change-requires-clause-stay : goal.change-requires-clause-stay
+change-requires-clause-stay c =
+    let made = c.args.made.now in
+    next_stays (path_of c.args.directories.now) c.args.realms.now c.args.touched.now c.args.files.now c.loop-file.files (take c.loop-file.file-index made)
+    c.file-item.result c.loop-file.invariant.rows
+    (front_without made c.loop-file.file-index c.file-item.result c.loop-file-test.true c.file-item.is c.requires.once) c.requires.stay
 
 pub loop-file-preserved : goal.loop-file-preserved
 loop-file-preserved c =

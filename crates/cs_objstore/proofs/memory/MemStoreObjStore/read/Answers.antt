@@ -12,8 +12,8 @@ returns-clause-bytes c =
     elim c.match-get.branch [
       | in-Some w ↦
           let found = found_is c.of.result obj c.self.inside.objects (Some w.in-Some.object.now) c.of.ensures.ino c.of.ensures.index w.in-Some.ensures.value in
-          reads_object c.args.at obj c.self.inside.ops c.args.self.now vs w.in-Some.object.now c.args.off c.match-get.out w.read.new.out w.out-is c.self.view_is found
-          (c.self.invariant.kept obj) w.read.ensures
+          reads_object c.args.at obj c.self.inside.ops c.args.self.now vs w.in-Some.object.now c.args.off c.match-get.out w.read.new.out w.out-is
+          c.self.view_is found (c.self.invariant.kept obj) w.read.ensures
       | in-None w ↦
           let found = found_is c.of.result obj c.self.inside.objects None c.of.ensures.ino c.of.ensures.index w.in-None.ensures.value in
           reads_object c.args.at obj c.self.inside.ops c.args.self.now vs [] c.args.off c.match-get.out w.fill.new.self w.out-is c.self.view_is found

@@ -11,4 +11,5 @@ returns c =
     let vs = c.self.inside.versions.items in
     let found = IsPartitionPoint-from_clause (λ (v : Version). nat_le s v.since) vs c.partition_point.result c.partition_point.ensures.partitioned
     (partitioned s vs c.self.invariant) (λ a r f k. search rules)
-    in sym (ap (newer s) (sym c.self.view_is) ∙ newer_found s c.partition_point.result vs (search rules) (λ k d h. found.0 k d (omega arith) h) (λ k d from to. found.1 k d from to))
+    in sym (ap (newer s) (sym c.self.view_is)
+    ∙ newer_found s c.partition_point.result vs (search rules) (λ k d h. found.0 k d (omega arith) h) (λ k d from to. found.1 k d from to))

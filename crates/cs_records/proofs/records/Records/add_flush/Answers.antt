@@ -1,5 +1,5 @@
 use Rattle.std.proofs.Common.{refl}
-use Rattle.cs_records.proofs.KeptNow.{kept_flush}
+use Rattle.cs_records.proofs.IndexedNow.{kept_flush}
 use Rattle.cs_records.proofs.records.Records.add_flush.Goals as goal
 
 pub invariant_of-self-2 : goal.invariant_of-self-2

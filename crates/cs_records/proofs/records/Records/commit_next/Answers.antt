@@ -2,11 +2,11 @@ use Rattle.std.proofs.Common.{◌∙◌, ◌<◌, ◌++◌, length, take, drop, 
 use Rattle.std.proofs.lemmas.List.{length-drop}
 use Rattle.indexmap.specs.IndexMap.{get}
 use Rattle.cs_tree.specs.Directories.{inos, path_of}
-use Rattle.cs_records.specs.Commits.{told}
-use Rattle.cs_records.specs.Realms.{own_in}
-use Rattle.cs_records.specs.Records.{Standing}
-use Rattle.cs_records.specs.Told.{message_by}
-use Rattle.cs_records.proofs.KeptNow.{kept_next, known_next, told_next}
+use Rattle.cs_records.specs.CommitNews.{commit_news}
+use Rattle.cs_records.specs.OwnTable.{own_in}
+use Rattle.cs_records.specs.Records.{RecordLog}
+use Rattle.cs_records.specs.NewsByTables.{message_by}
+use Rattle.cs_records.proofs.IndexedNow.{kept_next, known_next, told_next}
 use Rattle.cs_records.proofs.records.Records.commit_next.Goals as goal
 
 pub change_realm-requires : goal.change_realm-requires
@@ -49,4 +49,4 @@ returns-clause-told c =
     c.index.ensures c.in_ok-change_realm.ensures.ok c.self.invariant c.as_slice.ensures.distinct c.is_new_realm-is_new.ensures
     (c.in_ok-message.ensures ∙ ap (λ ys. message_by (get nat_eq s.dirs) (own_in c.change_realm.new.realms) ys c.is_new_realm-is_new.result c.index.result.now.body) c.as_slice.ensures.items) in
     c.in_ok-push_back.ensures.items
-    ∙ ap (λ ms. c.args.to_client.now.items ++ ms) (next ∙ ap (λ (v : Standing). told (path_of xs) (inos xs) v.durable (take 1 v.fresh)) c.self.view_is)
+    ∙ ap (λ ms. c.args.to_client.now.items ++ ms) (next ∙ ap (λ (v : RecordLog). commit_news (path_of xs) (inos xs) v.durable (take 1 v.fresh)) c.self.view_is)

@@ -1,7 +1,0 @@
-use Rattle.std.proofs.Common.{◌≡◌, take}
-use Rattle.std.specs.List.{filter_map}
-use Rattle.cs_records.specs.Realms.{changed_by, own_in}
-use Rattle.cs_records.proofs.realms.Realms.changed.Given as goal
-
-abbrev pub invariant-loop-directory : goal.invariant-loop-directory
-invariant-loop-directory l = l.told ≡ filter_map (changed_by (own_in l.self) l.dir l.is_new) (take l.directory-index l.directories)
