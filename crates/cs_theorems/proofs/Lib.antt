@@ -2,6 +2,7 @@
 pub mod Listed
 pub mod Tests
 pub mod Rising
+pub mod Ascending
 pub mod Numbers
 pub mod Orderings
 pub mod Overlays
@@ -58,12 +59,13 @@ pub mod QueueSteps
 pub mod QueueAnswers
 pub mod Unsent
 -- Flushes and acknowledgements
-pub mod Chains
-pub mod Places
+pub mod Replays
+pub mod Standing
+pub mod Numbered
+pub mod FlushReplays
 pub mod Acks
 pub mod Retired
 pub mod OnceStanding
-pub mod Numbered
 pub mod Unacked
 pub mod UnackedSteps
 pub mod Waiting

@@ -1,5 +1,5 @@
 -- What holds of each member of a list.
-use Rattle.std.proofs.Common.{refl, sym, List, [], ◌∷◌, ◌++◌, inl, inr, subst, reverse}
+use Rattle.std.proofs.Common.{refl, sym, List, [], ◌∷◌, ◌++◌, inl, inr, ◌⊎◌, ⊎_elim, subst, reverse}
 use Rattle.std.proofs.lemmas.List.{reverse-append}
 pub use Rattle.cs_laws.specs.Lists.{Member, Each}
 
@@ -34,3 +34,8 @@ member_left x (y ∷ xs) ys (inr m) = inr (member_left x xs ys m)
 pub member_right : {A : Type 0} (x : A) (xs ys : List A) → Member x ys → Member x (xs ++ ys)
 member_right x [] ys m = m
 member_right x (y ∷ xs) ys m = inr (member_right x xs ys m)
+
+pub member_cases : {A : Type 0} (x : A) (xs ys : List A) → Member x (xs ++ ys) → Member x xs ⊎ Member x ys
+member_cases x [] ys m = inr m
+member_cases x (y ∷ xs) ys (inl is) = inl (inl is)
+member_cases x (y ∷ xs) ys (inr m) = ⊎_elim (λ k. inl (inr k)) (λ k. inr k) (member_cases x xs ys m)
