@@ -18,13 +18,14 @@ use Rattle.cs_laws.specs.Flushes.{acked}
 use Rattle.cs_laws.specs.History.{durable, fresh, last_sent, server, to_client}
 use Rattle.cs_laws.specs.Journal.{entry}
 use Rattle.cs_laws.specs.Carried.{realms_of}
-use Rattle.cs_laws.specs.Standing.{has_flush, news, news_of, news_on}
+use Rattle.cs_laws.specs.Standing.{news, news_of, news_on}
 use Rattle.cs_snapctx.specs.Records.{with_records}
 use Rattle.cs_laws.specs.Tree.{directories, path}
 use Rattle.cs_laws.specs.Realms.{differing, realm_records}
 use Rattle.cs_laws.specs.Laws.{tids}
 use Rattle.cs_laws.specs.Runs.{IsRun}
 use Rattle.cs_theorems.proofs.Listed.{Member, Each, each_nil, each_cons, each_append, each_end, each_tail, member_left, member_right}
+use Rattle.cs_theorems.proofs.News.{each_again}
 use Rattle.cs_theorems.proofs.Rising.{at_first}
 use Rattle.cs_theorems.proofs.Standing.{flush_stands, tids_append}
 use Rattle.cs_theorems.proofs.Runs.{of_run}
@@ -96,15 +97,10 @@ acks_commit f up dirs ss ds fs q was i = record {
 }
 
 -- a flush came again
-again_stands : (f tid : ℕ) (ds : List Record) → Each (λ m. AckStands ds m) (acked_again f tid ds)
-again_stands f tid ds =
-    cond_both (has_flush f tid ds) _ _ (λ q. Each (λ m. AckStands ds m) q)
-    (λ there. each_cons (λ m. AckStands ds m) (messages.FlushAck f tid) [] (flush_stands f tid ds there) (each_nil (λ m. AckStands ds m)))
-    (λ _. each_nil (λ m. AckStands ds m))
-
 acks_again : (f g tid : ℕ) (ds : List Record) (q : List Message) (was : ℕ → Bool) → Acks f ds q was → Acks f ds (q ++ acked_again g tid ds) was
 acks_again f g tid ds q was i = record {
-  flying = each_append (λ m. AckStands ds m) q (acked_again g tid ds) i.flying (again_stands g tid ds);
+  flying = each_append (λ m. AckStands ds m) q (acked_again g tid ds) i.flying
+      (each_again (λ m. AckStands ds m) g tid ds (λ there. flush_stands g tid ds there));
   told = i.told;
 }
 

@@ -4,7 +4,7 @@ use Rattle.std.proofs.lemmas.Bool.{cond_both, eqb-true}
 use Rattle.std.proofs.lemmas.Bool.Decides.{nat_tests}
 use Rattle.cs_bits.specs.declared.Caps.{Caps}
 use Rattle.cs_bits.specs.Bits.{no_caps}
-use Rattle.cs_bits.proofs.Members.{covers-Has, no_member}
+use Rattle.cs_bits.proofs.Members.{covers-Has}
 use Rattle.cs_snapctx.specs.declared.realm.RealmRecord.{RealmRecord}
 use Rattle.cs_parts.specs.declared.capabilities.ClientCaps.{ClientCaps}
 use Rattle.cs_parts.specs.declared.capabilities.ServerCaps.{ServerCaps}
@@ -31,10 +31,11 @@ use Rattle.cs_laws.specs.Standing.{has_flush, news, news_of, news_on}
 use Rattle.cs_snapctx.specs.Records.{with_records}
 use Rattle.cs_laws.specs.Tree.{directories, path}
 use Rattle.cs_laws.specs.Laws.{HeldCoversImplemented, IsCovered}
-use Rattle.cs_theorems.proofs.Listed.{Each, each_nil, each_cons}
+use Rattle.cs_theorems.proofs.Listed.{each_nil, each_cons}
+use Rattle.cs_theorems.proofs.News.{each_again, each_news}
 use Rattle.cs_theorems.proofs.Rising.{at_first}
 use Rattle.cs_theorems.proofs.Runs.{in_every_prefix, of_run}
-use Rattle.cs_theorems.proofs.Held.{Within, Holds, Moves, Flying, Acked, cap_seq, cap_seqs, moves_granted, moves_revoked, holds_told, holds_beside, holds_delivered, holds_passed, holds_ack, holds_sent, holds_taken, holds_received}
+use Rattle.cs_theorems.proofs.Held.{Holds, Moves, Flying, Acked, cap_seq, cap_seqs, moves_granted, moves_revoked, none_within, holds_told, holds_beside, holds_delivered, holds_passed, holds_ack, holds_sent, holds_taken, holds_received}
 use Rattle.cs_theorems.proofs.Inversions.{FlushIs, head_unknown, head_snap, head_clean, head_sent, flush_is, CheckIs, check_unknown, check_nothing, check_hold, check_ack, check_is, FlushSnapsIs, flush_unknown, flush_none, flush_writing, flush_sent, flush_snaps_is, FirstIs, first_idle, first_cap, first_flush_ack, first_snap, first_is, ReceivedIs, received_idle, received_ack, received_flush, received_again, received_is, GrantIs, grant_unknown, grant_sent, grant_is, revoke_is}
 
 differs : (g f : ℕ) → (g == f) ≡ false → g ≡ f → ⊥
@@ -89,23 +90,9 @@ told_flies f s before realms (bodies.Flush snap g tid follows meta) = tt
 told_flies f s before realms (bodies.Snap number d name) = tt
 told_flies f s before realms (bodies.Removal t number) = tt
 
-all_told_fly : (f : ℕ) (s : ServerCaps) (up : ℕ → List ℕ) (dirs : List ℕ) (ss : List RealmRecord) (before rs : List Record)
-    → Each (λ m. Flying f s m) (news up dirs ss before rs)
-all_told_fly f s up dirs ss before [] = each_nil (λ m. Flying f s m)
-all_told_fly f s up dirs ss before (r ∷ rs) =
-    let m : Message = news_on up dirs ss before r in
-    let now : List RealmRecord = with_records (realms_of m) ss in
-    each_cons (λ k. Flying f s k) m (news up dirs now (before ++ r ∷ []) rs)
-    (told_flies f s before (differing ss (realm_records up dirs (before ++ r ∷ []))) r.body) (all_told_fly f s up dirs now (before ++ r ∷ []) rs)
-
 -- nor does the acknowledgement of a flush that came again
 no_seq_again : (f g tid : ℕ) (ds : List Record) → cap_seqs f (acked_again g tid ds) ≡ []
 no_seq_again f g tid ds = cond_both (has_flush g tid ds) _ _ (λ q. cap_seqs f q ≡ []) (λ _. refl) (λ _. refl)
-
-again_flies : (f : ℕ) (s : ServerCaps) (g tid : ℕ) (ds : List Record) → Each (λ m. Flying f s m) (acked_again g tid ds)
-again_flies f s g tid ds =
-    cond_both (has_flush g tid ds) _ _ (λ q. Each (λ m. Flying f s m) q)
-    (λ _. each_cons (λ m. Flying f s m) (messages.FlushAck g tid) [] tt (each_nil (λ m. Flying f s m))) (λ _. each_nil (λ m. Flying f s m))
 
 -- Steps
 
@@ -182,12 +169,15 @@ step_to_server h x (received_again y p is again) i = λ f.
     let acks : List Message = acked_again y.file y.tid (durable h) in
     at_first (λ q. Server h f q) (λ q. Holds f (server h f) (client h f) (to_client h ++ acks) q) (flush_message y) p (to_server h) is
     (λ j. holds_beside f (server h f) (client h f) (to_client h) p acks (no_seq_again f y.file y.tid (durable h))
-    (again_flies f (server h f) y.file y.tid (durable h)) (holds_taken f (server h f) (client h f) (to_client h) p (flush_message y) j)) (i f)
+    (each_again (λ m. Flying f (server h f) m) y.file y.tid (durable h) (λ _. tt))
+    (holds_taken f (server h f) (client h f) (to_client h) p (flush_message y) j)) (i f)
 
 step_commit : (h : List Entry) (x : ℕ) → AllHold h → AllHold (record { event = e.Commit; answer = a.Commit x } ∷ h)
 step_commit h x i = λ f.
-    holds_beside f (server h f) (client h f) (to_client h) (to_server h) (news (λ d. path h d) (directories h) (last_sent h) (durable h) (fresh h))
-    (no_seqs_told f (λ d. path h d) (directories h) (last_sent h) (durable h) (fresh h)) (all_told_fly f (server h f) (λ d. path h d) (directories h) (last_sent h) (durable h) (fresh h)) (i f)
+    let up : ℕ → List ℕ = λ d. path h d in
+    holds_beside f (server h f) (client h f) (to_client h) (to_server h) (news up (directories h) (last_sent h) (durable h) (fresh h))
+    (no_seqs_told f up (directories h) (last_sent h) (durable h) (fresh h))
+    (each_news (λ m. Flying f (server h f) m) (told_flies f (server h f)) up (directories h) (last_sent h) (durable h) (fresh h)) (i f)
 
 hold_step : (p : ℕ) (h : List Entry) (x : Event) → AllHold h → AllHold (entry p h x ∷ h)
 hold_step p h (e.Grant g bits end) i = step_grant h g bits end _ (grant_is h g bits end) i
@@ -199,9 +189,6 @@ hold_step p h (e.Flush g) i = step_flush h g _ (flush_is h g) i
 hold_step p h (e.FlushSnaps g) i = step_flush_snaps h g _ (flush_snaps_is h g) i
 hold_step p h e.Commit i = step_commit h (length (fresh h)) i
 hold_step p h _ i = i
-
-none_within : (x : Caps) → Within no_caps x
-none_within x = record { each = λ k has. absurd (no_member k has) }
 
 nothing_held : AllHold []
 nothing_held = λ f. record {

@@ -11,6 +11,7 @@ pub mod Pieces
 pub mod Runs
 pub mod Inversions
 pub mod Refused
+pub mod News
 -- References and their uses
 pub mod Begun
 pub mod Uses
@@ -19,6 +20,7 @@ pub mod AcksFree
 -- Capabilities, at both ends and on their way
 pub mod Held
 pub mod HeldCovers
+pub mod CapsFit
 -- Files that aren't known, counts and limits
 pub mod Blank
 pub mod Untouched
@@ -81,6 +83,9 @@ pub mod Owing
 pub mod Recorded
 pub mod RecordedSteps
 pub mod RecordedPlaces
+-- What has a spelling in bytes
+pub mod MetaFits
+pub mod Spelled
 -- Contents, and all together
 pub mod Images
 pub mod Course

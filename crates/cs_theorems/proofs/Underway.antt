@@ -1,5 +1,5 @@
 -- Messages on their way are of known files, and so are the flushes of the server's log.
-use Rattle.std.proofs.Common.{◌≡◌, refl, sym, subst, ℕ, true, List, [], ◌∷◌, ◌++◌, Option, Some, None, inl, drop}
+use Rattle.std.proofs.Common.{◌≡◌, refl, ℕ, true, List, [], ◌∷◌, ◌++◌, Option, Some, None, inl, drop}
 use Rattle.std.specs.Option.{option_map}
 use Rattle.std.proofs.lemmas.Bool.{cond_both}
 use Rattle.cs_bits.specs.declared.Caps.{Caps}
@@ -26,13 +26,14 @@ use Rattle.cs_laws.specs.Tree.{directories, path}
 use Rattle.cs_laws.specs.Events.{setup_file, setup_file_then, client_knows, server_knows}
 use Rattle.cs_laws.specs.History.{client, durable, fresh, last_sent, server, to_client, to_server, used}
 use Rattle.cs_laws.specs.Journal.{entry}
-use Rattle.cs_laws.specs.Standing.{has_flush, news, news_of, news_on, recorded, recorded_of}
+use Rattle.cs_laws.specs.Standing.{news, news_of, news_on, recorded, recorded_of}
 use Rattle.cs_snapctx.specs.Records.{with_records}
 use Rattle.cs_laws.specs.Runs.{IsRun}
 use Rattle.cs_theorems.specs.Underway.{ForClient, ForServer, IfFile, IsToldClient, IsToldServer}
 use Rattle.cs_theorems.proofs.Inversions.{FlushIs, head_unknown, head_snap, head_clean, head_sent, flush_is, FlushSnapsIs, flush_unknown, flush_none, flush_writing, flush_sent, flush_snaps_is, FirstIs, first_idle, first_cap, first_flush_ack, first_snap, first_is, ReceivedIs, received_idle, received_ack, received_flush, received_again, received_is, SnapIs, snap_unknown, snap_exists, snap_taken, snap_is, RemoveIs, remove_none, remove_gone, removed, remove_is}
 use Rattle.cs_theorems.proofs.Known.{known_then}
-use Rattle.cs_theorems.proofs.Listed.{Each, Member, each_nil, each_cons, each_append, each_end, each_tail}
+use Rattle.cs_theorems.proofs.Listed.{Each, each_nil, each_cons, each_append, each_drop, each_end, each_tail, member_first}
+use Rattle.cs_theorems.proofs.News.{each_again}
 use Rattle.cs_theorems.proofs.Runs.{of_run}
 
 -- the file of the flush that a record tells of
@@ -53,10 +54,6 @@ pub record Flies (Known : ℕ → Type 0) (q p : List Message) (ds fs : List Rec
   pub received : Each (ForServer Known) p
   pub durable : Each (λ x. ForLog Known x.body) ds
   pub fresh : Each (λ x. ForLog Known x.body) fs
-
-each_drop : {A : Type 0} (P : A → Type 0) (xs : List A) → Each P xs → Each P (drop 1 xs)
-each_drop P [] ps = ps
-each_drop P (x ∷ xs) ps = each_tail P x xs ps
 
 -- More files are known
 
@@ -224,21 +221,15 @@ flies_acked Known q p ds fs i = record {
 pub flush_known : (Known : ℕ → Type 0) (x : Flush) → IfFile Known (file_of (flush_message x)) → Known x.file
 flush_known Known x = cond_both x.snap _ _ (λ m. IfFile Known (file_of m) → Known x.file) (λ _ k. k) (λ _ k. k)
 
--- a flush that came again is acknowledged
-each_again : (Known : ℕ → Type 0) (f tid : ℕ) (ds : List Record) → Known f → Each (ForClient Known) (acked_again f tid ds)
-each_again Known f tid ds k =
-    cond_both (has_flush f tid ds) _ _ (λ q. Each (ForClient Known) q)
-    (λ _. each_cons (ForClient Known) (messages.FlushAck f tid) [] (refl, k) (each_nil (ForClient Known))) (λ _. each_nil (ForClient Known))
-
 step_to_mds : (h : List Entry) (x : Answer) → ReceivedIs h x → AllFly h → AllFly (record { event = e.ToMds; answer = x } ∷ h)
 step_to_mds h x received_idle i = i
 step_to_mds h x (received_ack g seq bits q is) i = flies_acked _ _ _ _ _ i
 step_to_mds h x (received_flush y q is first) i =
     flies_received _ _ _ _ _ (recorded (to_server h)) (each_recorded (IsKnown h) (to_server h) i.received) i
 step_to_mds h x (received_again y q is again) i =
-    let there : Member (flush_message y) (to_server h) = subst (λ p. Member (flush_message y) p) (sym is) (inl refl) in
-    let known : IsKnown h y.file = flush_known (IsKnown h) y (i.received (flush_message y) there).1 in
-    flies_acked _ _ _ _ _ (flies_more_told _ _ _ _ _ (acked_again y.file y.tid (durable h)) (each_again (IsKnown h) y.file y.tid (durable h) known) i)
+    let known : IsKnown h y.file = flush_known (IsKnown h) y (i.received (flush_message y) (member_first (flush_message y) q (to_server h) is)).1 in
+    let told = each_again (ForClient (IsKnown h)) y.file y.tid (durable h) (λ _. (refl, known)) in
+    flies_acked _ _ _ _ _ (flies_more_told _ _ _ _ _ (acked_again y.file y.tid (durable h)) told i)
 
 step_snap : (h : List Entry) (d : ℕ) (name : List ℕ) (x : Answer) → SnapIs h d name x → AllFly h → AllFly (record { event = e.Snap d name; answer = x } ∷ h)
 step_snap h d name x snap_unknown i = i
