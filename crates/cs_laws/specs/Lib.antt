@@ -15,6 +15,7 @@ pub mod Image
 pub mod Journal
 pub mod Laws
 pub mod Lists
+pub mod Logged
 pub mod Metadata
 pub mod Objects
 pub mod Operations
