@@ -8,7 +8,6 @@ use Rattle.cs_parts.specs.References.{is_writer_of}
 use Rattle.cs_inode.specs.declared.answers.Allow.TheVariants as allow
 use Rattle.cs_inode.specs.Answers.{allowance}
 use Rattle.cs_inode.specs.Inodes.{FileInode}
-use Rattle.cs_capsnap.specs.CapSnaps as kept
 use Rattle.cs_laws.specs.declared.events.Event.TheVariants as events
 use Rattle.cs_laws.specs.declared.answers.Answer.TheVariants as answers
 use Rattle.cs_laws.specs.declared.answers.Why.TheVariants as why
@@ -41,22 +40,6 @@ begin_said p h run c f bits end known =
     rw known (rw (queue_writing p h run f)
     (tests_alike (length (live h)) (begun h c) (context h f).seq (covers (client h f).issued bits) (may_write bits && is_writing (live h) (queued h f))
     (may_write bits && nat_lt (client h f).max end)))
-
--- what holds where the file allows it: none of its cap snaps is writing, if the reference may write, and this is the tag
-pub record Allowed (h : List Entry) (f : ℕ) (bits : Caps) (tag : ℕ) : Type 0 where
-  pub free : (may_write bits && kept.is_writing (inode h f).snaps) ≡ false
-  pub tag_is : tag ≡ (context h f).seq
-
-pub allowed : (h : List Entry) (f : ℕ) (bits : Caps) (end tag : ℕ) → allow.Yes tag ≡ allowance bits end (inode h f) → Allowed h f bits tag
-allowed h f bits end tag is =
-    at (covers (client h f).issued bits) (may_write bits && kept.is_writing (inode h f).snaps) refl (may_write bits && nat_lt (client h f).max end) is
-  where
-    at : (a b : Bool) → (may_write bits && kept.is_writing (inode h f).snaps) ≡ b → (d : Bool)
-        → allow.Yes tag ≡ cond a (cond b allow.Snap (cond d allow.Max (allow.Yes (context h f).seq))) allow.NoCaps → Allowed h f bits tag
-    at true false e false same = record { free = e; tag_is = cc }
-    at true true e d same = absurd cc
-    at true false e true same = absurd cc
-    at false b e d same = absurd cc
 
 -- What is kept afterwards
 

@@ -1,5 +1,5 @@
 -- The end of a reference: what it makes of what is kept of its file.
-use Rattle.std.proofs.Common.{◌≡◌, ◌∙◌, refl, sym, ap, ℕ, ◌+◌, ◌-◌, ◌≤◌, ◌==◌, ◌&&◌, not, Bool, true, false, cond, List, [], ◌∷◌, Some, arith}
+use Rattle.std.proofs.Common.{◌≡◌, ◌∙◌, refl, sym, ap, ℕ, ◌+◌, ◌-◌, ◌==◌, ◌&&◌, not, Bool, true, false, cond, List, [], ◌∷◌, Some, arith}
 use Rattle.std.proofs.lemmas.Bool.{and_left, eq-eqb}
 use Rattle.cs_parts.specs.declared.references.Live.{Live}
 use Rattle.cs_parts.specs.References.{has_ref, is_ref, is_writer_of, ref_named}
@@ -29,7 +29,7 @@ abbrev ending : ℕ → RefName → List Entry → List Entry
 ending c name h = record { event = events.End c name; answer = answers.Ended } ∷ h
 
 -- the reference that ends
-pub record Ends (h : List Entry) (c : ℕ) (name : RefName) (r : Live) : Type 0 where
+record Ends (h : List Entry) (c : ℕ) (name : RefName) (r : Live) : Type 0 where
   pub can : can_end c name (live h) ≡ true
   pub is : named c name (live h) ≡ Some r
 
@@ -110,7 +110,3 @@ end_row p h run c name f is =
     can : (b : Bool) → answers.Ended ≡ cond b answers.Ended answers.Unknown → b ≡ true
     can true e = refl
     can false e = absurd cc
-
--- a writer that ends is counted
-pub writer_counted : (h : List Entry) (c : ℕ) (name : RefName) (r : Live) → Ends h c name r → may_write r.bits ≡ true → 1 ≤ writers_of r.file (live h)
-writer_counted h c name r ends may = omega (arith, counted h c name r r.file true ends (rw (eq-eqb r.file r.file refl, may) refl))

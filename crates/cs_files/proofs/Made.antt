@@ -1,11 +1,12 @@
 -- A line makes a directory or a file: what is kept of a file that was made is what a new file has, and of others it stays.
-use Rattle.std.proofs.Common.{◌≡◌, ◌∙◌, refl, sym, ap, subst, ℕ, ◌==◌, not, Bool, true, false, cond, List, ◌∷◌}
-use Rattle.std.proofs.lemmas.Bool.{and_parts, both_ways, eqb-true, false_from_ne_true, or_parts}
+use Rattle.std.proofs.Common.{◌≡◌, ◌∙◌, refl, sym, ap, subst, ℕ, ◌==◌, not, Bool, true, false, cond, List, ◌∷◌, Some}
+use Rattle.std.proofs.lemmas.Bool.{eq-eqb, and_parts, both_ways, eqb-true, false_from_ne_true, or_parts}
 use Rattle.cs_parts.specs.declared.references.Live.{Live}
 use Rattle.cs_parts.specs.References.{is_writer_of}
 use Rattle.cs_snapctx.specs.Context.{Context}
 use Rattle.cs_inode.specs.Inodes.{FileInode, new_inode}
 use Rattle.cs_laws.specs.declared.events.Event.TheVariants as events
+use Rattle.cs_laws.specs.declared.events.RefName.{RefName}
 use Rattle.cs_laws.specs.declared.answers.Answer.{Answer}
 use Rattle.cs_laws.specs.declared.answers.Answer.TheVariants as answers
 use Rattle.cs_laws.specs.declared.answers.Entry.{Entry}
@@ -14,14 +15,16 @@ use Rattle.cs_laws.specs.CapSnaps.{has_writer}
 use Rattle.cs_laws.specs.Context.{path_context}
 use Rattle.cs_laws.specs.Events.{client_knows, server_knows}
 use Rattle.cs_laws.specs.History.{context, live, realms}
+use Rattle.cs_laws.specs.References.{named}
 use Rattle.cs_laws.specs.Runs.{IsRun}
-use Rattle.cs_laws.specs.Tree.{client_file_path, server_dir}
+use Rattle.cs_laws.specs.Tree.{client_file_path, client_home, client_path, server_dir}
 use Rattle.cs_theorems.proofs.Course.{course_run}
 use Rattle.cs_theorems.proofs.Known.{live_known}
 use Rattle.cs_theorems.proofs.Paths.{dir_path}
 use Rattle.cs_theorems.proofs.QueueAnswers.{count_none}
 use Rattle.cs_theorems.proofs.Tests.{any_some}
 use Rattle.cs_theorems.proofs.Untouched.{IsUntouchedAt, untouched}
+use Rattle.cs_theorems.proofs.Uses.{named_is}
 use Rattle.cs_files.specs.Rows.{inode, writers_of}
 
 -- Of a file that isn't known nothing was issued, and nothing was written
@@ -42,6 +45,12 @@ is_new : (h : List Entry) (f : ℕ) (ctx : Context) → IsUntouchedAt h f → wr
     → (let i : FileInode = record (inode h f) { context = ctx } in i) ≡ new_inode f ctx
 is_new h f ctx i none = rw (i.client, i.writes, i.mode, i.dirty, i.snaps, i.unacked, none) refl
 
+pub new_is : (p : ℕ) (h : List Entry) → IsRun p h → (f : ℕ) → client_knows h f ≡ false → inode h f ≡ new_inode f (context h f)
+new_is p h run f unknown = is_new h f (context h f) (untouched p h run f unknown) (none_write p h f run unknown)
+
+pub named_known : (p : ℕ) (h : List Entry) → IsRun p h → (c : ℕ) (name : RefName) (r : Live) → named c name (live h) ≡ Some r → client_knows h r.file ≡ true
+named_known p h run c name r is = live_known p h run r (named_is c name r (live h) is).1
+
 -- A file
 
 abbrev making : ℕ → ℕ → List Entry → List Entry
@@ -54,6 +63,10 @@ free h i d is = at (is_in_use h i) (server_dir h d) is
     at : (b c : Bool) → answers.Made ≡ cond b answers.Exists (cond c answers.Made answers.NoDir) → b ≡ false
     at false c e = refl
     at true c e = absurd cc
+
+-- its context is that of its directory
+pub context_made : (h : List Entry) (f d : ℕ) → context (making f d h) f ≡ path_context (client_path h d) (realms h)
+context_made h f d = ap (λ b. path_context (client_path h (cond b d (client_home h f))) (realms h)) (eq-eqb f f refl)
 
 others_made : (h : List Entry) (g d f : ℕ) → (g == f) ≡ false → inode (making g d h) f ≡ inode h f
 others_made h g d f other = rw other refl

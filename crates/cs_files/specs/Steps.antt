@@ -1,6 +1,6 @@
 -- What each event makes of what the client keeps of a file, by the functions that say what the calls of `Inode` do. Functions go
 -- by the event first, and then by its answer.
-use Rattle.std.specs.Prelude.{ℕ, ◌+◌, ◌==◌, ◌&&◌, Bool, List, Option, Some, None, length, if◌then◌else◌}
+use Rattle.std.specs.Prelude.{ℕ, ◌+◌, ◌==◌, ◌&&◌, Bool, List, [], ◌∷◌, Option, Some, None, length, if◌then◌else◌}
 use Rattle.cs_bits.specs.declared.Caps.{Caps}
 use Rattle.cs_parts.specs.declared.references.Live.{Live}
 use Rattle.cs_parts.specs.Capabilities.{acknowledged, delivered}
@@ -35,6 +35,11 @@ needs_snap_at new i = differs i.context new && needs_snap i
 
 abbrev pub with_context_at : Context → FileInode → FileInode
 with_context_at new i = if differs i.context new then with_context new i else i
+
+-- how many of these files need a cap snap
+abbrev pub count_needed : (ℕ → Bool) → List ℕ → ℕ
+count_needed needs [] = 0
+count_needed needs (f ∷ fs) = (if needs f then 1 else 0) + count_needed needs fs
 
 -- what is done on a reference is done to its file
 abbrev pub on_file : Option Live → (Live → FileInode → FileInode) → ℕ → FileInode → FileInode
