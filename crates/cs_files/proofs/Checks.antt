@@ -16,16 +16,19 @@ use Rattle.cs_files.specs.Rows.{inode}
 use Rattle.cs_files.specs.Said.{check_said}
 use Rattle.cs_files.specs.Steps.{acked}
 
+-- b, d: whether nothing is left to acknowledge, and whether nothing that was taken back is in use
 same_tests : (b d : Bool) (seq : ℕ) (issued held : Caps)
-    → cond b answers.Nothing (cond d (answers.Ack seq issued) (answers.Hold held)) ≡ check_said (cond b done.Nothing (cond d (done.Ack seq issued) (done.Hold held)))
+    → cond b answers.Nothing (cond d (answers.Ack seq issued) (answers.Hold held))
+    ≡ check_said (cond b done.Nothing (cond d (done.Ack seq issued) (done.Hold held)))
 same_tests true d seq issued held = refl
 same_tests false true seq issued held = refl
 same_tests false false seq issued held = refl
 
 pub check_is : (h : List Entry) (f : ℕ) → client_knows h f ≡ true → answer_check h f ≡ check_said (check_answer (used_in f (live h)) (inode h f))
 check_is h f known =
+    let held : Caps = held_back (client h f) (used h f) in
     ap (λ b. cond b (answer_check_of (client h f) (used h f)) answers.Unknown) known
-    ∙ same_tests (is_complete (client h f)) (is_empty (held_back (client h f) (used h f))) (client h f).seq (client h f).issued (held_back (client h f) (used h f))
+    ∙ same_tests (is_complete (client h f)) (is_empty held) (client h f).seq (client h f).issued held
 
 pub check_row : (h : List Entry) (g seq : ℕ) (bits : Caps) (f : ℕ)
     → inode (record { event = events.Check g; answer = answers.Ack seq bits } ∷ h) f ≡ cond (g == f) (acked seq bits (inode h f)) (inode h f)

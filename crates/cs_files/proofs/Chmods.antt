@@ -33,22 +33,19 @@ chmod_is p h run c name r here may =
 
 -- What is kept afterwards
 
-abbrev changing : ℕ → RefName → ℕ → List Entry → List Entry
-changing c name mode h = record { event = events.Chmod c name mode; answer = answers.Done } ∷ h
+module _ (h : List Entry) (c : ℕ) (name : RefName) (mode : ℕ) where
+  abbrev changing : List Entry
+  changing = record { event = events.Chmod c name mode; answer = answers.Done } ∷ h
 
-changed_is : (h : List Entry) (c : ℕ) (name : RefName) (mode : ℕ) (r : Live) → named c name (live h) ≡ Some r → inode (changing c name mode h) r.file ≡ with_mode mode (inode h r.file)
-changed_is h c name mode r here = let own : (r.file == r.file) ≡ true = eq-eqb r.file r.file refl in rw (here, own) refl
+  changed_is : (r : Live) → named c name (live h) ≡ Some r → inode changing r.file ≡ with_mode mode (inode h r.file)
+  changed_is r here = let own : (r.file == r.file) ≡ true = eq-eqb r.file r.file refl in rw (here, own) refl
 
-others_changed : (h : List Entry) (c : ℕ) (name : RefName) (mode : ℕ) (r : Live) (g : ℕ) → named c name (live h) ≡ Some r → (r.file == g) ≡ false
-    → inode (changing c name mode h) g ≡ inode h g
-others_changed h c name mode r g here other = rw (here, other) refl
+  others_changed : (r : Live) (g : ℕ) → named c name (live h) ≡ Some r → (r.file == g) ≡ false → inode changing g ≡ inode h g
+  others_changed r g here other = rw (here, other) refl
 
-pub chmod_row : (h : List Entry) (c : ℕ) (name : RefName) (mode f : ℕ)
-    → inode (changing c name mode h) f ≡ on_file (named c name (live h)) (λ r. with_mode mode) f (inode h f)
-chmod_row h c name mode f = at (named c name (live h)) refl
-  where
-    at : (o : Option Live) → named c name (live h) ≡ o → inode (changing c name mode h) f ≡ on_file o (λ r. with_mode mode) f (inode h f)
-    at None here = rw here refl
-    at (Some r) here =
-        by_file (λ k. inode h k) (λ k. inode (changing c name mode h) k) (with_mode mode) r.file f (changed_is h c name mode r here)
-        (others_changed h c name mode r f here)
+  pub chmod_row : (f : ℕ) → inode changing f ≡ on_file (named c name (live h)) (λ r. with_mode mode) f (inode h f)
+  chmod_row f = at (named c name (live h)) refl
+    where
+      at : (o : Option Live) → named c name (live h) ≡ o → inode changing f ≡ on_file o (λ r. with_mode mode) f (inode h f)
+      at None here = rw here refl
+      at (Some r) here = by_file (λ k. inode h k) (λ k. inode changing k) (with_mode mode) r.file f (changed_is r here) (others_changed r f here)

@@ -33,7 +33,8 @@ writers_begin g (r ∷ rs) n =
     omega (arith, first_counts w r rs, first_counts w r (rs ++ n ∷ []), writers_begin g rs n)
 
 -- one reference less
-writers_without : (g c n : ℕ) (r : Live) (rs : List Live) → ref_named c n rs ≡ Some r → writers_of g rs ≡ writers_of g (without_ref c n rs) + cond (is_writer_of g r) 1 0
+writers_without : (g c n : ℕ) (r : Live) (rs : List Live) → ref_named c n rs ≡ Some r
+    → writers_of g rs ≡ writers_of g (without_ref c n rs) + cond (is_writer_of g r) 1 0
 writers_without g c n r [] is = absurd cc
 writers_without g c n r (y ∷ ys) is = at (is_ref c n y) is (λ e. writers_without g c n r ys e)
   where
@@ -43,7 +44,9 @@ writers_without g c n r (y ∷ ys) is = at (is_ref c n y) is (λ e. writers_with
     at : (b : Bool) → cond b (Some y) (ref_named c n ys) ≡ Some r
         → (ref_named c n ys ≡ Some r → writers_of g ys ≡ writers_of g (without_ref c n ys) + cond (is_writer_of g r) 1 0)
         → writers_of g (y ∷ ys) ≡ writers_of g (cond b ys (y ∷ without_ref c n ys)) + cond (is_writer_of g r) 1 0
-    at true e rest = let same : y ≡ r = cc in subst (λ z. writers_of g (y ∷ ys) ≡ writers_of g ys + cond (is_writer_of g z) 1 0) same (omega (arith, first_counts w y ys))
+    at true e rest =
+        let same : y ≡ r = cc in
+        subst (λ z. writers_of g (y ∷ ys) ≡ writers_of g ys + cond (is_writer_of g z) 1 0) same (omega (arith, first_counts w y ys))
     at false e rest = omega (arith, first_counts w y ys, first_counts w y (without_ref c n ys), rest e)
 
 pub writers_end : (g c : ℕ) (name : RefName) (r : Live) (rs : List Live) → can_end c name rs ≡ true → named c name rs ≡ Some r

@@ -18,7 +18,8 @@ pub cap_row : (h : List Entry) (g seq : ℕ) (bits : Caps) (end f : ℕ)
     → inode (record { event = events.ToClient; answer = answers.Cap g seq bits end } ∷ h) f ≡ cond (g == f) (with_caps bits seq end (inode h f)) (inode h f)
 cap_row h g seq bits end f = at (g == f)
   where
-    at : (b : Bool) → record (inode h f) { caps = cond b (delivered (client h f) bits seq end) (client h f) } ≡ cond b (with_caps bits seq end (inode h f)) (inode h f)
+    at : (b : Bool) → record (inode h f) { caps = cond b (delivered (client h f) bits seq end) (client h f) }
+        ≡ cond b (with_caps bits seq end (inode h f)) (inode h f)
     at true = refl
     at false = refl
 

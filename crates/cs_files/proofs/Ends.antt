@@ -24,73 +24,18 @@ use Rattle.cs_files.specs.Steps.{on_file, stopped}
 use Rattle.cs_files.proofs.ByFile.{by_file}
 use Rattle.cs_files.proofs.Counting.{last_ends, writers_end, writers_stay}
 
--- the entry of an end of a caller's own reference
-abbrev ending : ℕ → RefName → List Entry → List Entry
-ending c name h = record { event = events.End c name; answer = answers.Ended } ∷ h
-
 -- the reference that ends
 record Ends (h : List Entry) (c : ℕ) (name : RefName) (r : Live) : Type 0 where
   pub can : can_end c name (live h) ≡ true
   pub is : named c name (live h) ≡ Some r
-
-abbrev left : List Entry → ℕ → RefName → List Live
-left h c name = without_named c name (live h)
-
-abbrev with_parts : List Entry → ℕ → List CapSnap → ℕ → FileInode
-with_parts h g xs n = record (inode h g) { snaps = xs; writers = n }
-
-counted : (h : List Entry) (c : ℕ) (name : RefName) (r : Live) (g : ℕ) (b : Bool) → Ends h c name r → is_writer_of g r ≡ b
-    → writers_of g (live h) ≡ writers_of g (left h c name) + cond b 1 0
-counted h c name r g b ends is = writers_end g c name r (live h) ends.can ends.is ∙ ap (λ t. writers_of g (left h c name) + cond t 1 0) is
-
--- the snaps of a file after the end
-abbrev finished_if : List Entry → ℕ → Bool → List CapSnap
-finished_if h g b = cond b (finished (size (writes h g)) (mtime (writes h g)) (snaps h g)) (snaps h g)
-
-inode_after : (h : List Entry) (c : ℕ) (name : RefName) (r : Live) (g : ℕ) → Ends h c name r
-    → inode (ending c name h) g
-    ≡ with_parts h g (finished_if h g ((r.file == g) && (is_writing (snaps h g) && not (has_writer g (left h c name))))) (writers_of g (left h c name))
-inode_after h c name r g ends = rw ends.is refl
-
--- where the reference is no writer of the file, nothing changes
-stays : (p : ℕ) (h : List Entry) (c : ℕ) (name : RefName) (r : Live) (g : ℕ) → IsRun p h → Ends h c name r → is_writer_of g r ≡ false
-    → inode (ending c name h) g ≡ inode h g
-stays p h c name r g run ends no_writer =
-    let same : writers_of g (live h) ≡ writers_of g (left h c name) = omega (arith, counted h c name r g false ends no_writer) in
-    inode_after h c name r g ends
-    ∙ (ap (λ n. with_parts h g (finished_if h g ((r.file == g) && (is_writing (snaps h g) && not (has_writer g (left h c name))))) n) (sym same)
-    ∙ ap (λ b. with_parts h g (finished_if h g b) (writers_of g (live h))) (at (r.file == g) (is_writing (snaps h g)) refl (writers_stay g (live h) (left h c name) same)))
-  where
-    at : (b w : Bool) → is_writing (snaps h g) ≡ w → has_writer g (left h c name) ≡ has_writer g (live h) → (b && (w && not (has_writer g (left h c name)))) ≡ false
-    at false w is same = refl
-    at true false is same = refl
-    at true true is same = ap not (same ∙ writing_has_writer p h run g is)
-
-stopped_is : (p : ℕ) (h : List Entry) (c : ℕ) (name : RefName) (r : Live) → IsRun p h → Ends h c name r → inode (ending c name h) r.file ≡ stopped r.bits (inode h r.file)
-stopped_is p h c name r run ends = sym (at (may_write r.bits) refl)
-  where
-    f : ℕ
-    f = r.file
-
-    own : (r.file == r.file) ≡ true
-    own = eq-eqb r.file r.file refl
-
-    at : (b : Bool) → may_write r.bits ≡ b
-        → cond b (with_parts h f (finished_if h f (is_writing (snaps h f) && (writers_of f (live h) == 1))) (writers_of f (live h) - 1)) (inode h f) ≡ inode (ending c name h) f
-    at true may =
-        let fewer : writers_of f (live h) ≡ writers_of f (left h c name) + 1 = counted h c name r f true ends (rw (own, may) refl) in
-        ap (λ n. with_parts h f (finished_if h f (is_writing (snaps h f) && (writers_of f (live h) == 1))) n) (omega (arith, fewer))
-        ∙ (ap (λ b. with_parts h f (finished_if h f (is_writing (snaps h f) && b)) (writers_of f (left h c name))) (sym (last_ends f (live h) (left h c name) fewer))
-        ∙ (ap (λ b. with_parts h f (finished_if h f (b && (is_writing (snaps h f) && not (has_writer f (left h c name))))) (writers_of f (left h c name))) (sym own)
-        ∙ sym (inode_after h c name r f ends)))
-    at false none = sym (stays p h c name r f run ends (rw (own, none) refl))
 
 -- a reference that can end is named
 there : (c n : ℕ) (rs : List Live) → has_ref c n rs ≡ true → (r : Live) × (ref_named c n rs ≡ Some r)
 there c n [] has = absurd cc
 there c n (r ∷ rs) has = at (is_ref c n r) has (λ more. there c n rs more)
   where
-    at : (b : Bool) → cond b true (has_ref c n rs) ≡ true → (has_ref c n rs ≡ true → (q : Live) × (ref_named c n rs ≡ Some q)) → (q : Live) × (cond b (Some r) (ref_named c n rs) ≡ Some q)
+    at : (b : Bool) → cond b true (has_ref c n rs) ≡ true → (has_ref c n rs ≡ true → (q : Live) × (ref_named c n rs ≡ Some q))
+        → (q : Live) × (cond b (Some r) (ref_named c n rs) ≡ Some q)
     at true has rest = (r, refl)
     at false has rest = rest has
 
@@ -98,15 +43,69 @@ ends_one : (h : List Entry) (c : ℕ) (name : RefName) → can_end c name (live 
 ends_one h c (names.Own n) can = let found = there c n (live h) can in (found.0, record { can = can; is = found.1 })
 ends_one h c (names.Kept n) can = absurd cc
 
-pub end_row : (p : ℕ) (h : List Entry) → IsRun p h → (c : ℕ) (name : RefName) (f : ℕ) → answers.Ended ≡ answer_end h c name
-    → inode (ending c name h) f ≡ on_file (named c name (live h)) (λ r. stopped r.bits) f (inode h f)
-end_row p h run c name f is =
-    let found = ends_one h c name (can (can_end c name (live h)) is) in
-    let r : Live = found.0 in
-    by_file (λ k. inode h k) (λ k. inode (ending c name h) k) (stopped r.bits) r.file f (stopped_is p h c name r run found.1)
-    (λ other. stays p h c name r f run found.1 (and_left (r.file == f) (may_write r.bits) other))
-    ∙ ap (λ o. on_file o (λ q. stopped q.bits) f (inode h f)) (sym found.1.is)
-  where
-    can : (b : Bool) → answers.Ended ≡ cond b answers.Ended answers.Unknown → b ≡ true
-    can true e = refl
-    can false e = absurd cc
+module _ (p : ℕ) (h : List Entry) (run : IsRun p h) (c : ℕ) (name : RefName) where
+  abbrev ending : List Entry
+  ending = record { event = events.End c name; answer = answers.Ended } ∷ h
+
+  -- the references that live on
+  abbrev left : List Live
+  left = without_named c name (live h)
+
+  abbrev with_parts : ℕ → List CapSnap → ℕ → FileInode
+  with_parts g xs n = record (inode h g) { snaps = xs; writers = n }
+
+  -- the cap snaps of a file after the end
+  abbrev finished_if : ℕ → Bool → List CapSnap
+  finished_if g b = cond b (finished (size (writes h g)) (mtime (writes h g)) (snaps h g)) (snaps h g)
+
+  counted : (r : Live) (g : ℕ) (b : Bool) → Ends h c name r → is_writer_of g r ≡ b → writers_of g (live h) ≡ writers_of g left + cond b 1 0
+  counted r g b ends is = writers_end g c name r (live h) ends.can ends.is ∙ ap (λ t. writers_of g left + cond t 1 0) is
+
+  inode_after : (r : Live) (g : ℕ) → Ends h c name r
+      → inode ending g ≡ with_parts g (finished_if g ((r.file == g) && (is_writing (snaps h g) && not (has_writer g left)))) (writers_of g left)
+  inode_after r g ends = rw ends.is refl
+
+  -- where the reference is no writer of the file, nothing changes
+  stays : (r : Live) (g : ℕ) → Ends h c name r → is_writer_of g r ≡ false → inode ending g ≡ inode h g
+  stays r g ends no_writer =
+      let same : writers_of g (live h) ≡ writers_of g left = omega (arith, counted r g false ends no_writer) in
+      inode_after r g ends
+      ∙ (ap (λ n. with_parts g (finished_if g ((r.file == g) && (is_writing (snaps h g) && not (has_writer g left)))) n) (sym same)
+      ∙ ap (λ b. with_parts g (finished_if g b) (writers_of g (live h))) (at (r.file == g) (is_writing (snaps h g)) refl (writers_stay g (live h) left same)))
+    where
+      at : (b w : Bool) → is_writing (snaps h g) ≡ w → has_writer g left ≡ has_writer g (live h) → (b && (w && not (has_writer g left))) ≡ false
+      at false w is same = refl
+      at true false is same = refl
+      at true true is same = ap not (same ∙ writing_has_writer p h run g is)
+
+  stopped_is : (r : Live) → Ends h c name r → inode ending r.file ≡ stopped r.bits (inode h r.file)
+  stopped_is r ends = sym (at (may_write r.bits) refl)
+    where
+      f : ℕ
+      f = r.file
+
+      own : (r.file == r.file) ≡ true
+      own = eq-eqb r.file r.file refl
+
+      at : (b : Bool) → may_write r.bits ≡ b
+          → cond b (with_parts f (finished_if f (is_writing (snaps h f) && (writers_of f (live h) == 1))) (writers_of f (live h) - 1)) (inode h f)
+          ≡ inode ending f
+      at true may =
+          let fewer : writers_of f (live h) ≡ writers_of f left + 1 = counted r f true ends (rw (own, may) refl) in
+          ap (λ n. with_parts f (finished_if f (is_writing (snaps h f) && (writers_of f (live h) == 1))) n) (omega (arith, fewer))
+          ∙ (ap (λ b. with_parts f (finished_if f (is_writing (snaps h f) && b)) (writers_of f left)) (sym (last_ends f (live h) left fewer))
+          ∙ (ap (λ b. with_parts f (finished_if f (b && (is_writing (snaps h f) && not (has_writer f left)))) (writers_of f left)) (sym own)
+          ∙ sym (inode_after r f ends)))
+      at false none = sym (stays r f ends (rw (own, none) refl))
+
+  pub end_row : (f : ℕ) → answers.Ended ≡ answer_end h c name → inode ending f ≡ on_file (named c name (live h)) (λ r. stopped r.bits) f (inode h f)
+  end_row f is =
+      let found = ends_one h c name (can (can_end c name (live h)) is) in
+      let r : Live = found.0 in
+      by_file (λ k. inode h k) (λ k. inode ending k) (stopped r.bits) r.file f (stopped_is r found.1)
+      (λ other. stays r f found.1 (and_left (r.file == f) (may_write r.bits) other))
+      ∙ ap (λ o. on_file o (λ q. stopped q.bits) f (inode h f)) (sym found.1.is)
+    where
+      can : (b : Bool) → answers.Ended ≡ cond b answers.Ended answers.Unknown → b ≡ true
+      can true e = refl
+      can false e = absurd cc

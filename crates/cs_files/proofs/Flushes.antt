@@ -9,6 +9,7 @@ use Rattle.cs_capsnap.specs.declared.snap.Ready.TheVariants as ready
 use Rattle.cs_capsnap.specs.CapSnaps.{first_unsent, is_writing, readiness, with_first_sent}
 use Rattle.cs_flush.specs.declared.sent.Sent.{Sent}
 use Rattle.cs_flush.specs.Flushes.{started}
+use Rattle.cs_inode.specs.declared.answers.FlushStep.{FlushStep}
 use Rattle.cs_inode.specs.declared.answers.FlushStep.TheVariants as flush
 use Rattle.cs_inode.specs.declared.answers.SnapStep.TheVariants as snap
 use Rattle.cs_inode.specs.Answers.{flush_answer, flush_snaps_answer, flush_snaps_answer_of}
@@ -31,85 +32,58 @@ use Rattle.cs_files.specs.Rows.{inode}
 use Rattle.cs_files.specs.Said.{flush_said, snap_said}
 use Rattle.cs_files.proofs.ByFile.{by_file}
 
--- the number of a flush that isn't acknowledged was drawn
-pub tids_drawn : (p : ℕ) (h : List Entry) → IsRun p h → (f : ℕ) → greatest_tid (inode h f) ≤ length (sent h)
-tids_drawn p h run f = omega (arith, queue_tids p h run f, unacked_tids p h run f)
+-- what a flush of the file sends, and of a cap snap
+abbrev head_sent : List Entry → ℕ → ℕ → Sent
+head_sent h f tid = record { tid = tid; follows = (inode h f).context.seq; meta = (inode h f).meta }
 
--- A flush of the file
-
--- by whether a cap snap is writing, and whether nothing is dirty
-flush_by : (w e : Bool) (x : Sent)
-    → cond w (answers.Again why.Snap) (cond e answers.Clean (answers.Flush x.tid)) ≡ flush_said (cond w flush.Snap (cond (not e) (flush.Sent x) flush.Clean))
-flush_by true e x = refl
-flush_by false true x = refl
-flush_by false false x = refl
-
-pub flush_is : (p : ℕ) (h : List Entry) → IsRun p h → (f : ℕ) → client_knows h f ≡ true → answer_flush h f ≡ flush_said (flush_answer (length (sent h) + 1) (inode h f))
-flush_is p h run f known =
-    rw (known, sym (queue_writing p h run f))
-    (flush_by (is_writing (snaps h f)) (is_empty (dirty h f)) (record { tid = length (sent h) + 1; follows = (inode h f).context.seq; meta = (inode h f).meta }))
-
--- the answer gives the number
-tid_by : (w d : Bool) (x : Sent) (tid : ℕ) → answers.Flush tid ≡ flush_said (cond w flush.Snap (cond d (flush.Sent x) flush.Clean)) → tid ≡ x.tid
-tid_by false true x tid e = cc
-tid_by false false x tid e = absurd cc
-tid_by true d x tid e = absurd cc
-
-known_flushed : (known : Bool) (a : Answer) (tid : ℕ) → answers.Flush tid ≡ cond known a answers.Unknown → known ≡ true
-known_flushed true a tid e = refl
-known_flushed false a tid e = absurd cc
-
--- what is sent is the file's present metadata
-sent_by : (w d : Bool) (x : Sent) (tid : ℕ) → answers.Flush tid ≡ flush_said (cond w flush.Snap (cond d (flush.Sent x) flush.Clean))
-    → cond w flush.Snap (cond d (flush.Sent (record x { tid = tid })) flush.Clean) ≡ flush.Sent (record x { tid = tid })
-sent_by false true x tid e = refl
-sent_by false false x tid e = absurd cc
-sent_by true d x tid e = absurd cc
-
--- what a file says that is flushed
-said : (p : ℕ) (h : List Entry) → IsRun p h → (f tid : ℕ) → answers.Flush tid ≡ answer_flush h f → answers.Flush tid ≡ flush_said (flush_answer (length (sent h) + 1) (inode h f))
-said p h run f tid is = is ∙ flush_is p h run f (known_flushed (client_knows h f) _ tid is)
-
-pub flush_sends : (p : ℕ) (h : List Entry) → IsRun p h → (f tid : ℕ) → answers.Flush tid ≡ answer_flush h f
-    → flush_answer tid (inode h f) ≡ flush.Sent (sent_of (present h f tid))
-flush_sends p h run f tid is =
-    let x : Sent = record { tid = length (sent h) + 1; follows = (inode h f).context.seq; meta = (inode h f).meta } in
-    sent_by (is_writing (snaps h f)) (not (is_empty (dirty h f))) x tid (said p h run f tid is)
-
--- What is kept afterwards, whatever the answer
+abbrev snap_sent : ℕ → CapSnap → Sent
+snap_sent tid x = record { tid = tid; follows = x.context.seq; meta = x.meta }
 
 abbrev flushed : ℕ → Answer → List Entry → List Entry
 flushed f a h = record { event = events.Flush f; answer = a } ∷ h
 
+abbrev snap_flushed : ℕ → Answer → List Entry → List Entry
+snap_flushed f a h = record { event = events.FlushSnaps f; answer = a } ∷ h
+
+-- A flush of the file, by whether a cap snap is writing, and whether something is dirty
+
+abbrev step_by : Bool → Bool → Sent → FlushStep
+step_by w d x = cond w flush.Snap (cond d (flush.Sent x) flush.Clean)
+
+flush_by : (w e : Bool) (x : Sent) → cond w (answers.Again why.Snap) (cond e answers.Clean (answers.Flush x.tid)) ≡ flush_said (step_by w (not e) x)
+flush_by true e x = refl
+flush_by false true x = refl
+flush_by false false x = refl
+
+tid_by : (w d : Bool) (x : Sent) (tid : ℕ) → answers.Flush tid ≡ flush_said (step_by w d x) → tid ≡ x.tid
+tid_by false true x tid e = cc
+tid_by false false x tid e = absurd cc
+tid_by true d x tid e = absurd cc
+
+sent_by : (w d : Bool) (x : Sent) (tid : ℕ) → answers.Flush tid ≡ flush_said (step_by w d x)
+    → step_by w d (record x { tid = tid }) ≡ flush.Sent (record x { tid = tid })
+sent_by false true x tid e = refl
+sent_by false false x tid e = absurd cc
+sent_by true d x tid e = absurd cc
+
 inode_by : (w d : Bool) (h : List Entry) (f tid : ℕ)
-    → inode (flushed f (flush_said (cond w flush.Snap (cond d (flush.Sent (record { tid = tid; follows = (inode h f).context.seq; meta = (inode h f).meta })) flush.Clean))) h) f
+    → inode (flushed f (flush_said (step_by w d (head_sent h f tid))) h) f
     ≡ cond (not w && d) (record (inode h f) { flushes = started tid (inode h f).context.seq (inode h f).meta (inode h f).flushes }) (inode h f)
 inode_by true d h f tid = refl
 inode_by false false h f tid = refl
 inode_by false true h f tid = rw (eq-eqb f f refl) refl
 
-inode_flushed : (h : List Entry) (f tid : ℕ) → inode (flushed f (flush_said (flush_answer tid (inode h f))) h) f ≡ after_flush tid (inode h f)
-inode_flushed h f tid = inode_by (is_writing (snaps h f)) (not (is_empty (dirty h f))) h f tid
+known_flushed : (known : Bool) (a : Answer) (tid : ℕ) → answers.Flush tid ≡ cond known a answers.Unknown → known ≡ true
+known_flushed true a tid e = refl
+known_flushed false a tid e = absurd cc
 
 flush_others : (h : List Entry) (f g tid : ℕ) → (f == g) ≡ false → inode (flushed f (answers.Flush tid) h) g ≡ inode h g
 flush_others h f g tid other = rw other refl
 
-pub flush_row : (p : ℕ) (h : List Entry) → IsRun p h → (g tid f : ℕ) → answers.Flush tid ≡ answer_flush h g
-    → inode (flushed g (answers.Flush tid) h) f ≡ cond (g == f) (after_flush tid (inode h f)) (inode h f)
-flush_row p h run g tid f is =
-    let n : ℕ = length (sent h) + 1 in
-    let x : Sent = record { tid = n; follows = (inode h g).context.seq; meta = (inode h g).meta } in
-    let same : tid ≡ n = tid_by (is_writing (snaps h g)) (not (is_empty (dirty h g))) x tid (said p h run g tid is) in
-    by_file (λ k. inode h k) (λ k. inode (flushed g (answers.Flush tid) h) k) (after_flush tid) g f
-    (ap (λ a. inode (flushed g a h) g) (said p h run g tid is) ∙ (inode_flushed h g n ∙ ap (λ k. after_flush k (inode h g)) (sym same)))
-    (flush_others h g f tid)
+-- A flush of its cap snaps, by the first unsent one, and whether that is writing
 
--- A flush of its cap snaps
-
--- by whether the first unsent one is writing
 said_by : (w : Bool) (tid : ℕ) (x : CapSnap)
-    → snap_said (cond w snap.Writing (snap.Sent (record { tid = tid; follows = x.context.seq; meta = x.meta })))
-    ≡ queues.flush_answer (cond w ready.Writing (ready.Ready x.meta x.context.seq)) tid
+    → snap_said (cond w snap.Writing (snap.Sent (snap_sent tid x))) ≡ queues.flush_answer (cond w ready.Writing (ready.Ready x.meta x.context.seq)) tid
 said_by true tid x = refl
 said_by false tid x = refl
 
@@ -117,62 +91,25 @@ said_of : (tid : ℕ) (o : Option CapSnap) → snap_said (flush_snaps_answer_of 
 said_of tid None = refl
 said_of tid (Some x) = said_by x.writing tid x
 
-pub flush_snaps_is : (p : ℕ) (h : List Entry) → IsRun p h → (f : ℕ) → client_knows h f ≡ true
-    → answer_flush_snaps h f ≡ snap_said (flush_snaps_answer (length (sent h) + 1) (inode h f))
-flush_snaps_is p h run f known = rw known (sym (said_of (length (sent h) + 1) (first_unsent (snaps h f)) ∙ queue_answer p h run f (length (sent h))))
-
-snap_tid_by : (w : Bool) (n : ℕ) (x : CapSnap) (tid follows : ℕ)
-    → answers.FlushSnap tid follows ≡ snap_said (cond w snap.Writing (snap.Sent (record { tid = n; follows = x.context.seq; meta = x.meta }))) → tid ≡ n
-snap_tid_by true n x tid follows e = absurd cc
-snap_tid_by false n x tid follows e = cc
-
-snap_tid : (n : ℕ) (o : Option CapSnap) (tid follows : ℕ) → answers.FlushSnap tid follows ≡ snap_said (flush_snaps_answer_of n o) → tid ≡ n
-snap_tid n None tid follows e = absurd cc
-snap_tid n (Some x) tid follows e = snap_tid_by x.writing n x tid follows e
-
-known_snap : (known : Bool) (a : Answer) (tid follows : ℕ) → answers.FlushSnap tid follows ≡ cond known a answers.Unknown → known ≡ true
-known_snap true a tid follows e = refl
-known_snap false a tid follows e = absurd cc
-
-snap_said_is : (p : ℕ) (h : List Entry) → IsRun p h → (f tid follows : ℕ) → answers.FlushSnap tid follows ≡ answer_flush_snaps h f
-    → answers.FlushSnap tid follows ≡ snap_said (flush_snaps_answer (length (sent h) + 1) (inode h f))
-snap_said_is p h run f tid follows is = is ∙ flush_snaps_is p h run f (known_snap (client_knows h f) _ tid follows is)
-
--- what is sent is the first unsent one's, which is ready
-record IsSent (tid follows : ℕ) (o : Option CapSnap) : Type 0 where
+-- what is sent is the first unsent one's, which is ready; n: the number of the next flush
+record IsSent (n tid follows : ℕ) (o : Option CapSnap) : Type 0 where
   meta : FileMeta
+  number : tid ≡ n
   sent : flush_snaps_answer_of tid o ≡ snap.Sent (record { tid = tid; follows = follows; meta = meta })
   ready : readiness 0 o ≡ ready.Ready meta follows
 
-is_sent_by : (w : Bool) (n tid follows : ℕ) (x : CapSnap)
-    → answers.FlushSnap tid follows ≡ snap_said (cond w snap.Writing (snap.Sent (record { tid = n; follows = x.context.seq; meta = x.meta })))
-    → (cond w snap.Writing (snap.Sent (record { tid = tid; follows = x.context.seq; meta = x.meta })) ≡ snap.Sent (record { tid = tid; follows = follows; meta = x.meta }))
-    × (cond w ready.Writing (ready.Ready x.meta x.context.seq) ≡ ready.Ready x.meta follows)
-is_sent_by true n tid follows x e = absurd cc
-is_sent_by false n tid follows x e =
-    let same : x.context.seq ≡ follows = cc in
-    (rw same refl, rw same refl)
-
-is_sent : (n tid follows : ℕ) (o : Option CapSnap) → answers.FlushSnap tid follows ≡ snap_said (flush_snaps_answer_of n o) → IsSent tid follows o
+is_sent : (n tid follows : ℕ) (o : Option CapSnap) → answers.FlushSnap tid follows ≡ snap_said (flush_snaps_answer_of n o) → IsSent n tid follows o
 is_sent n tid follows None e = absurd cc
-is_sent n tid follows (Some x) e =
-    let is = is_sent_by x.writing n tid follows x e in
-    record { meta = x.meta; sent = is.0; ready = is.1 }
-
-pub flush_snaps_sends : (p : ℕ) (h : List Entry) → IsRun p h → (f tid follows : ℕ) → answers.FlushSnap tid follows ≡ answer_flush_snaps h f
-    → flush_snaps_answer tid (inode h f) ≡ snap.Sent (sent_of (snap_of h f tid follows))
-flush_snaps_sends p h run f tid follows is =
-    let x = is_sent (length (sent h) + 1) tid follows (first_unsent (snaps h f)) (snap_said_is p h run f tid follows is) in
-    x.sent
-    ∙ ap (λ m. snap.Sent (let s : Sent = record { tid = tid; follows = follows; meta = m } in s)) (queue_ready p h run f x.meta follows x.ready).meta
-
--- What is kept afterwards, whatever the answer
-
-abbrev snap_flushed : ℕ → Answer → List Entry → List Entry
-snap_flushed f a h = record { event = events.FlushSnaps f; answer = a } ∷ h
+is_sent n tid follows (Some x) e = at x.writing refl e
+  where
+    at : (w : Bool) → x.writing ≡ w → answers.FlushSnap tid follows ≡ snap_said (cond w snap.Writing (snap.Sent (snap_sent n x))) → IsSent n tid follows (Some x)
+    at true is e = absurd cc
+    at false is e =
+        let same : x.context.seq ≡ follows = cc in
+        record { meta = x.meta; number = cc; sent = rw (is, same) refl; ready = rw (is, same) refl }
 
 snap_inode_by : (w : Bool) (h : List Entry) (f tid : ℕ) (x : CapSnap)
-    → inode (snap_flushed f (snap_said (cond w snap.Writing (snap.Sent (record { tid = tid; follows = x.context.seq; meta = x.meta })))) h) f
+    → inode (snap_flushed f (snap_said (cond w snap.Writing (snap.Sent (snap_sent tid x)))) h) f
     ≡ cond (not w) (record (inode h f) { snaps = with_first_sent tid (snaps h f) }) (inode h f)
 snap_inode_by true h f tid x = refl
 snap_inode_by false h f tid x = rw (eq-eqb f f refl) refl
@@ -183,18 +120,64 @@ snap_inode_of : (h : List Entry) (f tid : ℕ) (o : Option CapSnap)
 snap_inode_of h f tid None = refl
 snap_inode_of h f tid (Some x) = snap_inode_by x.writing h f tid x
 
-inode_snap_flushed : (h : List Entry) (f tid : ℕ) → inode (snap_flushed f (snap_said (flush_snaps_answer tid (inode h f))) h) f ≡ after_flush_snaps tid (inode h f)
-inode_snap_flushed h f tid = snap_inode_of h f tid (first_unsent (snaps h f))
+known_snap : (known : Bool) (a : Answer) (tid follows : ℕ) → answers.FlushSnap tid follows ≡ cond known a answers.Unknown → known ≡ true
+known_snap true a tid follows e = refl
+known_snap false a tid follows e = absurd cc
 
 snap_others : (h : List Entry) (f g tid follows : ℕ) → (f == g) ≡ false → inode (snap_flushed f (answers.FlushSnap tid follows) h) g ≡ inode h g
 snap_others h f g tid follows other = rw other refl
 
-pub flush_snaps_row : (p : ℕ) (h : List Entry) → IsRun p h → (g tid follows f : ℕ) → answers.FlushSnap tid follows ≡ answer_flush_snaps h g
-    → inode (snap_flushed g (answers.FlushSnap tid follows) h) f ≡ cond (g == f) (after_flush_snaps tid (inode h f)) (inode h f)
-flush_snaps_row p h run g tid follows f is =
-    let n : ℕ = length (sent h) + 1 in
-    let said_so = snap_said_is p h run g tid follows is in
-    let same : tid ≡ n = snap_tid n (first_unsent (snaps h g)) tid follows said_so in
-    by_file (λ k. inode h k) (λ k. inode (snap_flushed g (answers.FlushSnap tid follows) h) k) (after_flush_snaps tid) g f
-    (ap (λ a. inode (snap_flushed g a h) g) said_so ∙ (inode_snap_flushed h g n ∙ ap (λ k. after_flush_snaps k (inode h g)) (sym same)))
-    (snap_others h g f tid follows)
+-- In a run
+
+module _ (p : ℕ) (h : List Entry) (run : IsRun p h) where
+  -- the number of the next flush
+  abbrev next : ℕ
+  next = length (sent h) + 1
+
+  -- the number of a flush that isn't acknowledged was drawn
+  pub tids_drawn : (f : ℕ) → greatest_tid (inode h f) ≤ length (sent h)
+  tids_drawn f = omega (arith, queue_tids p h run f, unacked_tids p h run f)
+
+  pub flush_is : (f : ℕ) → client_knows h f ≡ true → answer_flush h f ≡ flush_said (flush_answer next (inode h f))
+  flush_is f known = rw (known, sym (queue_writing p h run f)) (flush_by (is_writing (snaps h f)) (is_empty (dirty h f)) (head_sent h f next))
+
+  flush_told : (f tid : ℕ) → answers.Flush tid ≡ answer_flush h f → answers.Flush tid ≡ flush_said (flush_answer next (inode h f))
+  flush_told f tid is = is ∙ flush_is f (known_flushed (client_knows h f) _ tid is)
+
+  -- what is sent is the file's present metadata
+  pub flush_sends : (f tid : ℕ) → answers.Flush tid ≡ answer_flush h f → flush_answer tid (inode h f) ≡ flush.Sent (sent_of (present h f tid))
+  flush_sends f tid is = sent_by (is_writing (snaps h f)) (not (is_empty (dirty h f))) (head_sent h f next) tid (flush_told f tid is)
+
+  pub flush_row : (g tid f : ℕ) → answers.Flush tid ≡ answer_flush h g
+      → inode (flushed g (answers.Flush tid) h) f ≡ cond (g == f) (after_flush tid (inode h f)) (inode h f)
+  flush_row g tid f is =
+      let told = flush_told g tid is in
+      let same : tid ≡ next = tid_by (is_writing (snaps h g)) (not (is_empty (dirty h g))) (head_sent h g next) tid told in
+      let done : inode (flushed g (flush_said (flush_answer next (inode h g))) h) g ≡ after_flush next (inode h g) =
+      inode_by (is_writing (snaps h g)) (not (is_empty (dirty h g))) h g next in
+      by_file (λ k. inode h k) (λ k. inode (flushed g (answers.Flush tid) h) k) (after_flush tid) g f
+      (ap (λ a. inode (flushed g a h) g) told ∙ (done ∙ ap (λ n. after_flush n (inode h g)) (sym same)))
+      (flush_others h g f tid)
+
+  pub flush_snaps_is : (f : ℕ) → client_knows h f ≡ true → answer_flush_snaps h f ≡ snap_said (flush_snaps_answer next (inode h f))
+  flush_snaps_is f known = rw known (sym (said_of next (first_unsent (snaps h f)) ∙ queue_answer p h run f (length (sent h))))
+
+  snap_told : (f tid follows : ℕ) → answers.FlushSnap tid follows ≡ answer_flush_snaps h f
+      → answers.FlushSnap tid follows ≡ snap_said (flush_snaps_answer next (inode h f))
+  snap_told f tid follows is = is ∙ flush_snaps_is f (known_snap (client_knows h f) _ tid follows is)
+
+  pub flush_snaps_sends : (f tid follows : ℕ) → answers.FlushSnap tid follows ≡ answer_flush_snaps h f
+      → flush_snaps_answer tid (inode h f) ≡ snap.Sent (sent_of (snap_of h f tid follows))
+  flush_snaps_sends f tid follows is =
+      let x = is_sent next tid follows (first_unsent (snaps h f)) (snap_told f tid follows is) in
+      x.sent ∙ ap (λ m. snap.Sent (let s : Sent = record { tid = tid; follows = follows; meta = m } in s)) (queue_ready p h run f x.meta follows x.ready).meta
+
+  pub flush_snaps_row : (g tid follows f : ℕ) → answers.FlushSnap tid follows ≡ answer_flush_snaps h g
+      → inode (snap_flushed g (answers.FlushSnap tid follows) h) f ≡ cond (g == f) (after_flush_snaps tid (inode h f)) (inode h f)
+  flush_snaps_row g tid follows f is =
+      let told = snap_told g tid follows is in
+      let x = is_sent next tid follows (first_unsent (snaps h g)) told in
+      by_file (λ k. inode h k) (λ k. inode (snap_flushed g (answers.FlushSnap tid follows) h) k) (after_flush_snaps tid) g f
+      (ap (λ a. inode (snap_flushed g a h) g) told
+      ∙ (snap_inode_of h g next (first_unsent (snaps h g)) ∙ ap (λ n. after_flush_snaps n (inode h g)) (sym x.number)))
+      (snap_others h g f tid follows)

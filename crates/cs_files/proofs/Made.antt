@@ -27,34 +27,11 @@ use Rattle.cs_theorems.proofs.Untouched.{IsUntouchedAt, untouched}
 use Rattle.cs_theorems.proofs.Uses.{named_is}
 use Rattle.cs_files.specs.Rows.{inode, writers_of}
 
--- Of a file that isn't known nothing was issued, and nothing was written
-
--- no writer of it lives
-no_writer : (p : ℕ) (h : List Entry) (f : ℕ) → IsRun p h → client_knows h f ≡ false → has_writer f (live h) ≡ false
-no_writer p h f run unknown =
-    false_from_ne_true (has_writer f (live h))
-    (λ some. let found = any_some (is_writer_of f) (live h) some in of_file found.0 (live_known p h run found.0 found.1) found.2)
-  where
-    of_file : (r : Live) → client_knows h r.file ≡ true → is_writer_of f r ≡ true → ⊥
-    of_file r known writes = both_ways (client_knows h f) unknown (subst (λ k. client_knows h k ≡ true) (eqb-true r.file f (and_parts _ _ writes).0) known)
-
-none_write : (p : ℕ) (h : List Entry) (f : ℕ) → IsRun p h → client_knows h f ≡ false → writers_of f (live h) ≡ 0
-none_write p h f run unknown = eqb-true (writers_of f (live h)) 0 (count_none f (live h) ∙ ap not (no_writer p h f run unknown))
-
-is_new : (h : List Entry) (f : ℕ) (ctx : Context) → IsUntouchedAt h f → writers_of f (live h) ≡ 0
-    → (let i : FileInode = record (inode h f) { context = ctx } in i) ≡ new_inode f ctx
-is_new h f ctx i none = rw (i.client, i.writes, i.mode, i.dirty, i.snaps, i.unacked, none) refl
-
-pub new_is : (p : ℕ) (h : List Entry) → IsRun p h → (f : ℕ) → client_knows h f ≡ false → inode h f ≡ new_inode f (context h f)
-new_is p h run f unknown = is_new h f (context h f) (untouched p h run f unknown) (none_write p h f run unknown)
-
-pub named_known : (p : ℕ) (h : List Entry) → IsRun p h → (c : ℕ) (name : RefName) (r : Live) → named c name (live h) ≡ Some r → client_knows h r.file ≡ true
-named_known p h run c name r is = live_known p h run r (named_is c name r (live h) is).1
-
--- A file
-
 abbrev making : ℕ → ℕ → List Entry → List Entry
 making f d h = record { event = events.File f d; answer = answers.Made } ∷ h
+
+abbrev dir_made : ℕ → ℕ → Answer → List Entry → List Entry
+dir_made d q a h = record { event = events.Dir d q; answer = a } ∷ h
 
 -- a line that makes an inode finds it free
 free : (h : List Entry) (i d : ℕ) → answers.Made ≡ answer_made h i d → is_in_use h i ≡ false
@@ -64,34 +41,55 @@ free h i d is = at (is_in_use h i) (server_dir h d) is
     at false c e = refl
     at true c e = absurd cc
 
--- its context is that of its directory
+-- the context of a file that is made is that of its directory
 pub context_made : (h : List Entry) (f d : ℕ) → context (making f d h) f ≡ path_context (client_path h d) (realms h)
 context_made h f d = ap (λ b. path_context (client_path h (cond b d (client_home h f))) (realms h)) (eq-eqb f f refl)
 
 others_made : (h : List Entry) (g d f : ℕ) → (g == f) ≡ false → inode (making g d h) f ≡ inode h f
 others_made h g d f other = rw other refl
 
-pub file_row : (p : ℕ) (h : List Entry) → IsRun p h → (g d f : ℕ) → answers.Made ≡ answer_made h g d
-    → inode (making g d h) f ≡ cond (g == f) (new_inode f (context (making g d h) f)) (inode h f)
-file_row p h run g d f is = at (g == f) refl
-  where
-    unknown : client_knows h g ≡ false
-    unknown = (or_parts (server_dir h g) (server_knows h g) (free h g d is)).1
+is_new : (h : List Entry) (f : ℕ) (ctx : Context) → IsUntouchedAt h f → writers_of f (live h) ≡ 0
+    → (let i : FileInode = record (inode h f) { context = ctx } in i) ≡ new_inode f ctx
+is_new h f ctx i none = rw (i.client, i.writes, i.mode, i.dirty, i.snaps, i.unacked, none) refl
 
-    new : inode (making g d h) g ≡ new_inode g (context (making g d h) g)
-    new = is_new h g (context (making g d h) g) (untouched p h run g unknown) (none_write p h g run unknown)
+module _ (p : ℕ) (h : List Entry) (run : IsRun p h) where
+  pub named_known : (c : ℕ) (name : RefName) (r : Live) → named c name (live h) ≡ Some r → client_knows h r.file ≡ true
+  named_known c name r is = live_known p h run r (named_is c name r (live h) is).1
 
-    at : (b : Bool) → (g == f) ≡ b → inode (making g d h) f ≡ cond b (new_inode f (context (making g d h) f)) (inode h f)
-    at true same = subst (λ k. inode (making g d h) k ≡ new_inode k (context (making g d h) k)) (eqb-true g f same) new
-    at false other = others_made h g d f other
+  -- no writer lives of a file that isn't known
+  no_writer : (f : ℕ) → client_knows h f ≡ false → has_writer f (live h) ≡ false
+  no_writer f unknown =
+      false_from_ne_true (has_writer f (live h))
+      (λ some. let found = any_some (is_writer_of f) (live h) some in of_file found.0 (live_known p h run found.0 found.1) found.2)
+    where
+      of_file : (r : Live) → client_knows h r.file ≡ true → is_writer_of f r ≡ true → ⊥
+      of_file r known writes =
+          both_ways (client_knows h f) unknown (subst (λ k. client_knows h k ≡ true) (eqb-true r.file f (and_parts _ _ writes).0) known)
 
--- A directory
+  -- and it is as a new one, under any context
+  new_under : (f : ℕ) (ctx : Context) → client_knows h f ≡ false → (let i : FileInode = record (inode h f) { context = ctx } in i) ≡ new_inode f ctx
+  new_under f ctx unknown =
+      is_new h f ctx (untouched p h run f unknown) (eqb-true (writers_of f (live h)) 0 (count_none f (live h) ∙ ap not (no_writer f unknown)))
 
-abbrev dir_made : ℕ → ℕ → Answer → List Entry → List Entry
-dir_made d q a h = record { event = events.Dir d q; answer = a } ∷ h
+  pub new_is : (f : ℕ) → client_knows h f ≡ false → inode h f ≡ new_inode f (context h f)
+  new_is f unknown = new_under f (context h f) unknown
 
-pub dir_row : (p : ℕ) (h : List Entry) → IsRun p h → (d q : ℕ) (a : Answer) (f : ℕ) → a ≡ answer_made h d q → inode (dir_made d q a h) f ≡ inode h f
-dir_row p h run d q a f is =
-    let way : client_file_path (dir_made d q a h) f ≡ client_file_path h f =
-    subst (λ x. client_file_path (dir_made d q x h) f ≡ client_file_path h f) (sym is) (dir_path h d q f (course_run p h run).setting.housed) in
-    ap (λ c. let i : FileInode = record (inode h f) { context = path_context c (realms h) } in i) way
+  pub file_row : (g d f : ℕ) → answers.Made ≡ answer_made h g d
+      → inode (making g d h) f ≡ cond (g == f) (new_inode f (context (making g d h) f)) (inode h f)
+  file_row g d f is = at (g == f) refl
+    where
+      unknown : client_knows h g ≡ false
+      unknown = (or_parts (server_dir h g) (server_knows h g) (free h g d is)).1
+
+      at : (b : Bool) → (g == f) ≡ b → inode (making g d h) f ≡ cond b (new_inode f (context (making g d h) f)) (inode h f)
+      at true same =
+          subst (λ k. inode (making g d h) k ≡ new_inode k (context (making g d h) k)) (eqb-true g f same)
+          (new_under g (context (making g d h) g) unknown)
+      at false other = others_made h g d f other
+
+  -- where a directory is made, the path of each file stays
+  pub dir_row : (d q : ℕ) (a : Answer) (f : ℕ) → a ≡ answer_made h d q → inode (dir_made d q a h) f ≡ inode h f
+  dir_row d q a f is =
+      let way : client_file_path (dir_made d q a h) f ≡ client_file_path h f =
+      subst (λ x. client_file_path (dir_made d q x h) f ≡ client_file_path h f) (sym is) (dir_path h d q f (course_run p h run).setting.housed) in
+      ap (λ c. let i : FileInode = record (inode h f) { context = path_context c (realms h) } in i) way

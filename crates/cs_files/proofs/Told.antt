@@ -1,5 +1,5 @@
 -- The client is told of a snapshot or a removal: which files get a cap snap, and what it makes of what is kept of each.
-use Rattle.std.proofs.Common.{◌≡◌, ◌∙◌, refl, sym, ap, ℕ, ◌+◌, ◌<◌, reverse, inr, ◌&&◌, ◌||◌, Bool, true, false, cond, not, List, ◌∷◌, ◌++◌, [], nat_eq, inl, subst, ⊎_elim, arith}
+use Rattle.std.proofs.Common.{◌≡◌, ◌∙◌, refl, sym, ap, subst, ℕ, ◌+◌, ◌<◌, ◌&&◌, ◌||◌, Bool, true, false, cond, not, List, ◌∷◌, ◌++◌, [], reverse, nat_eq, inl, inr, ⊎_elim, arith}
 use Rattle.std.proofs.Math.Bool.{and_assoc}
 use Rattle.std.proofs.lemmas.Bool.{and_parts, both_ways, eqb-true, not-false}
 use Rattle.std.proofs.lemmas.List.{reverse-append, reverse-reverse}
@@ -39,14 +39,6 @@ use Rattle.cs_files.specs.Rows.{inode}
 use Rattle.cs_files.specs.Laws.{TellsNext, told_context}
 use Rattle.cs_files.specs.Steps.{count_needed, needs_snap_at, with_context_at}
 
--- a file's own count of its writers tells the same as the live references
-pub makes_is : (p : ℕ) (h : List Entry) → IsRun p h → (f : ℕ) (new : Context)
-    → makes f (context h f) new (live h) (dirty h f) (queued h f) ≡ needs_snap_at new (inode h f)
-makes_is p h run f new =
-    queue_makes p h run f new
-    ∙ (and_assoc (differs (context h f) new) (not (is_writing (snaps h f))) (has_writer f (live h) || not (is_empty (dirty h f)))
-    ∙ ap (λ b. differs (context h f) new && (not (is_writing (snaps h f)) && (b || not (is_empty (dirty h f))))) (sym (writer_counted f (live h))))
-
 -- Counted in the order in which the files were made
 
 once_end : (xs : List ℕ) (n : ℕ) → IsEachOnce xs → (Member n xs → ⊥) → IsEachOnce (xs ++ n ∷ [])
@@ -62,23 +54,11 @@ member_reversed xs n m = each_reverse (λ k. Member k xs) xs (λ k there. there)
 once_reverse : (xs : List ℕ) → IsEachOnce xs → IsEachOnce (reverse xs)
 once_reverse [] once = tt
 once_reverse (x ∷ xs) once =
-    subst (λ ys. IsEachOnce ys) (sym (reverse-append (x ∷ []) xs)) (once_end (reverse xs) x (once_reverse xs once.1) (λ m. once.0 (member_reversed xs x m)))
+    subst (λ ys. IsEachOnce ys) (sym (reverse-append (x ∷ []) xs))
+    (once_end (reverse xs) x (once_reverse xs once.1) (λ m. once.0 (member_reversed xs x m)))
 
 member_reverse : (xs : List ℕ) (n : ℕ) → Member n xs → Member n (reverse xs)
 member_reverse xs n m = member_reversed (reverse xs) n (subst (λ ys. Member n ys) (sym (reverse-reverse xs)) m)
-
-counted : (p : ℕ) (h : List Entry) → IsRun p h → (new : ℕ → Context) (fs : List ℕ)
-    → count_made h new fs ≡ count_needed (λ f. needs_snap_at (new f) (inode h f)) fs
-counted p h run new [] = refl
-counted p h run new (f ∷ fs) = λ i. cond (makes_is p h run f (new f) i) 1 0 + counted p h run new fs i
-
-pub count_is : (p : ℕ) (h : List Entry) → IsRun p h → (new : ℕ → Context)
-    → count_made h new (client_files h) ≡ count_needed (λ f. needs_snap_at (new f) (inode h f)) (reverse (client_files h))
-count_is p h run new =
-    let fs : List ℕ = client_files h in
-    sym (count_made_any p h run new (reverse fs) (once_reverse fs (listed_once p h run))
-    (λ f. ((λ known. member_reverse fs f ((listed p h run f).0 known)), (λ m. (listed p h run f).1 (member_reversed fs f m)))))
-    ∙ counted p h run new (reverse fs)
 
 -- Contexts
 
@@ -91,6 +71,22 @@ not_risen a b up alike =
 
 stays : (old new : Context) → Rises old new → differs old new ≡ false → new ≡ old
 stays old new moves alike = ⊎_elim (λ same. same) (λ up. absurd (not_risen old new up alike)) moves
+
+rises : (old new : Context) → Rises old new → differs old new ≡ true → old.seq < new.seq
+rises old new moves other = ⊎_elim (λ same. absurd (both_ways (differs old new) (not_other old new same) other)) (λ up. up) moves
+
+abbrev telling : Answer → List Entry → List Entry
+telling a h = record { event = events.ToClient; answer = a } ∷ h
+
+rises_by : (h : List Entry) (f : ℕ) (a : Answer) → FirstIs h a → Setting h → Rises (context h f) (context (telling a h) f)
+rises_by h f a first_idle i = inl refl
+rises_by h f a (first_cap g seq bits end q there) i = inl refl
+rises_by h f a (first_flush_ack g tid q there) i = inl refl
+rises_by h f a (first_snap n d now q there) i = told_moves h n d now q f there i
+
+pub context_told : (h : List Entry) (number realm made : ℕ) (told : List RealmRecord) (f : ℕ) → TellsNext h number realm told
+    → context (telling (answers.SnapTold number realm made) h) f ≡ told_context h told f
+context_told h number realm made told f next = ap (λ q. path_context (client_file_path h f) (with_first q (realms h))) next.first
 
 -- what is kept under another context, with one cap snap more, or not
 abbrev inode_with : List Entry → ℕ → Context → Bool → FileInode
@@ -109,36 +105,41 @@ changed h f new true is moves =
 changed h f new false is moves =
     ap (λ c. let i : FileInode = record (inode h f) { context = c } in i) (stays (context h f) new moves is)
 
-abbrev telling : Answer → List Entry → List Entry
-telling a h = record { event = events.ToClient; answer = a } ∷ h
+module _ (p : ℕ) (h : List Entry) (run : IsRun p h) where
+  -- a file's own count of its writers tells the same as the live references
+  pub makes_is : (f : ℕ) (new : Context) → makes f (context h f) new (live h) (dirty h f) (queued h f) ≡ needs_snap_at new (inode h f)
+  makes_is f new =
+      queue_makes p h run f new
+      ∙ (and_assoc (differs (context h f) new) (not (is_writing (snaps h f))) (has_writer f (live h) || not (is_empty (dirty h f)))
+      ∙ ap (λ b. differs (context h f) new && (not (is_writing (snaps h f)) && (b || not (is_empty (dirty h f))))) (sym (writer_counted f (live h))))
 
--- the context of each file stays, or its seq rises
-rises_by : (h : List Entry) (f : ℕ) (a : Answer) → FirstIs h a → Setting h → Rises (context h f) (context (telling a h) f)
-rises_by h f a first_idle i = inl refl
-rises_by h f a (first_cap g seq bits end q there) i = inl refl
-rises_by h f a (first_flush_ack g tid q there) i = inl refl
-rises_by h f a (first_snap n d now q there) i = told_moves h n d now q f there i
+  counted : (new : ℕ → Context) (fs : List ℕ) → count_made h new fs ≡ count_needed (λ f. needs_snap_at (new f) (inode h f)) fs
+  counted new [] = refl
+  counted new (f ∷ fs) = λ i. cond (makes_is f (new f) i) 1 0 + counted new fs i
 
-told_rises : (p : ℕ) (h : List Entry) → IsRun p h → (a : Answer) (f : ℕ) → a ≡ answer_to_client h → Rises (context h f) (context (telling a h) f)
-told_rises p h run a f is = subst (λ x. Rises (context h f) (context (telling x h) f)) (sym is) (rises_by h f (answer_to_client h) (first_is h) (course_run p h run).setting)
+  pub count_is : (new : ℕ → Context)
+      → count_made h new (client_files h) ≡ count_needed (λ f. needs_snap_at (new f) (inode h f)) (reverse (client_files h))
+  count_is new =
+      let fs : List ℕ = client_files h in
+      sym (count_made_any p h run new (reverse fs) (once_reverse fs (listed_once p h run))
+      (λ f. ((λ known. member_reverse fs f ((listed p h run f).0 known)), (λ m. (listed p h run f).1 (member_reversed fs f m)))))
+      ∙ counted new (reverse fs)
 
-pub context_told : (h : List Entry) (number realm made : ℕ) (told : List RealmRecord) (f : ℕ) → TellsNext h number realm told
-    → context (telling (answers.SnapTold number realm made) h) f ≡ told_context h told f
-context_told h number realm made told f next = ap (λ q. path_context (client_file_path h f) (with_first q (realms h))) next.first
+  -- the context of each file stays, or its seq rises
+  told_rises : (a : Answer) (f : ℕ) → a ≡ answer_to_client h → Rises (context h f) (context (telling a h) f)
+  told_rises a f is =
+      subst (λ x. Rises (context h f) (context (telling x h) f)) (sym is) (rises_by h f (answer_to_client h) (first_is h) (course_run p h run).setting)
 
-rises : (old new : Context) → Rises old new → differs old new ≡ true → old.seq < new.seq
-rises old new moves other = ⊎_elim (λ same. absurd (both_ways (differs old new) (not_other old new same) other)) (λ up. up) moves
+  pub context_rises : (number realm : ℕ) (told : List RealmRecord) (f : ℕ) → TellsNext h number realm told
+      → differs (context h f) (told_context h told f) ≡ true → (context h f).seq < (told_context h told f).seq
+  context_rises number realm told f next =
+      let now : with_first (to_client h) (realms h) ≡ with_records told (realms h) = ap (λ q. with_first q (realms h)) next.first in
+      let moves = told_moves h number realm told next.rest f next.first (course_run p h run).setting in
+      rises (context h f) (told_context h told f) (subst (λ ts. Rises (context h f) (path_context (client_file_path h f) ts)) now moves)
 
-pub context_rises : (p : ℕ) (h : List Entry) → IsRun p h → (number realm : ℕ) (told : List RealmRecord) (f : ℕ) → TellsNext h number realm told
-    → differs (context h f) (told_context h told f) ≡ true → (context h f).seq < (told_context h told f).seq
-context_rises p h run number realm told f next =
-    let now : with_first (to_client h) (realms h) ≡ with_records told (realms h) = ap (λ q. with_first q (realms h)) next.first in
-    rises (context h f) (told_context h told f)
-    (subst (λ ts. Rises (context h f) (path_context (client_file_path h f) ts)) now (told_moves h number realm told next.rest f next.first (course_run p h run).setting))
-
-pub told_row : (p : ℕ) (h : List Entry) → IsRun p h → (number realm made f : ℕ) → answers.SnapTold number realm made ≡ answer_to_client h
-    → inode (telling (answers.SnapTold number realm made) h) f ≡ with_context_at (context (telling (answers.SnapTold number realm made) h) f) (inode h f)
-told_row p h run number realm made f is =
-    let new : Context = context (telling (answers.SnapTold number realm made) h) f in
-    ap (λ b. inode_with h f new b) (makes_is p h run f new)
-    ∙ changed h f new (differs (context h f) new) refl (told_rises p h run (answers.SnapTold number realm made) f is)
+  pub told_row : (number realm made f : ℕ) → answers.SnapTold number realm made ≡ answer_to_client h
+      → inode (telling (answers.SnapTold number realm made) h) f ≡ with_context_at (context (telling (answers.SnapTold number realm made) h) f) (inode h f)
+  told_row number realm made f is =
+      let new : Context = context (telling (answers.SnapTold number realm made) h) f in
+      ap (λ b. inode_with h f new b) (makes_is f new)
+      ∙ changed h f new (differs (context h f) new) refl (told_rises (answers.SnapTold number realm made) f is)
