@@ -102,7 +102,8 @@ is_sent : (n tid follows : ℕ) (o : Option CapSnap) → answers.FlushSnap tid f
 is_sent n tid follows None e = absurd cc
 is_sent n tid follows (Some x) e = at x.writing refl e
   where
-    at : (w : Bool) → x.writing ≡ w → answers.FlushSnap tid follows ≡ snap_said (cond w snap.Writing (snap.Sent (snap_sent n x))) → IsSent n tid follows (Some x)
+    at : (w : Bool) → x.writing ≡ w → answers.FlushSnap tid follows ≡ snap_said (cond w snap.Writing (snap.Sent (snap_sent n x)))
+        → IsSent n tid follows (Some x)
     at true is e = absurd cc
     at false is e =
         let same : x.context.seq ≡ follows = cc in

@@ -1,5 +1,6 @@
 -- The client is told of a snapshot or a removal: which files get a cap snap, and what it makes of what is kept of each.
-use Rattle.std.proofs.Common.{◌≡◌, ◌∙◌, refl, sym, ap, subst, ℕ, ◌+◌, ◌<◌, ◌&&◌, ◌||◌, Bool, true, false, cond, not, List, ◌∷◌, ◌++◌, [], reverse, nat_eq, inl, inr, ⊎_elim, arith}
+use Rattle.std.proofs.Common.{◌≡◌, ◌∙◌, refl, sym, ap, subst, ℕ, ◌+◌, ◌<◌, ◌&&◌, ◌||◌, Bool, true}
+use Rattle.std.proofs.Common.{false, cond, not, List, ◌∷◌, ◌++◌, [], reverse, nat_eq, inl, inr, ⊎_elim, arith}
 use Rattle.std.proofs.Math.Bool.{and_assoc}
 use Rattle.std.proofs.lemmas.Bool.{and_parts, both_ways, eqb-true, not-false}
 use Rattle.std.proofs.lemmas.List.{reverse-append, reverse-reverse}

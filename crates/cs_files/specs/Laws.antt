@@ -19,7 +19,8 @@ use Rattle.cs_laws.specs.declared.messages.Message.{Message}
 use Rattle.cs_laws.specs.declared.messages.Message.TheVariants as messages
 use Rattle.cs_laws.specs.declared.objects.At.{At}
 use Rattle.cs_laws.specs.declared.objects.At.TheVariants as at
-use Rattle.cs_laws.specs.Answers.{answer_begin, answer_check, answer_chmod, answer_flush, answer_flush_snaps, answer_read, bytes_from, count_made, may_change_mode, may_read, may_write}
+use Rattle.cs_laws.specs.Answers.{answer_begin, answer_check, answer_chmod, answer_flush, answer_flush_snaps}
+use Rattle.cs_laws.specs.Answers.{answer_read, bytes_from, count_made, may_change_mode, may_read, may_write}
 use Rattle.cs_laws.specs.CapSnaps.{makes}
 use Rattle.cs_laws.specs.Context.{differs, path_context}
 use Rattle.cs_laws.specs.Events.{begun, client_files, client_knows, clock}

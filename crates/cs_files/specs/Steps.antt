@@ -5,7 +5,8 @@ use Rattle.cs_bits.specs.declared.Caps.{Caps}
 use Rattle.cs_parts.specs.declared.references.Live.{Live}
 use Rattle.cs_parts.specs.Capabilities.{acknowledged, delivered}
 use Rattle.cs_snapctx.specs.Context.{Context}
-use Rattle.cs_inode.specs.Inodes.{FileInode, after_ack, after_flush, after_flush_snaps, needs_snap, new_inode, with_context, with_mode, with_writer, without_writer, written}
+use Rattle.cs_inode.specs.Inodes.{FileInode, after_ack, after_flush, after_flush_snaps, needs_snap}
+use Rattle.cs_inode.specs.Inodes.{new_inode, with_context, with_mode, with_writer, without_writer, written}
 use Rattle.cs_laws.specs.declared.events.Event.{Event}
 use Rattle.cs_laws.specs.declared.events.Event.TheVariants as events
 use Rattle.cs_laws.specs.declared.answers.Answer.{Answer}
