@@ -18,7 +18,7 @@ use Rattle.cs_laws.specs.declared.answers.Entry.{Entry}
 use Rattle.cs_laws.specs.Answers.{answer_to_client, count_made}
 use Rattle.cs_laws.specs.CapSnaps.{has_writer, makes}
 use Rattle.cs_laws.specs.Context.{differs, path_context, with_first}
-use Rattle.cs_laws.specs.Events.{client_files}
+use Rattle.cs_laws.specs.Events.{client_files, client_knows}
 use Rattle.cs_laws.specs.Tree.{client_file_path}
 use Rattle.cs_laws.specs.Flushes.{written_meta}
 use Rattle.cs_laws.specs.History.{context, dirty, live, mode, queued, realms, to_client, writes}
@@ -31,7 +31,7 @@ use Rattle.cs_theorems.proofs.Course.{course_run}
 use Rattle.cs_theorems.proofs.Inversions.{FirstIs, first_idle, first_cap, first_flush_ack, first_snap, first_is}
 use Rattle.cs_theorems.proofs.Settings.{Setting}
 use Rattle.cs_theorems.proofs.Files.{listed, listed_once}
-use Rattle.cs_theorems.proofs.Listed.{Member, Each, each_end, each_reverse}
+use Rattle.cs_theorems.proofs.Listed.{Member, Each, each_end, each_reverse, each_tail}
 use Rattle.cs_theorems.proofs.Order.{not_other}
 use Rattle.cs_theorems.proofs.Orderings.{count_made_any}
 use Rattle.cs_theorems.proofs.Owing.{writer_counted}
@@ -114,17 +114,24 @@ module _ (p : ℕ) (h : List Entry) (run : IsRun p h) where
       ∙ (and_assoc (differs (context h f) new) (not (is_writing (snaps h f))) (has_writer f (live h) || not (is_empty (dirty h f)))
       ∙ ap (λ b. differs (context h f) new && (not (is_writing (snaps h f)) && (b || not (is_empty (dirty h f))))) (sym (writer_counted f (live h))))
 
-  counted : (new : ℕ → Context) (fs : List ℕ) → count_made h new fs ≡ count_needed (λ f. needs_snap_at (new f) (inode h f)) fs
-  counted new [] = refl
-  counted new (f ∷ fs) = λ i. cond (makes_is f (new f) i) 1 0 + counted new fs i
+  -- needs: whether a file that the client knows needs one
+  abbrev AreNeeds : (ℕ → Context) → (ℕ → Bool) → Type 0
+  AreNeeds new needs = (f : ℕ) → client_knows h f ≡ true → needs f ≡ needs_snap_at (new f) (inode h f)
 
-  pub count_is : (new : ℕ → Context)
-      → count_made h new (client_files h) ≡ count_needed (λ f. needs_snap_at (new f) (inode h f)) (reverse (client_files h))
-  count_is new =
+  counted : (new : ℕ → Context) (needs : ℕ → Bool) (fs : List ℕ) → AreNeeds new needs → Each (λ f. client_knows h f ≡ true) fs
+      → count_made h new fs ≡ count_needed needs fs
+  counted new needs [] agree known = refl
+  counted new needs (f ∷ fs) agree known =
+      let one : makes f (context h f) (new f) (live h) (dirty h f) (queued h f) ≡ needs f = makes_is f (new f) ∙ sym (agree f (known f (inl refl))) in
+      λ i. cond (one i) 1 0 + counted new needs fs agree (each_tail (λ k. client_knows h k ≡ true) f fs known) i
+
+  pub count_is : (new : ℕ → Context) (needs : ℕ → Bool) → AreNeeds new needs → count_made h new (client_files h) ≡ count_needed needs (reverse (client_files h))
+  count_is new needs agree =
       let fs : List ℕ = client_files h in
+      let back : (f : ℕ) → Member f (reverse fs) → client_knows h f ≡ true = λ f m. (listed p h run f).1 (member_reversed fs f m) in
       sym (count_made_any p h run new (reverse fs) (once_reverse fs (listed_once p h run))
-      (λ f. ((λ known. member_reverse fs f ((listed p h run f).0 known)), (λ m. (listed p h run f).1 (member_reversed fs f m)))))
-      ∙ counted new (reverse fs)
+      (λ f. ((λ known. member_reverse fs f ((listed p h run f).0 known)), back f)))
+      ∙ counted new needs (reverse fs) agree back
 
   -- the context of each file stays, or its seq rises
   told_rises : (a : Answer) (f : ℕ) → a ≡ answer_to_client h → Rises (context h f) (context (telling a h) f)

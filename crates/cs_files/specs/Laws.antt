@@ -1,5 +1,5 @@
 -- What is proved of the files of a run: what the client keeps of them, by the calls of `Inode`, is what the history says.
-use Rattle.std.specs.Prelude.{◌≡◌, ℕ, ◌+◌, ◌-◌, ◌<◌, ◌≤◌, ◌/◌, ◌%◌, true, false, min, List, [], ◌∷◌, Some, length, reverse}
+use Rattle.std.specs.Prelude.{◌≡◌, ℕ, ◌+◌, ◌-◌, ◌<◌, ◌≤◌, ◌/◌, ◌%◌, Bool, true, false, min, List, [], ◌∷◌, Some, length, reverse}
 use Rattle.cs_bits.specs.declared.Caps.{Caps}
 use Rattle.cs_geom.specs.declared.places.TheConstants.{OBJECT_SIZE}
 use Rattle.cs_parts.specs.declared.references.Live.{Live}
@@ -7,6 +7,7 @@ use Rattle.cs_parts.specs.References.{used_in}
 use Rattle.cs_snapctx.specs.declared.realm.RealmRecord.{RealmRecord}
 use Rattle.cs_snapctx.specs.Context.{Context}
 use Rattle.cs_snapctx.specs.Records.{with_records}
+use Rattle.cs_capsnap.specs.CapSnaps as kept
 use Rattle.cs_inode.specs.declared.answers.FlushStep.TheVariants as flush
 use Rattle.cs_inode.specs.declared.answers.SnapStep.TheVariants as snap
 use Rattle.cs_inode.specs.Answers.{allowance, check_answer, chmod_answer, flush_answer, flush_snaps_answer}
@@ -21,7 +22,7 @@ use Rattle.cs_laws.specs.declared.objects.At.{At}
 use Rattle.cs_laws.specs.declared.objects.At.TheVariants as at
 use Rattle.cs_laws.specs.Answers.{answer_begin, answer_check, answer_chmod, answer_flush, answer_flush_snaps}
 use Rattle.cs_laws.specs.Answers.{answer_read, bytes_from, count_made, may_change_mode, may_read, may_write}
-use Rattle.cs_laws.specs.CapSnaps.{makes}
+use Rattle.cs_laws.specs.CapSnaps.{is_writing, makes}
 use Rattle.cs_laws.specs.Context.{differs, path_context}
 use Rattle.cs_laws.specs.Events.{begun, client_files, client_knows, clock}
 use Rattle.cs_laws.specs.Fits.{greatest_end}
@@ -48,8 +49,9 @@ pub record FilesAreNew (h : List Entry) : Type 0 where
   pub at_home : (f d : ℕ) → context (record { event = events.File f d; answer = answers.Made } ∷ h) f ≡ path_context (client_path h d) (realms h)
   pub known : (c : ℕ) (name : RefName) (r : Live) → named c name (live h) ≡ Some r → client_knows h r.file ≡ true
 
--- The answers are those that the file gives.
+-- The answers are those that the file gives, which knows whether a cap snap of it is writing.
 pub record FilesAnswer (h : List Entry) : Type 0 where
+  pub writing : (f : ℕ) → kept.is_writing (inode h f).snaps ≡ is_writing (live h) (queued h f)
   pub begin : (c f : ℕ) (bits : Caps) (end : ℕ) → client_knows h f ≡ true
       → answer_begin h c f bits end ≡ begun_said (length (live h)) (begun h c) (allowance bits end (inode h f))
   pub chmod : (c : ℕ) (name : RefName) (r : Live) → named c name (live h) ≡ Some r → may_change_mode r.bits ≡ true
@@ -91,12 +93,13 @@ pub record TellsNext (h : List Entry) (number realm : ℕ) (told : List RealmRec
   pub rest : List Message
   pub first : to_client h ≡ messages.Snap number realm told ∷ rest
 
--- A cap snap is made where the file needs one; files are counted in the order in which they were made. Where a snapshot or a
+-- A cap snap is made where the file needs one; so many are as files that the client knows do, in the order in which they were
+-- made. Where a snapshot or a
 -- removal is told, a context stays or its seq rises.
 pub record FilesAreTold (h : List Entry) : Type 0 where
   pub needs : (f : ℕ) (new : Context) → makes f (context h f) new (live h) (dirty h f) (queued h f) ≡ needs_snap_at new (inode h f)
-  pub count : (new : ℕ → Context)
-      → count_made h new (client_files h) ≡ count_needed (λ f. needs_snap_at (new f) (inode h f)) (reverse (client_files h))
+  pub count : (new : ℕ → Context) (needs : ℕ → Bool) → ((f : ℕ) → client_knows h f ≡ true → needs f ≡ needs_snap_at (new f) (inode h f))
+      → count_made h new (client_files h) ≡ count_needed needs (reverse (client_files h))
   pub under : (number realm made : ℕ) (told : List RealmRecord) (f : ℕ) → TellsNext h number realm told
       → context (record { event = events.ToClient; answer = answers.SnapTold number realm made } ∷ h) f ≡ told_context h told f
   pub rises : (number realm : ℕ) (told : List RealmRecord) (f : ℕ) → TellsNext h number realm told
