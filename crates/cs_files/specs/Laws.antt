@@ -93,9 +93,8 @@ pub record TellsNext (h : List Entry) (number realm : ℕ) (told : List RealmRec
   pub rest : List Message
   pub first : to_client h ≡ messages.Snap number realm told ∷ rest
 
--- A cap snap is made where the file needs one; so many are as files that the client knows do, in the order in which they were
--- made. Where a snapshot or a
--- removal is told, a context stays or its seq rises.
+-- A cap snap is made where the file needs one, and so many are as there are such files among those that the client knows, counted
+-- in the order in which they were made. Where a snapshot or a removal is told, a context stays or its seq rises.
 pub record FilesAreTold (h : List Entry) : Type 0 where
   pub needs : (f : ℕ) (new : Context) → makes f (context h f) new (live h) (dirty h f) (queued h f) ≡ needs_snap_at new (inode h f)
   pub count : (new : ℕ → Context) (needs : ℕ → Bool) → ((f : ℕ) → client_knows h f ≡ true → needs f ≡ needs_snap_at (new f) (inode h f))
