@@ -5,6 +5,8 @@
 #[cfg(test)]
 mod capsnap;
 #[cfg(test)]
+mod codec;
+#[cfg(test)]
 mod command;
 #[cfg(test)]
 mod flush;
@@ -16,6 +18,8 @@ mod inode;
 mod io;
 #[cfg(test)]
 mod laws;
+#[cfg(test)]
+mod log;
 #[cfg(test)]
 mod pages;
 #[cfg(test)]
