@@ -1,0 +1,9 @@
+pub mod Codecs
+pub mod Items
+pub mod Lists
+pub mod Names
+pub mod Numbers
+pub mod Own
+pub mod Steps
+pub mod Tagged
+pub mod Wholes
