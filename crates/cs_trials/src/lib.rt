@@ -5,8 +5,6 @@
 #[cfg(test)]
 mod capsnap;
 #[cfg(test)]
-mod codec;
-#[cfg(test)]
 mod command;
 #[cfg(test)]
 mod flush;
@@ -18,8 +16,6 @@ mod inode;
 mod io;
 #[cfg(test)]
 mod laws;
-#[cfg(test)]
-mod log;
 #[cfg(test)]
 mod pages;
 #[cfg(test)]
