@@ -210,6 +210,7 @@ dir_had s d (x ∷ rs) is = at x.body is (dir_had s d rs)
     at : (b : RecordBody) → dir_in s b (dir_of s rs) ≡ Some d → (dir_of s rs ≡ Some d → list_any (λ y. is_snap_of d y.body) rs ≡ true)
         → (is_snap_of d b || list_any (λ y. is_snap_of d y.body) rs) ≡ true
     at (bodies.Snap number e name) is rest = choice (number == s) e is rest
+    at (bodies.Request tid op answer) is rest = rest is
     at (bodies.Flush snap f tid follows meta) is rest = rest is
     at (bodies.Removal t number) is rest = rest is
 

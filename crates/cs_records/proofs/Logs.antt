@@ -38,6 +38,7 @@ either_cond false x o z = refl
 
 either_in : (s : ℕ) (b : RecordBody) (o z : Option ℕ) → dir_in s b (either o z) ≡ either (dir_in s b o) z
 either_in s (bodies.Snap number d name) o z = either_cond (number == s) d o z
+either_in s (bodies.Request tid op answer) o z = refl
 either_in s (bodies.Flush snap f tid follows meta) o z = refl
 either_in s (bodies.Removal t number) o z = refl
 
@@ -56,6 +57,7 @@ dir_stays s d (x ∷ rs) ss is = at x.body is (dir_stays s d rs ss)
 
     at : (b : RecordBody) → dir_in s b (dir_of s rs) ≡ Some d → (dir_of s rs ≡ Some d → dir_of s (rs ++ ss) ≡ Some d) → dir_in s b (dir_of s (rs ++ ss)) ≡ Some d
     at (bodies.Snap number e name) is rest = choice (number == s) e is rest
+    at (bodies.Request tid op answer) is rest = rest is
     at (bodies.Flush snap f tid follows meta) is rest = rest is
     at (bodies.Removal t number) is rest = rest is
 
@@ -70,6 +72,7 @@ snap_dir s (x ∷ rs) = ap (λ b. is_snap s x.body || b) (snap_dir s rs) ∙ at 
 
     at : (b : RecordBody) (o : Option ℕ) → (is_snap s b || is_some o) ≡ is_some (dir_in s b o)
     at (bodies.Snap number d name) o = choice (number == s) d o
+    at (bodies.Request tid op answer) o = refl
     at (bodies.Flush snap f tid follows meta) o = refl
     at (bodies.Removal t number) o = refl
 
@@ -106,6 +109,7 @@ no_own_yet d (r ∷ rs) none = at r.body none (no_own_yet d rs)
     at : (b : RecordBody) → (is_snap_of d b || list_any (λ x. is_snap_of d x.body) rs) ≡ false → (list_any (λ x. is_snap_of d x.body) rs ≡ false → own_after d no_own rs ≡ no_own)
         → own_after d (own_then d no_own b) rs ≡ no_own
     at (bodies.Snap number e name) none rest = choice (e == d) (record { seq = number; snaps = number ∷ [] }) none rest
+    at (bodies.Request tid op answer) none rest = rest none
     at (bodies.Flush snap f tid follows meta) none rest = rest none
     at (bodies.Removal t number) none rest = rest none
 
@@ -143,6 +147,7 @@ snap_below s (x ∷ rs) stands = at x.body stands (snap_below s rs)
 
     at : (b : RecordBody) → (is_snap s b || has_snap s rs) ≡ true → (has_snap s rs ≡ true → s ≤ greatest_number rs) → s ≤ max (number_of b) (greatest_number rs)
     at (bodies.Snap number d name) stands rest = choice (number == s) number (λ e. eqb-true number s e) stands rest
+    at (bodies.Request tid op answer) stands rest = let low = rest stands in omega arith
     at (bodies.Flush snap f tid follows meta) stands rest = let low = rest stands in omega arith
     at (bodies.Removal t number) stands rest = let low = rest stands in omega arith
 
@@ -152,6 +157,7 @@ seq_then d o (bodies.Snap number e name) = choice (e == d)
     choice : (c : Bool) → (cond c (record { seq = number; snaps = number ∷ o.snaps }) o).seq ≤ max o.seq number
     choice true = omega arith
     choice false = omega arith
+seq_then d o (bodies.Request tid op answer) = omega arith
 seq_then d o (bodies.Flush snap f tid follows meta) = omega arith
 seq_then d o (bodies.Removal t number) = choice (realms.has_snap t o)
   where

@@ -29,6 +29,7 @@ removed_step rs r below next s removed = at r.body next refl
 
     at : (b : RecordBody) → IsNext rs b → r.body ≡ b → s ≤ greatest_number (rs ++ r ∷ [])
     at (bodies.Snap number d name) next is = known (ap (λ b. is_removal s b) is)
+    at (bodies.Request tid op answer) next is = known (ap (λ b. is_removal s b) is)
     at (bodies.Flush snap f tid follows meta) next is = known (ap (λ b. is_removal s b) is)
     at (bodies.Removal t number) next is = choice t number (t == s) refl next is
 
@@ -109,6 +110,7 @@ those_step rs r below those next s d =
     at (bodies.Snap n e name) next =
         after_snap s d n e (own d rs) (dir_of s rs) (is_removed s rs) (those s d)
         (λ same. (new_dir s rs (omega (arith, next.next, same)), false_from_ne_true (is_removed s rs) (λ removed. let low = below s removed in omega (arith, next.next, same))))
+    at (bodies.Request tid op answer) next = after_flush d (dir_of s rs) (is_removed s rs) (realms.has_snap s (own d rs)) (those s d)
     at (bodies.Flush snap f tid follows meta) next = after_flush d (dir_of s rs) (is_removed s rs) (realms.has_snap s (own d rs)) (those s d)
     at (bodies.Removal t n) next = after_removal s d t n (own d rs) (dir_of s rs) (is_removed s rs) (those s d)
 

@@ -33,6 +33,7 @@ named_if all m d name (bodies.Snap number e other) stays is =
     let inner = and_parts (e == d) (bytes_eq name other) outer.1 in
     let unremoved : not (is_removed number all) ≡ true = ap (λ k. not (is_removed k all)) (eqb-true number m outer.0) ∙ ap not stays in
     and_from (e == d) (bytes_eq name other && not (is_removed number all)) inner.0 (and_from (bytes_eq name other) (not (is_removed number all)) inner.1 unremoved)
+named_if all m d name (bodies.Request tid op answer) stays is = absurd cc
 named_if all m d name (bodies.Flush snap f tid follows meta) stays is = absurd cc
 named_if all m d name (bodies.Removal s number) stays is = absurd cc
 
@@ -71,6 +72,7 @@ last_step rs r last next m d name is stays =
 
     at : (b : RecordBody) → IsNext rs b → is_removed m rs ≡ false → (any_as m d name rs || is_as m d name b) ≡ true → named_then d name b (last_named d name rs) ≡ Some m
     at (bodies.Snap n e other) next stood any = choice n e other ((e == d) && bytes_eq name other) refl next.new stood any
+    at (bodies.Request tid op answer) next stood any = last m d name (sym (or_false (any_as m d name rs)) ∙ any) stood
     at (bodies.Flush snap f tid follows meta) next stood any = last m d name (sym (or_false (any_as m d name rs)) ∙ any) stood
     at (bodies.Removal s n) next stood any = last m d name (sym (or_false (any_as m d name rs)) ∙ any) stood
 
@@ -92,6 +94,7 @@ named_from m d name was (r ∷ rs) is = elim (named_from m d name (named_then d 
 
     at : (b : RecordBody) → named_then d name b was ≡ Some m → (was ≡ Some m) ⊎ ((is_as m d name b || any_as m d name rs) ≡ true)
     at (bodies.Snap n e other) here = choice n ((e == d) && bytes_eq name other) here
+    at (bodies.Request tid op answer) here = inl here
     at (bodies.Flush snap f tid follows meta) here = inl here
     at (bodies.Removal s n) here = inl here
 
@@ -112,6 +115,7 @@ named_as all d name (r ∷ rs) is = elim (or_cases (is_snap_named d name all r.b
               (and_from (n == n) ((e == d) && bytes_eq name other) (eq-eqb n n refl) (and_from (e == d) (bytes_eq name other) outer.0 inner.0)),
           not-true (is_removed n all) inner.1,
         )
+    at (bodies.Request tid op answer) here = absurd cc
     at (bodies.Flush snap f tid follows meta) here = absurd cc
     at (bodies.Removal s n) here = absurd cc
 

@@ -73,6 +73,7 @@ abbrev pub Knows : (ℕ → Option ℕ) → List Record → Type 0
 Knows dirs rs = (s d : ℕ) → dir_of s rs ≡ Some d → dirs s ≡ Some d
 
 pub known : (dirs : ℕ → Option ℕ) (rs : List Record) (b : RecordBody) → Knows dirs rs → IsNext rs b → IsKnown dirs b
+known dirs rs (bodies.Request tid op answer) knows next = tt
 known dirs rs (bodies.Flush snap f tid follows meta) knows next = tt
 known dirs rs (bodies.Snap n e name) knows next = tt
 known dirs rs (bodies.Removal s n) knows next = let found = stands_in s rs next.stands in ap is_some (knows s found.0 found.1)
@@ -80,6 +81,8 @@ known dirs rs (bodies.Removal s n) knows next = let found = stands_in s rs next.
 pub changed_had : (dirs : ℕ → Option ℕ) (of : ℕ → Option Own) (rs : List Record) (b : RecordBody) → IsLog rs → IsNext rs b → Knows dirs rs → ((d : ℕ) → of d ≡ had d rs)
     → (d : ℕ) → changed_own dirs of b d ≡ had d (rs ++ record { body = b } ∷ [])
 unfolding without
+changed_had dirs of rs (bodies.Request tid op answer) log next knows same d =
+    same d ∙ (sym (had_kept rs d) ∙ sym (had_append rs d (bodies.Request tid op answer)))
 changed_had dirs of rs (bodies.Flush snap f tid follows meta) log next knows same d =
     same d ∙ (sym (had_kept rs d) ∙ sym (had_append rs d (bodies.Flush snap f tid follows meta)))
 changed_had dirs of rs (bodies.Snap n e name) log next knows same d = after_snap rs d n of (e == d) (same d) ∙ sym (had_append rs d (bodies.Snap n e name))
@@ -116,6 +119,7 @@ new_by of rs d same = ap (λ (g : ℕ → Option Own). not (is_realm_by g d)) (�
 pub message_told : (dirs : ℕ → Option ℕ) (of now : ℕ → Option Own) (rs : List Record) (b : RecordBody) (xs : List Directory) → IsLog rs → IsNext rs b → Knows dirs rs
     → ((d : ℕ) → of d ≡ had d rs) → ((d : ℕ) → now d ≡ had d (rs ++ record { body = b } ∷ [])) → AreDistinct xs
     → message_by dirs now xs (is_new_by dirs of b) b ≡ news_of rs (changed_records (path_of xs) (inos xs) rs (rs ++ record { body = b } ∷ [])) b
+message_told dirs of now rs (bodies.Request tid op answer) xs log next knows same after distinct = refl
 message_told dirs of now rs (bodies.Flush snap f tid follows meta) xs log next knows same after distinct = refl
 message_told dirs of now rs (bodies.Snap n d name) xs log next knows same after distinct =
     let drawn = next.next in
