@@ -147,7 +147,7 @@ true_or : (b c d : Bool) → c ≡ true → cond b c d ≡ (b || d)
 true_or true c d p = p
 true_or false c d p = refl
 
-pub stands_in_front : (f tid n d : ℕ) (rs : List Record) → is_in (n + d) (place_in tid (places_from f n rs)) ≡ has_flush f tid (take d rs)
+stands_in_front : (f tid n d : ℕ) (rs : List Record) → is_in (n + d) (place_in tid (places_from f n rs)) ≡ has_flush f tid (take d rs)
 stands_in_front f tid n zero [] = refl
 stands_in_front f tid n (suc d) [] = refl
 stands_in_front f tid n zero (r ∷ rs) = stands_behind f tid n (n + 0) (r ∷ rs) (omega arith)
@@ -156,3 +156,6 @@ stands_in_front f tid n (suc d) (r ∷ rs) =
     ∙ (true_or (is_flush f tid (flush_in r.body)) (nat_lt n (n + suc d)) _ (lt-ltb n (n + suc d) (omega arith))
     ∙ ap (λ b. is_flush f tid (flush_in r.body) || b)
     (ap (λ k. is_in k (place_in tid (places_from f (n + 1) rs))) (omega arith) ∙ stands_in_front f tid (n + 1) d rs))
+
+pub stands_durable : (f tid d : ℕ) (rs : List Record) → is_in d (place_in tid (places_from f 0 rs)) ≡ has_flush f tid (take d rs)
+stands_durable f tid d rs = ap (λ k. is_in k (place_in tid (places_from f 0 rs))) (omega arith) ∙ stands_in_front f tid 0 d rs

@@ -1,8 +1,8 @@
 -- What is kept beside the records, after each step.
-use Rattle.std.proofs.Common.{◌≡◌, ℕ, ◌==◌, ◌+◌, ◌≤◌, ◌<◌, ◌||◌, ◌&&◌, Bool, true, false, cond, List, [], ◌∷◌, ◌++◌, Option, Some, None, length, take, drop, get_or, suc, add-one, refl, sym, ◌∙◌, ap, subst, arith}
+use Rattle.std.proofs.Common.{◌≡◌, ℕ, ◌==◌, ◌+◌, ◌≤◌, ◌<◌, ◌||◌, ◌&&◌, Bool, true, false, cond, List, [], ◌∷◌, ◌++◌, Option, Some, None, length, take, drop, get_or, suc, add-one, refl, sym, ◌∙◌, ap, subst, arith, append-nil, max, nat_eq}
 use Rattle.std.specs.Str.{bytes_eq}
 use Rattle.std.proofs.lemmas.Bool.{eqb-true}
-use Rattle.std.proofs.lemmas.List.{length-append, take-append-drop, take-append-le}
+use Rattle.std.proofs.lemmas.List.{length-append, length-drop, take-append-drop, take-append-le}
 use Rattle.std.proofs.Math.Seq.{drop-cons, take-suc}
 use Rattle.cs_laws.specs.declared.records.Record.{Record}
 use Rattle.cs_laws.specs.declared.records.RecordBody.TheVariants as bodies
@@ -29,6 +29,7 @@ use Rattle.cs_records.specs.Names.{last_named, name_in, named_then}
 use Rattle.cs_records.specs.OwnTable.{had, own_in}
 use Rattle.cs_records.specs.Places.{places_from, with_place}
 use Rattle.cs_records.specs.Recorded.{recorded, recorded_then, with_recorded}
+use Rattle.cs_records.specs.Records.{Settles}
 use Rattle.cs_records.specs.NewsByTables.{IsKnown, changed_own, is_new_by, message_by}
 use Rattle.cs_records.proofs.FlushPlaces.{places_append}
 use Rattle.cs_records.proofs.RecordedSteps.{recorded_append}
@@ -146,7 +147,10 @@ settled_more rs r d t i = record {
 
 -- One more becomes durable
 
-pub split_at : (rs : List Record) (d : ℕ) (r : Record) → d < length rs → r ≡ get_or rs d r → rs ≡ take d rs ++ r ∷ drop (d + 1) rs
+more_behind : (rs : List Record) (d : ℕ) → 0 < length (drop d rs) → d < length rs
+more_behind rs d some = omega (arith, some, length-drop d rs)
+
+split_at : (rs : List Record) (d : ℕ) (r : Record) → d < length rs → r ≡ get_or rs d r → rs ≡ take d rs ++ r ∷ drop (d + 1) rs
 split_at rs d r more is =
     sym (take-append-drop d rs) ∙ ap (λ xs. take d rs ++ xs) (rw (add-one d) (drop-cons rs d r more ∙ ap (λ x. x ∷ drop (suc d) rs) (sym is)))
 
@@ -159,41 +163,45 @@ front_log rs d log = log_front [] (take d rs) (drop d rs) (subst IsLog (sym (tak
 knows_of : (rs : List Record) (d : ℕ) (t : Index) → IsIndexed rs t → Knows (get nat_eq t.dirs) (take d rs)
 knows_of rs d t i s e is = i.dirs s ∙ (ap (λ xs. dir_of s xs) (sym (take-append-drop d rs)) ∙ dir_stays s e (take d rs) (drop d rs) is)
 
-pub kept_next : (rs : List Record) (d : ℕ) (t : Index) (of now : OwnTable) (r : Record) → d < length rs → r ≡ get_or rs d r
+pub kept_next : (rs : List Record) (d : ℕ) (t : Index) (of now : OwnTable) (r : Record) → 0 < length (drop d rs) → r ≡ get_or rs d r
     → ((e : ℕ) → own_in now e ≡ changed_own (get nat_eq t.dirs) (own_in of) r.body e) → IsKept rs d t of → IsKept rs (d + 1) t now
-kept_next rs d t of now r more is changed i = record {
+kept_next rs d t of now r some is changed i = record {
   index = i.index;
   settled = record {
-    within = omega (arith, more);
+    within = omega (arith, (more_behind rs d some));
     realms = λ e.
         changed e
-        ∙ (changed_had (get nat_eq t.dirs) (own_in of) (take d rs) r.body (front_log rs d i.index.log) (next_of rs d r more is i.index.log) (knows_of rs d t i.index)
+        ∙ (changed_had (get nat_eq t.dirs) (own_in of) (take d rs) r.body (front_log rs d i.index.log) (next_of rs d r (more_behind rs d some) is i.index.log) (knows_of rs d t i.index)
         i.settled.realms e
-        ∙ ap (λ xs. had e xs) (sym (front_grows rs d r more is)));
+        ∙ ap (λ xs. had e xs) (sym (front_grows rs d r (more_behind rs d some) is)));
   };
 }
 
--- nothing changes
-pub kept_same : (rs : List Record) (d : ℕ) (t : Index) (of now : OwnTable) → ((e : ℕ) → own_in now e ≡ own_in of e) → IsKept rs d t of → IsKept rs d t now
-kept_same rs d t of now same i = record { index = i.index; settled = record { within = i.settled.within; realms = λ e. same e ∙ i.settled.realms e } }
-
-pub known_next : (rs : List Record) (d : ℕ) (t : Index) (of : OwnTable) (r : Record) → d < length rs → r ≡ get_or rs d r → IsKept rs d t of → IsKnown (get nat_eq t.dirs) r.body
-known_next rs d t of r more is i = known (get nat_eq t.dirs) (take d rs) r.body (knows_of rs d t i.index) (next_of rs d r more is i.index.log)
+pub known_next : (rs : List Record) (d : ℕ) (t : Index) (of : OwnTable) (r : Record) → 0 < length (drop d rs) → r ≡ get_or rs d r → IsKept rs d t of → IsKnown (get nat_eq t.dirs) r.body
+known_next rs d t of r some is i = known (get nat_eq t.dirs) (take d rs) r.body (knows_of rs d t i.index) (next_of rs d r (more_behind rs d some) is i.index.log)
 
 first_behind : (rs : List Record) (d : ℕ) (r : Record) → d < length rs → r ≡ get_or rs d r → take 1 (drop d rs) ≡ r ∷ []
 first_behind rs d r more is = ap (λ xs. take 1 xs) (drop-cons rs d r more) ∙ ap (λ x. x ∷ []) (sym is)
 
+pub settles_next : (rs : List Record) (d : ℕ) (r : Record) → 0 < length (drop d rs) → r ≡ get_or rs d r
+    → Settles (record { durable = take d rs; fresh = drop d rs }) (record { durable = take (d + 1) rs; fresh = drop (d + 1) rs })
+settles_next rs d r some is = record {
+  front = r ∷ [];
+  durable = front_grows rs d r (more_behind rs d some) is;
+  fresh = rw (add-one d) (drop-cons rs d r (more_behind rs d some) ∙ ap (λ x. x ∷ drop (suc d) rs) (sym is));
+}
+
 -- what the client is told of it
 pub told_next : (rs : List Record) (d : ℕ) (t : Index) (of now : OwnTable) (r : Record) (xs : List Directory) (is_new : Bool) (m : Message)
-    → d < length rs → r ≡ get_or rs d r → ((e : ℕ) → own_in now e ≡ changed_own (get nat_eq t.dirs) (own_in of) r.body e) → IsKept rs d t of → AreDistinct xs
+    → 0 < length (drop d rs) → r ≡ get_or rs d r → ((e : ℕ) → own_in now e ≡ changed_own (get nat_eq t.dirs) (own_in of) r.body e) → IsKept rs d t of → AreDistinct xs
     → is_new ≡ is_new_by (get nat_eq t.dirs) (own_in of) r.body → m ≡ message_by (get nat_eq t.dirs) (own_in now) xs is_new r.body
     → m ∷ [] ≡ commit_news (path_of xs) (inos xs) (take d rs) (take 1 (drop d rs))
-told_next rs d t of now r xs is_new m more is changed i distinct new message =
+told_next rs d t of now r xs is_new m some is changed i distinct new message =
     let log = front_log rs d i.index.log in
-    let next = next_of rs d r more is i.index.log in
+    let next = next_of rs d r (more_behind rs d some) is i.index.log in
     let knows = knows_of rs d t i.index in
     let dirs = get nat_eq t.dirs in
     ap (λ x. x ∷ []) (message ∙ (ap (λ b. message_by dirs (own_in now) xs b r.body) new
     ∙ message_told dirs (own_in of) (own_in now) (take d rs) r.body xs log next knows i.settled.realms
     (λ e. changed e ∙ changed_had dirs (own_in of) (take d rs) r.body log next knows i.settled.realms e) distinct))
-    ∙ ap (λ ys. commit_news (path_of xs) (inos xs) (take d rs) ys) (sym (first_behind rs d r more is))
+    ∙ ap (λ ys. commit_news (path_of xs) (inos xs) (take d rs) ys) (sym (first_behind rs d r (more_behind rs d some) is))

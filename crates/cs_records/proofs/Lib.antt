@@ -8,5 +8,6 @@ pub mod Named
 pub mod RecordedAt
 pub mod RecordedPlaces
 pub mod RecordedSteps
+pub mod Settling
 pub mod Tables
 pub mod Telling

@@ -6,10 +6,11 @@ use Rattle.std.proofs.lemmas.Slice.Eq.{bytes_eq-Decides}
 use Rattle.std.specs.declared.alloc.Global.{Global}
 use Rattle.std.specs.BTreeMap.{BTreeMap, UpdatesBy, get}
 use Rattle.std.specs.Map.{lookup}
-use Rattle.std.specs.Option.{option_and_then}
+use Rattle.std.specs.Option.{option_and_then, unwrap_or}
 use Rattle.std.specs.Ordering.{is_eq, nat_cmp}
 use Rattle.std.specs.Str.{bytes_eq}
 use Rattle.indexmap.specs.IndexMap.{insert_entry}
+use Rattle.cs_records.specs.Flushed.{Flushed, none_flushed}
 use Rattle.cs_records.specs.declared.names.NameTable.{NameTable}
 use Rattle.cs_records.specs.Names.{last_in}
 use Rattle.cs_records.proofs.Lists.{by_cond, exchange}
@@ -25,6 +26,17 @@ pub put_same : {X : Type 0} (m n : BTreeMap ℕ X) (k : ℕ) (v w : X) → Some 
 put_same m n k v w is same h d =
     put m n k w h d
     ∙ by_cond (λ (o : Option _). o ≡ get nat_cmp m d) (k == d) (Some w) (get nat_cmp m d) (λ e. ap Some same ∙ (is ∙ ap (λ q. get nat_cmp m q) (eqb-true k d e))) (λ e. refl)
+
+-- the flushes of one file are put
+pub put_flushed : (m n : BTreeMap ℕ Flushed) (k : ℕ) (w : Flushed) (g : Flushed → Flushed) → UpdatesBy nat_cmp (nat_cmp k) m n (Some w)
+    → w ≡ g (unwrap_or (get nat_cmp m k) none_flushed)
+    → (d : ℕ) → unwrap_or (get nat_cmp n d) none_flushed ≡ cond (k == d) (g (unwrap_or (get nat_cmp m d) none_flushed)) (unwrap_or (get nat_cmp m d) none_flushed)
+put_flushed m n k w g h is d = ap (λ o. unwrap_or o none_flushed) (put m n k w h d) ∙ at (k == d) refl
+  where
+    at : (b : Bool) → (k == d) ≡ b
+        → unwrap_or (cond b (Some w) (get nat_cmp m d)) none_flushed ≡ cond b (g (unwrap_or (get nat_cmp m d) none_flushed)) (unwrap_or (get nat_cmp m d) none_flushed)
+    at true e = is ∙ ap (λ q. g (unwrap_or (get nat_cmp m q) none_flushed)) (eqb-true k d e)
+    at false e = refl
 
 -- the names of one directory
 

@@ -141,11 +141,16 @@ commit_news_append path ds before (r ∷ rs) ss =
     ap (λ ms. news_of before (changed_records path ds before (before ++ r ∷ [])) r.body ∷ ms)
     (commit_news_append path ds (before ++ r ∷ []) rs ss ∙ ap (λ xs. commit_news path ds (before ++ r ∷ []) rs ++ commit_news path ds xs ss) (append_assoc before (r ∷ []) rs))
 
+-- where messages are sent
+abbrev pub news_if : Bool → List Message → List Message
+news_if sending ms = cond sending ms []
+
 -- one of the records that aren't durable becomes so, and the client is told of it
-pub same_told : (path : ℕ → List ℕ) (ds : List ℕ) (durable fresh now rest : List Record) (sent new : List Message) → now ≡ durable ++ take 1 fresh → rest ≡ drop 1 fresh
-    → new ≡ sent ++ commit_news path ds durable (take 1 fresh)
-    → new ++ commit_news path ds now rest ≡ sent ++ commit_news path ds durable fresh
-same_told path ds durable fresh now rest sent new grown left is =
+pub same_told : (sending : Bool) (path : ℕ → List ℕ) (ds : List ℕ) (durable fresh now rest : List Record) (sent new : List Message) → now ≡ durable ++ take 1 fresh
+    → rest ≡ drop 1 fresh → new ≡ sent ++ news_if sending (commit_news path ds durable (take 1 fresh))
+    → new ++ news_if sending (commit_news path ds now rest) ≡ sent ++ news_if sending (commit_news path ds durable fresh)
+same_told true path ds durable fresh now rest sent new grown left is =
     rw (is, grown, left)
     (append_assoc sent (commit_news path ds durable (take 1 fresh)) (commit_news path ds (durable ++ take 1 fresh) (drop 1 fresh))
     ∙ ap (λ ms. sent ++ ms) (sym (commit_news_append path ds durable (take 1 fresh) (drop 1 fresh)) ∙ ap (λ rs. commit_news path ds durable rs) (take-append-drop 1 fresh)))
+same_told false path ds durable fresh now rest sent new grown left is = rw is (append-nil (sent ++ []))

@@ -155,15 +155,15 @@ impl Records {
 
     /// Records one more record, which may follow those before it. It isn't durable yet. After `Memory`
     /// the records are as before.
-    pub fn add(&mut self, record: Record) -> Result<(), Memory>
-        requires next { IsNext (all self.old) record.body }
+    pub fn add(&mut self, next: Record) -> Result<(), Memory>
+        requires { IsNext (all self.old) next.body }
         ensures durable { self.new.durable ≡ self.old.durable }
-        ensures fresh { OnOk result (self.new.fresh ≡ self.old.fresh ++ record ∷ []) }
+        ensures fresh { OnOk result (self.new.fresh ≡ self.old.fresh ++ next ∷ []) }
         ensures err { OnErr result (self.new.fresh ≡ self.old.fresh) }
     {
         self.records.reserve(1)?;
-        self.index.add(self.records.as_slice(), &record.body)?;
-        self.records.push_reserved(record);
+        self.index.add(self.records.as_slice(), &next.body)?;
+        self.records.push_reserved(next);
         Ok(())
     }
 
@@ -179,6 +179,7 @@ impl Records {
     ) -> Result<u32, Memory>
         requires { length self.old.fresh < 10000 }
         ensures count { IfOk result (λ n. n ≡ length self.old.fresh) }
+        ensures records { all self.new ≡ all self.old }
         ensures durable { OnOk result (self.new.durable ≡ all self.old) }
         ensures fresh { OnOk result (self.new.fresh ≡ []) }
         ensures front { Settles self.old self.new }

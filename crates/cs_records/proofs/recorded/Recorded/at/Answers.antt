@@ -13,4 +13,5 @@ pub returns-in-None : goal.returns-in-None
 returns-in-None c =
     let is : c.deref.result.now ≡ c.args.self.now = c.deref.ensures.value ∙ c.self.view_is in
     let count = c.count_before-count in
-    last_recorded_none c.args.at count.result c.args.self.now count.ensures.bound count.ensures.point (rw is at (sym c.in-None.ensures.value))
+    c.unflushed.ensures
+    ∙ last_recorded_none c.args.at count.result c.args.self.now count.ensures.bound count.ensures.point (rw is at (sym c.in-None.ensures.value))
