@@ -1,12 +1,11 @@
 -- What is kept beside the records, after each step.
-use Rattle.std.proofs.Common.{◌≡◌, ℕ, ◌==◌, ◌+◌, ◌≤◌, ◌<◌, ◌||◌, ◌&&◌, Bool, true, false, cond, List, [], ◌∷◌, ◌++◌, Option, Some, None, length, take, drop, get_or, suc, add-one, refl, sym, ◌∙◌, ap, subst, arith, append-nil, max, nat_eq}
+use Rattle.std.proofs.Common.{◌≡◌, ℕ, ◌==◌, ◌+◌, ◌<◌, ◌||◌, ◌&&◌, Bool, true, false, cond, List, [], ◌∷◌, ◌++◌, Option, Some, None, length, take, drop, get_or, suc, add-one, refl, sym, ◌∙◌, ap, subst, arith, append-nil, max, nat_eq}
 use Rattle.std.specs.Str.{bytes_eq}
 use Rattle.std.proofs.lemmas.Bool.{eqb-true}
 use Rattle.std.proofs.lemmas.List.{length-append, length-drop, take-append-drop, take-append-le}
 use Rattle.std.proofs.Math.Seq.{drop-cons, take-suc}
 use Rattle.cs_laws.specs.declared.records.Record.{Record}
 use Rattle.cs_laws.specs.declared.records.RecordBody.TheVariants as bodies
-use Rattle.cs_laws.specs.Realms.{Own}
 use Rattle.cs_laws.specs.Standing.{dir_in, dir_of, greatest_number, greatest_tid, is_removal, is_removed, number_of}
 use Rattle.cs_laws.specs.declared.messages.Message.{Message}
 use Rattle.cs_tree.specs.declared.directories.Directory.{Directory}

@@ -1,6 +1,6 @@
 -- The last flush of a file before a state, and the last entry of the server's table before it, where one flush more is recorded:
 -- what both then are is said in the same way.
-use Rattle.std.proofs.Common.{◌≡◌, refl, sym, ap, ◌∙◌, subst, ℕ, ◌+◌, ◌<◌, ◌≤◌, Bool, true, false, cond, ◌&&◌, ◌==◌, max, unwrap_or, nat_lt, nat_le, List, [], ◌∷◌, ◌++◌, Option, Some, None, inl, ⊎_elim, arith}
+use Rattle.std.proofs.Common.{◌≡◌, refl, sym, ap, ◌∙◌, subst, ℕ, ◌+◌, ◌<◌, ◌≤◌, Bool, true, false, cond, ◌&&◌, ◌==◌, max, unwrap_or, nat_lt, nat_le, List, [], ◌∷◌, ◌++◌, Option, Some, None, ⊎_elim, arith}
 use Rattle.std.specs.Option.{option_map}
 use Rattle.std.specs.List.{All}
 use Rattle.std.specs.Cmp.{both_ways as same_test}

@@ -1,7 +1,6 @@
 -- A front of the records that aren't durable becomes so.
-use Rattle.std.proofs.Common.{◌≡◌, ℕ, ◌+◌, ◌<◌, [], ◌∷◌, ◌++◌, List, length, take, drop, refl, sym, ◌∙◌, ap, append-nil, append_assoc, arith}
+use Rattle.std.proofs.Common.{◌≡◌, [], ◌++◌, take, drop, refl, sym, ◌∙◌, ap, append-nil, append_assoc}
 use Rattle.std.proofs.lemmas.List.{take-append-drop}
-use Rattle.cs_laws.specs.declared.records.Record.{Record}
 use Rattle.cs_records.specs.Records.{RecordLog, Settles, all}
 
 pub settles_none : (v : RecordLog) → Settles v v

@@ -1,4 +1,4 @@
-use Rattle.std.proofs.Common.{◌≡◌, ◌∙◌, ◌++◌, ◌∷◌, [], ◌<◌, ap, sym, subst}
+use Rattle.std.proofs.Common.{◌∙◌, ◌++◌, ◌∷◌, [], ◌<◌, ap, sym, subst}
 use Rattle.cs_records.specs.Flushed.{Flushed}
 use Rattle.cs_records.specs.Places.{ArePlaced, greatest_in}
 use Rattle.cs_records.proofs.FlushPlaces.{placed_more}

@@ -1,4 +1,4 @@
-use Rattle.std.proofs.Common.{◌≡◌, ◌∙◌, sym, ap}
+use Rattle.std.proofs.Common.{◌∙◌, sym, ap}
 use Rattle.cs_records.specs.Flushed.{Flushed}
 use Rattle.cs_records.specs.Places.{greatest_in}
 use Rattle.cs_records.proofs.FlushPlaces.{greatest_last, greatest_none}

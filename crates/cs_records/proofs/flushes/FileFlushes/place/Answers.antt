@@ -1,4 +1,4 @@
-use Rattle.std.proofs.Common.{◌≡◌, ◌∙◌, sym, ap, ℕ, ◌<◌, get_or, length, rules, Some}
+use Rattle.std.proofs.Common.{◌≡◌, ◌∙◌, ap, ℕ, ◌<◌, get_or, length, rules, Some}
 use Rattle.std.proofs.lemmas.List.Sorted.{answers_always}
 use Rattle.cs_records.specs.Flushed.{Flushed}
 use Rattle.cs_records.specs.Places.{place_in}

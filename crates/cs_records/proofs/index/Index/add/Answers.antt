@@ -1,7 +1,5 @@
 use Rattle.std.proofs.Common.{◌≡◌, ◌∙◌, ◌==◌, ◌<◌, Some, cond, nat_eq, [], ◌∷◌, ◌++◌, refl, sym, ap, subst, arith}
 use Rattle.std.specs.Map.{lookup}
-use Rattle.cs_laws.specs.declared.records.RecordBody.{RecordBody}
-use Rattle.cs_laws.specs.declared.records.RecordBody.TheVariants as bodies
 use Rattle.cs_laws.specs.Standing.{greatest_tid}
 use Rattle.cs_records.specs.declared.index.Index.{Index}
 use Rattle.cs_records.specs.Flushed.{Flushed}

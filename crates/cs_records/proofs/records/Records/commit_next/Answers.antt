@@ -1,4 +1,4 @@
-use Rattle.std.proofs.Common.{◌≡◌, ◌∙◌, ◌+◌, ◌++◌, true, cond, [], ◌∷◌, take, drop, nat_eq, ap, sym, rules, subst}
+use Rattle.std.proofs.Common.{◌≡◌, ◌∙◌, ◌+◌, ◌++◌, true, cond, [], take, drop, nat_eq, ap, sym, rules, subst}
 use Rattle.indexmap.specs.IndexMap.{get}
 use Rattle.cs_tree.specs.Directories.{inos, path_of}
 use Rattle.cs_records.specs.CommitNews.{commit_news}

@@ -1,7 +1,7 @@
-use Rattle.std.proofs.Common.{◌≡◌, ◌∙◌, Option, sym, ap}
+use Rattle.std.proofs.Common.{◌∙◌, sym, ap}
 use Rattle.cs_laws.specs.Standing.{has_flush}
 use Rattle.cs_records.specs.Flushed.{Flushed}
-use Rattle.cs_records.specs.Places.{place_in, places_from}
+use Rattle.cs_records.specs.Places.{place_in}
 use Rattle.cs_records.specs.Records.{RecordLog}
 use Rattle.cs_records.proofs.FlushPlaces.{is_in, stands_durable}
 use Rattle.cs_records.proofs.records.Records.is_durable.Goals as goal
