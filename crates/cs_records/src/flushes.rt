@@ -70,13 +70,7 @@ impl FileFlushes {
     }
 
     // Takes one more flush. After `Memory` all is as before.
-    fn add(
-        &mut self,
-        tid: Tid,
-        place: usize,
-        follows: Seq,
-        meta: FileMeta,
-    ) -> Result<(), Memory>
+    fn add(&mut self, tid: Tid, place: usize, follows: Seq, meta: FileMeta) -> Result<(), Memory>
         requires { greatest_in self.old.places < tid }
         ensures ok { OnOk result (self.new ≡ with_flushed tid place follows meta self.old) }
         ensures err { OnErr result (self.new ≡ self.old) }

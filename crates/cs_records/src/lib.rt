@@ -12,7 +12,7 @@ mod recorded;
 mod records;
 
 pub use laws::{
-    a_front_of_a_log_is_a_log, a_record_of_a_log_is_the_next_one, a_removal_tells_its_realm_alone, a_snapshot_tells_its_realm_and_those_now_below,
-    told_by_example, values_may_cross_threads,
+    a_front_of_a_log_is_a_log, a_record_of_a_log_is_the_next_one, a_removal_tells_its_realm_alone,
+    a_snapshot_tells_its_realm_and_those_now_below, told_by_example, values_may_cross_threads,
 };
 pub use records::Records;
