@@ -26,10 +26,12 @@ placed_end f n m (Some x) xs ys = at (x.file == f)
     at true = refl
     at false = refl
 
-pub places_append : (f n : ℕ) (rs : List Record) (r : Record) → places_from f n (rs ++ r ∷ []) ≡ places_from f n rs ++ with_place f (n + length rs) (flush_in r.body) []
+pub places_append : (f n : ℕ) (rs : List Record) (r : Record)
+    → places_from f n (rs ++ r ∷ []) ≡ places_from f n rs ++ with_place f (n + length rs) (flush_in r.body) []
 places_append f n [] r = ap (λ k. with_place f k (flush_in r.body) []) (omega arith)
 places_append f n (x ∷ rs) r =
-    ap (λ ys. with_place f n (flush_in x.body) ys) (places_append f (n + 1) rs r ∙ ap (λ k. places_from f (n + 1) rs ++ with_place f k (flush_in r.body) []) (omega arith))
+    ap (λ ys. with_place f n (flush_in x.body) ys) (places_append f (n + 1) rs r
+    ∙ ap (λ k. places_from f (n + 1) rs ++ with_place f k (flush_in r.body) []) (omega arith))
     ∙ placed_end f n n (flush_in x.body) (places_from f (n + 1) rs) (with_place f (n + length (x ∷ rs)) (flush_in r.body) [])
 
 -- The greatest number
@@ -44,7 +46,8 @@ greatest_with f n (Some x) xs = at (x.file == f)
 
 pub greatest_places : (f n : ℕ) (rs : List Record) → greatest_in (places_from f n rs) ≡ greatest_tid f rs
 greatest_places f n [] = refl
-greatest_places f n (r ∷ rs) = greatest_with f n (flush_in r.body) (places_from f (n + 1) rs) ∙ ap (λ k. max (tid_if f (flush_in r.body)) k) (greatest_places f (n + 1) rs)
+greatest_places f n (r ∷ rs) =
+    greatest_with f n (flush_in r.body) (places_from f (n + 1) rs) ∙ ap (λ k. max (tid_if f (flush_in r.body)) k) (greatest_places f (n + 1) rs)
 
 -- the last one is the greatest
 pub greatest_last : (xs : List (ℕ × ℕ)) (y : ℕ × ℕ) → ArePlaced xs → slice_get xs (length xs - 1) ≡ Some y → y.0 ≡ greatest_in xs
@@ -59,7 +62,8 @@ greatest_last (x ∷ z ∷ xs) y rising there =
 pub greatest_none : (xs : List (ℕ × ℕ)) → slice_get xs (length xs - 1) ≡ None → 0 ≡ greatest_in xs
 greatest_none [] e = refl
 greatest_none (x ∷ []) e = cc e
-greatest_none (x ∷ z ∷ xs) e = let less : length (x ∷ z ∷ xs) - 1 ≡ suc (length (z ∷ xs) - 1) = omega arith in absurd (filled (z ∷ xs) (omega arith) (rw less at e))
+greatest_none (x ∷ z ∷ xs) e =
+    let less : length (x ∷ z ∷ xs) - 1 ≡ suc (length (z ∷ xs) - 1) = omega arith in absurd (filled (z ∷ xs) (omega arith) (rw less at e))
   where
     filled : (ys : List (ℕ × ℕ)) → 0 < length ys → slice_get ys (length ys - 1) ≡ None → ⊥
     filled [] some e = omega arith
@@ -73,7 +77,8 @@ below_greatest (x ∷ xs) (suc k) d within = omega (arith, below_greatest xs k d
 
 all_more : (n : ℕ) (xs : List (ℕ × ℕ)) (y : ℕ × ℕ) → ((k : ℕ) (d : ℕ × ℕ) → k < length xs → n < (get_or xs k d).0) → n < y.0 → All (λ z. n < z.0) (xs ++ y ∷ [])
 all_more n [] y each more = All-cons (λ z. n < z.0) y [] more (All-nil (λ z. n < z.0))
-all_more n (x ∷ xs) y each more = All-cons (λ z. n < z.0) x (xs ++ y ∷ []) (each 0 x (omega arith)) (all_more n xs y (λ k d within. each (suc k) d (omega arith)) more)
+all_more n (x ∷ xs) y each more =
+    All-cons (λ z. n < z.0) x (xs ++ y ∷ []) (each 0 x (omega arith)) (all_more n xs y (λ k d within. each (suc k) d (omega arith)) more)
 
 -- a greater one goes to the end
 pub placed_more : (xs : List (ℕ × ℕ)) (y : ℕ × ℕ) → ArePlaced xs → greatest_in xs < y.0 → ArePlaced (xs ++ y ∷ [])
@@ -84,7 +89,8 @@ placed_more (x ∷ xs) y rising more =
 
 -- The place of a number
 
-pub place_found : (tid : ℕ) (xs : List (ℕ × ℕ)) (k : ℕ) (d : ℕ × ℕ) → ArePlaced xs → k < length xs → (get_or xs k d).0 ≡ tid → Some (get_or xs k d).1 ≡ place_in tid xs
+pub place_found : (tid : ℕ) (xs : List (ℕ × ℕ)) (k : ℕ) (d : ℕ × ℕ) → ArePlaced xs → k < length xs → (get_or xs k d).0 ≡ tid
+    → Some (get_or xs k d).1 ≡ place_in tid xs
 place_found tid [] k d rising within same = absurd (omega arith)
 place_found tid (x ∷ xs) zero d rising within same = ap (λ b. cond b (Some x.1) (place_in tid xs)) (sym (eq-eqb x.0 tid same))
 place_found tid (x ∷ xs) (suc k) d rising within same =
@@ -101,7 +107,8 @@ place_missing tid (x ∷ xs) apart =
 -- A search for a number
 
 numbers_rise : (s : ℕ) (xs : List (ℕ × ℕ)) → ArePlaced xs → IsNonDecreasingBy (λ x. ordering_index (nat_cmp x.0 s)) xs
-numbers_rise s xs rising i j d low within = ⊎_elim (λ same. rw same (omega arith)) (λ less. let up = rising i j d less within in grind (arith, nat_tests)) (eq-or-lt_of_le low)
+numbers_rise s xs rising i j d low within =
+    ⊎_elim (λ same. rw same (omega arith)) (λ less. let up = rising i j d less within in grind (arith, nat_tests)) (eq-or-lt_of_le low)
 
 pub found_at : (tid k : ℕ) (xs : List (ℕ × ℕ)) (d : ℕ × ℕ) → IsBinarySearchResult (λ x. nat_cmp x.0 tid) xs (Ok k) → (get_or xs k d).0 ≡ tid
 found_at tid k xs d at = ranked (get_or xs k d).0 tid _ (sym (at d))
@@ -124,7 +131,8 @@ one_or : (c : Bool) (n d : ℕ) (o : Option ℕ) → is_in d (cond c (Some n) o)
 one_or true n d o = refl
 one_or false n d o = refl
 
-in_with : (f tid n d : ℕ) (o : Option Flush) (xs : List (ℕ × ℕ)) → is_in d (place_in tid (with_place f n o xs)) ≡ cond (is_flush f tid o) (nat_lt n d) (is_in d (place_in tid xs))
+in_with : (f tid n d : ℕ) (o : Option Flush) (xs : List (ℕ × ℕ))
+    → is_in d (place_in tid (with_place f n o xs)) ≡ cond (is_flush f tid o) (nat_lt n d) (is_in d (place_in tid xs))
 in_with f tid n d None xs = refl
 in_with f tid n d (Some x) xs = at (x.file == f)
   where

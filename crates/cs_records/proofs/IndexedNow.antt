@@ -50,22 +50,26 @@ flushed_then f n (Some x) s = cond (x.file == f) (with_flushed x.tid n x.follows
 
 -- One more record
 
+abbrev with_metas : List (ℕ × ℕ) → List (ℕ × FileMeta) → Flushed
+with_metas places metas = record { places = places; metas = metas }
+
 flushed_append : (f : ℕ) (rs : List Record) (r : Record) → flushed f (rs ++ r ∷ []) ≡ flushed_then f (length rs) (flush_in r.body) (flushed f rs)
 flushed_append f rs r =
-    (λ i. record { places = placed i; metas = recorded_append f rs r i })
+    (λ i. with_metas (placed i) (recorded_append f rs r i))
     ∙ at (flush_in r.body)
   where
     placed : places_from f 0 (rs ++ r ∷ []) ≡ places_from f 0 rs ++ with_place f (length rs) (flush_in r.body) []
     placed = places_append f 0 rs r ∙ ap (λ k. places_from f 0 rs ++ with_place f k (flush_in r.body) []) (omega arith)
 
     own : (x : Flush) (b : Bool)
-        → record { places = places_from f 0 rs ++ cond b ((x.tid, length rs) ∷ []) []; metas = cond b (with_recorded (x.follows, x.meta) (recorded f rs)) (recorded f rs) }
+        → with_metas (places_from f 0 rs ++ cond b ((x.tid, length rs) ∷ []) []) (cond b (with_recorded (x.follows, x.meta) (recorded f rs)) (recorded f rs))
         ≡ cond b (with_flushed x.tid (length rs) x.follows x.meta (flushed f rs)) (flushed f rs)
     own x true = refl
-    own x false = ap (λ xs. record { places = xs; metas = recorded f rs }) (append-nil (places_from f 0 rs))
+    own x false = ap (λ xs. with_metas xs (recorded f rs)) (append-nil (places_from f 0 rs))
 
-    at : (o : Option Flush) → record { places = places_from f 0 rs ++ with_place f (length rs) o []; metas = recorded_then f o (recorded f rs) } ≡ flushed_then f (length rs) o (flushed f rs)
-    at None = ap (λ xs. record { places = xs; metas = recorded f rs }) (append-nil (places_from f 0 rs))
+    at : (o : Option Flush)
+        → with_metas (places_from f 0 rs ++ with_place f (length rs) o []) (recorded_then f o (recorded f rs)) ≡ flushed_then f (length rs) o (flushed f rs)
+    at None = ap (λ xs. with_metas xs (recorded f rs)) (append-nil (places_from f 0 rs))
     at (Some x) = own x (x.file == f)
 
 -- the look-ups give what the records and one more say
@@ -85,7 +89,8 @@ indexed_more rs r t new i next number dirs removed names flushes = record {
   flushes = λ f. flushes f ∙ sym (flushed_append f rs r);
 }
 
-pub kept_request : (rs : List Record) (tid : ℕ) (op : ReqOp) (answer : OpAnswer) (t : Index) → IsIndexed rs t → IsIndexed (rs ++ record { body = bodies.Request tid op answer } ∷ []) t
+pub kept_request : (rs : List Record) (tid : ℕ) (op : ReqOp) (answer : OpAnswer) (t : Index) → IsIndexed rs t
+    → IsIndexed (rs ++ record { body = bodies.Request tid op answer } ∷ []) t
 kept_request rs tid op answer t i =
     indexed_more rs (record { body = bodies.Request tid op answer }) t t i tt (omega (arith, i.number))
     (λ s. i.dirs s ∙ sym (either_none (dir_of s rs)))
@@ -105,7 +110,8 @@ kept_flush rs snap f tid follows meta t new i next number dirs removed names flu
 
 pub kept_snap : (rs : List Record) (n e : ℕ) (name : List ℕ) (t new : Index) → IsIndexed rs t → IsNextSnap rs n e name
     → new.greatest ≡ n → ((s : ℕ) → get nat_eq new.dirs s ≡ cond (n == s) (Some e) (get nat_eq t.dirs s)) → new.removed ≡ t.removed
-    → ((d : ℕ) (other : List ℕ) → name_in new.names d other ≡ cond ((e == d) && bytes_eq other name) (Some n) (name_in t.names d other)) → new.flushes ≡ t.flushes
+    → ((d : ℕ) (other : List ℕ) → name_in new.names d other ≡ cond ((e == d) && bytes_eq other name) (Some n) (name_in t.names d other))
+    → new.flushes ≡ t.flushes
     → IsIndexed (rs ++ record { body = bodies.Snap n e name } ∷ []) new
 kept_snap rs n e name t new i next number dirs removed names flushes =
     let drawn = next.next in
@@ -170,14 +176,17 @@ kept_next rs d t of now r some is changed i = record {
     within = omega (arith, (more_behind rs d some));
     realms = λ e.
         changed e
-        ∙ (changed_had (get nat_eq t.dirs) (own_in of) (take d rs) r.body (front_log rs d i.index.log) (next_of rs d r (more_behind rs d some) is i.index.log) (knows_of rs d t i.index)
+        ∙ (changed_had (get nat_eq t.dirs) (own_in of) (take d rs) r.body (front_log rs d i.index.log) (next_of rs d r (more_behind rs d some) is i.index.log)
+        (knows_of rs d t i.index)
         i.settled.realms e
         ∙ ap (λ xs. had e xs) (sym (front_grows rs d r (more_behind rs d some) is)));
   };
 }
 
-pub known_next : (rs : List Record) (d : ℕ) (t : Index) (of : OwnTable) (r : Record) → 0 < length (drop d rs) → r ≡ get_or rs d r → IsKept rs d t of → IsKnown (get nat_eq t.dirs) r.body
-known_next rs d t of r some is i = known (get nat_eq t.dirs) (take d rs) r.body (knows_of rs d t i.index) (next_of rs d r (more_behind rs d some) is i.index.log)
+pub known_next : (rs : List Record) (d : ℕ) (t : Index) (of : OwnTable) (r : Record) → 0 < length (drop d rs) → r ≡ get_or rs d r → IsKept rs d t of
+    → IsKnown (get nat_eq t.dirs) r.body
+known_next rs d t of r some is i =
+    known (get nat_eq t.dirs) (take d rs) r.body (knows_of rs d t i.index) (next_of rs d r (more_behind rs d some) is i.index.log)
 
 first_behind : (rs : List Record) (d : ℕ) (r : Record) → d < length rs → r ≡ get_or rs d r → take 1 (drop d rs) ≡ r ∷ []
 first_behind rs d r more is = ap (λ xs. take 1 xs) (drop-cons rs d r more) ∙ ap (λ x. x ∷ []) (sym is)
@@ -192,7 +201,8 @@ settles_next rs d r some is = record {
 
 -- what the client is told of it
 pub told_next : (rs : List Record) (d : ℕ) (t : Index) (of now : OwnTable) (r : Record) (xs : List Directory) (is_new : Bool) (m : Message)
-    → 0 < length (drop d rs) → r ≡ get_or rs d r → ((e : ℕ) → own_in now e ≡ changed_own (get nat_eq t.dirs) (own_in of) r.body e) → IsKept rs d t of → AreDistinct xs
+    → 0 < length (drop d rs) → r ≡ get_or rs d r → ((e : ℕ) → own_in now e ≡ changed_own (get nat_eq t.dirs) (own_in of) r.body e) → IsKept rs d t of
+    → AreDistinct xs
     → is_new ≡ is_new_by (get nat_eq t.dirs) (own_in of) r.body → m ≡ message_by (get nat_eq t.dirs) (own_in now) xs is_new r.body
     → m ∷ [] ≡ commit_news (path_of xs) (inos xs) (take d rs) (take 1 (drop d rs))
 told_next rs d t of now r xs is_new m some is changed i distinct new message =

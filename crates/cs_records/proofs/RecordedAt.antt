@@ -77,13 +77,15 @@ last_recorded_none a n xs few cut e = sym (told_front a n xs few cut ∙ ap (λ 
 -- the numbers rise, so those below one stand in front
 pub rising_parts : (s : ℕ) (xs : List (ℕ × FileMeta)) → AreRising xs → IsPartitionedBy (λ x. nat_lt x.0 s) xs
 rising_parts s xs rising = IsPartitionedBy-ltb (λ (x : ℕ × FileMeta). x.0) xs s
-    (λ i j d below inside. ⊎_elim (λ same. omega (arith, ap (λ k. (slice_index_or xs k d).0) same)) (λ less. omega (arith, rising i j d less inside)) (eq-or-lt_of_le below))
+    (λ i j d below inside. ⊎_elim (λ same. omega (arith, ap (λ k. (slice_index_or xs k d).0) same)) (λ less. omega (arith, rising i j d less inside))
+    (eq-or-lt_of_le below))
 
 -- A search for a number
 
 -- the comparisons with it rise along the table, as a search asks
 comparisons_rise : (s : ℕ) (xs : List (ℕ × FileMeta)) → AreRising xs → IsNonDecreasingBy (λ x. ordering_index (nat_cmp x.0 s)) xs
-comparisons_rise s xs rising i j d low within = ⊎_elim (λ same. rw same (omega arith)) (λ less. let up = rising i j d less within in grind (arith, nat_tests)) (eq-or-lt_of_le low)
+comparisons_rise s xs rising i j d low within =
+    ⊎_elim (λ same. rw same (omega arith)) (λ less. let up = rising i j d less within in grind (arith, nat_tests)) (eq-or-lt_of_le low)
 
 -- it ends at the number
 pub found_there : (s k : ℕ) (xs : List (ℕ × FileMeta)) (d : ℕ × FileMeta) → IsBinarySearchResult (λ x. nat_cmp x.0 s) xs (Ok k) → (get_or xs k d).0 ≡ s

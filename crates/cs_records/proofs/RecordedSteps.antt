@@ -97,7 +97,8 @@ newer x (Some y) = cond (nat_le y.0 x.0) (Some x) (Some y)
 newer_above : (x : ℕ × FileMeta) (o : Option (ℕ × FileMeta)) → IsAbove (x.0 + 1) o → pick o true x ≡ newer x o
 newer_above x None above = refl
 newer_above x (Some y) above =
-    sym (cond-false (nat_le y.0 x.0) (Some x) (Some y) (false_from_ne_true (nat_le y.0 x.0) (λ low. let most : y.0 ≤ x.0 = leb-true y.0 x.0 low in omega arith)))
+    sym (cond-false (nat_le y.0 x.0) (Some x) (Some y)
+    (false_from_ne_true (nat_le y.0 x.0) (λ low. let most : y.0 ≤ x.0 = leb-true y.0 x.0 low in omega arith)))
 
 -- all that stands is above x
 picked : (b : Bool) (x : ℕ × FileMeta) (o : Option (ℕ × FileMeta)) → IsAbove (x.0 + 1) o → pick o b x ≡ cond b (newer x o) o
@@ -140,7 +141,8 @@ last_with a n x (y ∷ ys) up = at (nat_lt y.0 x.0) refl (last_with a (y.0 + 1) 
         (subst (λ k. IsAbove (k + 1) (last_pair a ys)) same (last_above a (y.0 + 1) ys up.1))
     same_or_less false isnt high =
         picked (is_before a x.0) x (last_pair a (y ∷ ys))
-        (last_above a (x.0 + 1) (y ∷ ys) (⊎_elim (λ same. absurd (both_ways (y.0 == x.0) isnt (eq-eqb y.0 x.0 (sym same)))) (λ less. omega arith) (eq-or-lt_of_le high), up.1))
+        (last_above a (x.0 + 1) (y ∷ ys)
+        (⊎_elim (λ same. absurd (both_ways (y.0 == x.0) isnt (eq-eqb y.0 x.0 (sym same)))) (λ less. omega arith) (eq-or-lt_of_le high), up.1))
 
     at : (b : Bool) → nat_lt y.0 x.0 ≡ b → last_pair a (with_recorded x ys) ≡ cond (is_before a x.0) (newer x (last_pair a ys)) (last_pair a ys)
         → last_pair a (cond b (y ∷ with_recorded x ys) (cond (y.0 == x.0) (x ∷ ys) (x ∷ y ∷ ys)))
@@ -274,7 +276,8 @@ agrees_end f xs rs x true own low i = record {
       let file = eqb-true x.file f own in
       last_with a 0 (x.follows, x.meta) xs i.rises
       ∙ (ap (λ o. cond (is_before a x.follows) (newer (x.follows, x.meta) o) o) (i.agrees a)
-      ∙ (sym (pair_newer (is_before a x.follows) x (last_flush f a rs)) ∙ ap pair_of (sym (last_end f a rs x file (subst (λ g. greatest_tid g rs < x.tid) file low)))));
+      ∙ (sym (pair_newer (is_before a x.follows) x (last_flush f a rs))
+      ∙ ap pair_of (sym (last_end f a rs x file (subst (λ g. greatest_tid g rs < x.tid) file low)))));
 }
 agrees_end f xs rs x false other low i = record {
   rises = i.rises;
@@ -285,7 +288,8 @@ agrees_end f xs rs x false other low i = record {
 agrees_beside : (f : ℕ) (xs : List (ℕ × FileMeta)) (rs : List Record) (r : Record) → ((a : At) → IsBeside f a r) → Agrees f xs rs → Agrees f xs (rs ++ r ∷ [])
 agrees_beside f xs rs r other i = record { rises = i.rises; agrees = λ a. i.agrees a ∙ ap pair_of (sym (last_beside f a rs r (other a))) }
 
-agrees_step : (f : ℕ) (rs : List Record) (b : RecordBody) → Agrees f (recorded f rs) rs → IsNext rs b → Agrees f (recorded_then f (flush_in b) (recorded f rs)) (rs ++ record { body = b } ∷ [])
+agrees_step : (f : ℕ) (rs : List Record) (b : RecordBody) → Agrees f (recorded f rs) rs → IsNext rs b
+    → Agrees f (recorded_then f (flush_in b) (recorded f rs)) (rs ++ record { body = b } ∷ [])
 agrees_step f rs (bodies.Flush snap g tid follows meta) i next =
     agrees_end f (recorded f rs) rs (record { tid = tid; file = g; follows = follows; meta = meta; snap = snap }) (g == f) refl next i
 agrees_step f rs (bodies.Request tid op answer) i next = agrees_beside f (recorded f rs) rs _ (λ a o. refl) i

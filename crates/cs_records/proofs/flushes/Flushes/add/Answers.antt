@@ -10,7 +10,8 @@ use Rattle.cs_records.proofs.flushes.Flushes.add.Goals as goal
 pub returns-in_err-add-in-Some-clause-err : goal.returns-in_err-add-in-Some-clause-err
 returns-in_err-add-in-Some-clause-err c =
     any_err c.from_residual.result
-    (λ f. ap (λ o. unwrap_or o none_flushed) (put_same c.args.self.now.files (c.get_mut.follows.lender c.add.new.self) c.args.file c.in-Some.flushes.now c.add.new.self
+    (λ f. ap (λ o. unwrap_or o none_flushed)
+    (put_same c.args.self.now.files (c.get_mut.follows.lender c.add.new.self) c.args.file c.in-Some.flushes.now c.add.new.self
     c.in-Some.ensures.value c.in_err-add-in-Some.ensures.err ((c.get_mut.follows.holds c.add.new.self).3 (search rules)) f))
 
 pub returns-in_ok-insert-in-None-clause-ok : goal.returns-in_ok-insert-in-None-clause-ok

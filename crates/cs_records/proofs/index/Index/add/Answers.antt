@@ -32,7 +32,8 @@ returns-in-Flush-clause-ok c =
     let next : greatest_tid c.in-Flush.file rs < c.in-Flush.tid = subst (λ b. IsNext rs b) c.in-Flush.is c.requires.next in
     on_ok c.add.result
     (λ added. subst (λ b. IsIndexed (rs ++ record { body = b } ∷ []) (record c.args.self.now { flushes = c.add.new.self })) (sym c.in-Flush.is)
-    (kept_flush rs c.in-Flush.snap c.in-Flush.file c.in-Flush.tid c.in-Flush.follows c.in-Flush.meta c.args.self.now (record c.args.self.now { flushes = c.add.new.self })
+    (kept_flush rs c.in-Flush.snap c.in-Flush.file c.in-Flush.tid c.in-Flush.follows c.in-Flush.meta c.args.self.now
+    (record c.args.self.now { flushes = c.add.new.self })
     c.requires.indexed next refl refl refl refl added))
     c.add.ensures.ok
 

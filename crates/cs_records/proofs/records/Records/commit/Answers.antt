@@ -13,7 +13,9 @@ loop-preserved c =
     record {
       front = settles_more c.args.self.now c.loop.self c.commit_next.new.self i.front done.front;
       left = omega (arith, i.left, c.loop-test.true, ap length done.fresh, length-drop 1 c.loop.self.fresh);
-      told = same_told c.args.sending (path_of dirs) (inos dirs) c.loop.self.durable c.loop.self.fresh c.commit_next.new.self.durable c.commit_next.new.self.fresh c.loop.out c.commit_next.new.out
+      told =
+          same_told c.args.sending (path_of dirs)
+          (inos dirs) c.loop.self.durable c.loop.self.fresh c.commit_next.new.self.durable c.commit_next.new.self.fresh c.loop.out c.commit_next.new.out
           done.durable done.fresh done.told ∙ i.told;
       quiet = λ silent. done.quiet silent ∙ i.quiet silent;
     }

@@ -22,4 +22,5 @@ returns-in-None c =
     let name = c.args.name.now in
     let whole : all c.args.self.now ≡ rs = ap all (sym c.self.view_is) ∙ take-append-drop c.self.inside.durable rs in
     let last = sym (c.self.invariant.index.names c.args.dir name) ∙ (sym c.last.ensures ∙ c.in-None.is) in
-    sym (name_taken rs c.self.invariant.index.log c.args.dir name ∙ ap (λ o. option_map_or (λ m. not (is_removed m rs)) o false) last) ∙ ap (λ xs. has_snap_named c.args.dir name xs) (sym whole)
+    sym (name_taken rs c.self.invariant.index.log c.args.dir name ∙ ap (λ o. option_map_or (λ m. not (is_removed m rs)) o false) last)
+    ∙ ap (λ xs. has_snap_named c.args.dir name xs) (sym whole)
