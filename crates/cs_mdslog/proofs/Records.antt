@@ -3,7 +3,7 @@ use Rattle.std.proofs.Common.{◌≡◌, refl, sym, ap, ◌∙◌, ℕ, ◌≤�
 use Rattle.std.specs.Prelude.{◌&&◌, nat_le}
 use Rattle.std.proofs.lemmas.Bool.{and_parts, leb-true}
 use Rattle.cs_codec.specs.Codecs.{Codec, IsBytes, IsOfKind}
-use Rattle.cs_codec.specs.Fields.{both, flag_at, flag_bytes, is_in, made, name_at, name_bytes, number_at, number_bytes, tagged}
+use Rattle.cs_codec.specs.Fields.{both, flag_at, flag_bytes, is_in, name_at, name_bytes, number_at, number_bytes, tagged}
 use Rattle.cs_codec.proofs.Codecs.{both_codec, mapped_codec}
 use Rattle.cs_codec.proofs.Names.{name_codec}
 use Rattle.cs_codec.proofs.Numbers.{flag_codec, number_codec}

@@ -1,5 +1,5 @@
 -- What reading a record from the left gives: the value and the bytes behind it, or None.
-use Rattle.std.specs.Prelude.{ℕ, ◌==◌, Option, None, if◌then◌else◌}
+use Rattle.std.specs.Prelude.{ℕ, ◌==◌, None, if◌then◌else◌}
 use Rattle.cs_ids.specs.declared.objects.FileMeta.{FileMeta}
 use Rattle.cs_codec.specs.Fields.{Reading, both, flag_at, made, name_at, number_at, tagged}
 use Rattle.cs_laws.specs.Fits.{greatest_end, greatest_time}
