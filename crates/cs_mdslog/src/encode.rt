@@ -1,16 +1,19 @@
 // Records written as bytes.
-ghost use Rattle.std.specs.Prelude.{◌≡◌, ◌++◌, OnErr, OnOk};
+ghost use Rattle.std.specs.Prelude.{◌≡◌, ◌++◌, ◌&&◌, true, OnErr, OnOk};
 ghost use Rattle.cs_codec.specs.Fields.{name_bytes, number_bytes};
-ghost use Rattle.cs_laws.specs.Spellings.{body_bytes, meta_bytes, op_bytes, record_bytes, reply_bytes};
+ghost use Rattle.cs_ids.specs.Names.{is_name};
+ghost use Rattle.cs_laws.specs.Spellings.{body_bytes, body_fits, body_spelled, is_counted, meta_bytes, meta_fits, meta_spelled, op_bytes, op_spelled, record_bytes, record_fits, record_spelled, reply_bytes, reply_spelled};
 
 use cs_codec::{put_flag, put_ino, put_name, put_number, put_seq, put_snap, put_tid};
 use cs_ids::{Bytes, FileMeta, Ino, Memory, Name};
 use cs_laws::{OpAnswer, Record, RecordBody, ReqOp};
 
-/// Adds the bytes of the record. After `Memory` the bytes are as before.
+/// Adds the bytes of the record; of one that fits, `decode_record` reads them. After `Memory` the bytes are
+/// as before.
 pub fn encode_record(rec: &Record, out: &mut Bytes) -> Result<(), Memory>
     ensures ok { OnOk result (out.new ≡ out.old ++ record_bytes rec.now) }
     ensures err { OnErr result (out.new ≡ out.old) }
+    ensures spelled { OnOk result (record_fits rec.now ≡ true → record_spelled rec.now ≡ true) }
 {
     let mut bytes = Bytes::new(out.allocator());
     put_number(&mut bytes, 1, 1)?;
@@ -21,7 +24,8 @@ pub fn encode_record(rec: &Record, out: &mut Bytes) -> Result<(), Memory>
 // The functions below add the bytes of a part. After `Memory` they may have added a front of them.
 
 fn put_body(out: &mut Bytes, body: &RecordBody) -> Result<(), Memory>
-    ensures { OnOk result (out.new ≡ out.old ++ body_bytes body.now) }
+    ensures bytes { OnOk result (out.new ≡ out.old ++ body_bytes body.now) }
+    ensures spelled { OnOk result (body_fits body.now ≡ true → body_spelled body.now ≡ true) }
 {
     match body {
         RecordBody::Request { tid, op, answer } => {
@@ -59,7 +63,8 @@ fn put_body(out: &mut Bytes, body: &RecordBody) -> Result<(), Memory>
 }
 
 fn put_op(out: &mut Bytes, op: &ReqOp) -> Result<(), Memory>
-    ensures { OnOk result (out.new ≡ out.old ++ op_bytes op.now) }
+    ensures bytes { OnOk result (out.new ≡ out.old ++ op_bytes op.now) }
+    ensures spelled { OnOk result (op_spelled op.now ≡ true) }
 {
     match op {
         ReqOp::Mkdir { dir, name } => put_entry(out, 1, *dir, name),
@@ -79,7 +84,8 @@ fn put_op(out: &mut Bytes, op: &ReqOp) -> Result<(), Memory>
 
 // A kind of operation, and the entry that it is about.
 fn put_entry(out: &mut Bytes, kind: u8, dir: Ino, name: &Name) -> Result<(), Memory>
-    ensures { OnOk result (out.new ≡ out.old ++ (number_bytes 1 kind ++ (number_bytes 8 dir ++ name_bytes name.now))) }
+    ensures bytes { OnOk result (out.new ≡ out.old ++ (number_bytes 1 kind ++ (number_bytes 8 dir ++ name_bytes name.now))) }
+    ensures spelled { OnOk result ((is_counted dir && is_name name.now) ≡ true) }
 {
     put_number(out, 1, u64::from(kind))?;
     put_ino(out, dir)?;
@@ -87,7 +93,8 @@ fn put_entry(out: &mut Bytes, kind: u8, dir: Ino, name: &Name) -> Result<(), Mem
 }
 
 fn put_reply(out: &mut Bytes, reply: &OpAnswer) -> Result<(), Memory>
-    ensures { OnOk result (out.new ≡ out.old ++ reply_bytes reply.now) }
+    ensures bytes { OnOk result (out.new ≡ out.old ++ reply_bytes reply.now) }
+    ensures spelled { OnOk result (reply_spelled reply.now ≡ true) }
 {
     match reply {
         OpAnswer::Made(ino) => put_kind_and_ino(out, 1, ino.get()),
@@ -110,7 +117,8 @@ fn put_kind_and_ino(out: &mut Bytes, kind: u8, ino: u64) -> Result<(), Memory>
 }
 
 fn put_meta(out: &mut Bytes, meta: &FileMeta) -> Result<(), Memory>
-    ensures { OnOk result (out.new ≡ out.old ++ meta_bytes meta.now) }
+    ensures bytes { OnOk result (out.new ≡ out.old ++ meta_bytes meta.now) }
+    ensures spelled { OnOk result (meta_fits meta.now ≡ true → meta_spelled meta.now ≡ true) }
 {
     put_number(out, 8, meta.size)?;
     put_number(out, 8, meta.mtime)?;
