@@ -114,7 +114,8 @@ reply_codec = tagged_codec 1 8 reply_of reply_bytes reply_spelled (omega arith) 
 meta_codec : Codec meta_bytes meta_spelled meta_at
 unfolding meta_at
 meta_codec =
-    mapped_codec (both_codec (number_codec 8 0 greatest_end (omega arith)) (both_codec (number_codec 8 0 greatest_time (omega arith)) (number_codec 2 0 4095 (omega arith))))
+    mapped_codec
+    (both_codec (number_codec 8 0 greatest_end (omega arith)) (both_codec (number_codec 8 0 greatest_time (omega arith)) (number_codec 2 0 4095 (omega arith))))
     meta_bytes meta_spelled meta_of (λ m fits. ((m.size, (m.mtime, m.mode)), fits, refl, refl)) (λ p fits. (refl, fits))
 
 -- Records

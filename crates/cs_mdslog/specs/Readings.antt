@@ -77,7 +77,7 @@ body_of k xs =
 unfoldable pub body_at : Reading RecordBody
 body_at xs = tagged 1 4 body_of xs
 
--- the version is 1
+-- of the version and what is behind it
 abbrev pub record_of : ℕ × RecordBody → Record
 record_of p = record { body = p.1 }
 

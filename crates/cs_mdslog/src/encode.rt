@@ -8,8 +8,8 @@ use cs_codec::{put_flag, put_ino, put_name, put_number, put_seq, put_snap, put_t
 use cs_ids::{Bytes, FileMeta, Ino, Memory, Name};
 use cs_laws::{OpAnswer, Record, RecordBody, ReqOp};
 
-/// Adds the bytes of the record; of one that fits, `decode_record` reads them. After `Memory` the bytes are
-/// as before.
+/// Adds the bytes of the record, which `decode_record` reads where it fits. After `Memory` the bytes are as
+/// before.
 pub fn encode_record(rec: &Record, out: &mut Bytes) -> Result<(), Memory>
     ensures ok { OnOk result (out.new ≡ out.old ++ record_bytes rec.now) }
     ensures err { OnErr result (out.new ≡ out.old) }
