@@ -1,0 +1,87 @@
+// What the client has of a file's metadata is sent to the server.
+ghost use Rattle.std.specs.Prelude.{◌≡◌, ℕ, ◌+◌, ◌<◌, ◌++◌, List, IfOk};
+ghost use Rattle.std.specs.BTreeMap.{get};
+ghost use Rattle.std.specs.Ordering.{nat_cmp};
+ghost use Rattle.cs_parts.specs.declared.references.Live.{Live};
+ghost use Rattle.cs_laws.specs.declared.events.Event.TheVariants as events;
+ghost use Rattle.cs_client.specs.Answers.{flush_call_answer, flush_snaps_call_answer};
+ghost use Rattle.cs_client.specs.Calls.{flush_sent, flush_snaps_sent, flushes_after};
+ghost use Rattle.cs_client.specs.Rows.{flushed_row, snap_flushed_row};
+ghost use Rattle.cs_client.specs.Views.{AreDrawn, AreTables, SamePlaces};
+
+use crate::file::ClientFile;
+use cs_flush::Sent;
+use cs_ids::{Ino, Memory, Tid};
+use cs_inode::{FlushStep, SnapStep};
+use cs_laws::{Answer, Message, MessageList, Why};
+use std::collections::BTreeMap;
+
+/// The file's present metadata is sent, if it is dirty.
+pub fn flush(
+    files: &mut BTreeMap<Ino, ClientFile>,
+    flushes: &mut u64,
+    file: Ino,
+    out: &mut MessageList,
+) -> Result<Answer, Memory>
+    requires drawn { AreDrawn files.old flushes.old }
+    requires number { flushes.old < 99998 }
+    ensures answer { IfOk result (λ a. a ≡ flush_call_answer flushes.old (get nat_cmp files.old file)) }
+    ensures rows { IfOk result (λ a. (f : ℕ) → get nat_cmp files.new f ≡ flushed_row file a f (get nat_cmp files.old f)) }
+    ensures count { IfOk result (λ a. flushes.new ≡ flushes_after (events.Flush file) a flushes.old) }
+    ensures sent { IfOk result (λ a. out.new ≡ out.old ++ flush_sent file a (get nat_cmp files.old file)) }
+    ensures tables { (rs : List Live) → AreTables files.old rs flushes.old → AreTables files.new rs flushes.new }
+    ensures places { SamePlaces files.old files.new }
+{
+    let Some(row) = files.get_mut(&file) else {
+        return Ok(Answer::Unknown);
+    };
+    match row.inode.flush(Tid::after(*flushes))? {
+        FlushStep::Snap => Ok(Answer::Again(Why::Snap)),
+        FlushStep::Clean => Ok(Answer::Clean),
+        FlushStep::Sent(Sent { tid, follows, meta }) => {
+            *flushes += 1;
+            out.push(Message::Flush {
+                file,
+                tid,
+                follows,
+                meta,
+            })?;
+            Ok(Answer::Flush { tid })
+        }
+    }
+}
+
+/// The file's first cap snap that wasn't sent is.
+pub fn flush_snaps(
+    files: &mut BTreeMap<Ino, ClientFile>,
+    flushes: &mut u64,
+    file: Ino,
+    out: &mut MessageList,
+) -> Result<Answer, Memory>
+    requires drawn { AreDrawn files.old flushes.old }
+    requires number { flushes.old < 99998 }
+    ensures answer { IfOk result (λ a. a ≡ flush_snaps_call_answer flushes.old (get nat_cmp files.old file)) }
+    ensures rows { IfOk result (λ a. (f : ℕ) → get nat_cmp files.new f ≡ snap_flushed_row file a f (get nat_cmp files.old f)) }
+    ensures count { IfOk result (λ a. flushes.new ≡ flushes_after (events.FlushSnaps file) a flushes.old) }
+    ensures sent { IfOk result (λ a. out.new ≡ out.old ++ flush_snaps_sent file a (get nat_cmp files.old file)) }
+    ensures tables { (rs : List Live) → AreTables files.old rs flushes.old → AreTables files.new rs flushes.new }
+    ensures places { SamePlaces files.old files.new }
+{
+    let Some(row) = files.get_mut(&file) else {
+        return Ok(Answer::Unknown);
+    };
+    match row.inode.flush_snaps(Tid::after(*flushes)) {
+        SnapStep::None => Ok(Answer::NoneQueued),
+        SnapStep::Writing => Ok(Answer::Writing),
+        SnapStep::Sent(Sent { tid, follows, meta }) => {
+            *flushes += 1;
+            out.push(Message::FlushSnap {
+                file,
+                tid,
+                follows,
+                meta,
+            })?;
+            Ok(Answer::FlushSnap { tid, follows })
+        }
+    }
+}

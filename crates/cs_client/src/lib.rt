@@ -1,0 +1,17 @@
+//! The client of a run: what it keeps of directories, realms, files and references, and what it makes
+//! of callers' events and of the server's messages. Contracts see of it values of its own, and no
+//! history. The object store is lent to it by each call.
+#![tactic(auto)]
+
+mod calls;
+mod client;
+mod contexts;
+mod file;
+mod flushes;
+mod messages;
+mod references;
+mod told;
+mod writes;
+
+pub use client::Client;
+pub use file::ClientFile;
