@@ -63,8 +63,8 @@ read_answer (Some r) head off len files =
 abbrev pub has_writing : Files → ℕ → Bool
 has_writing files f = option_map_or (λ r. is_writing r.inode.snaps) (get nat_cmp files f) false
 
-abbrev pub check_answer : ℕ → List Live → Option ClientFile → Answer
-check_answer f rs row = of_file (λ i. answer_check_of i.caps (used (used_in f rs) i)) row
+abbrev pub check_call_answer : ℕ → List Live → Option ClientFile → Answer
+check_call_answer f rs row = of_file (λ i. answer_check_of i.caps (used (used_in f rs) i)) row
 
 abbrev pub flushed_answer : FlushStep → Answer
 flushed_answer flush.Snap = answers.Again why.Snap
@@ -94,7 +94,7 @@ call_answer v active head (events.End caller name) = end_answer (can_end caller 
 call_answer v active head (events.Write caller name off bytes) = answer_write_on (named caller name v.refs.live) off (length bytes)
 call_answer v active head (events.Read caller name off len) = read_answer (named caller name v.refs.live) head off len v.files
 call_answer v active head (events.Chmod caller name mode) = answer_chmod_on (has_writing v.files) (named caller name v.refs.live)
-call_answer v active head (events.Check f) = check_answer f v.refs.live (get nat_cmp v.files f)
+call_answer v active head (events.Check f) = check_call_answer f v.refs.live (get nat_cmp v.files f)
 call_answer v active head (events.Flush f) = flush_call_answer v.flushes (get nat_cmp v.files f)
 call_answer v active head (events.FlushSnaps f) = flush_snaps_call_answer v.flushes (get nat_cmp v.files f)
 call_answer v active head _ = answers.Unknown

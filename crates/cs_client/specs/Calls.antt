@@ -48,10 +48,10 @@ is_call _ = false
 abbrev pub is_in_use : ℕ → List Directory → Files → Bool
 is_in_use i tree files = has_directory i tree || is_kept files i
 
--- of an inode that is new to it the client is told together with a directory that it knows
-pub record IsNewInode (i parent : ℕ) (v : ClientView) : Type 0 where
+-- of an inode that is new to it the client is told together with a directory p that it knows
+pub record IsNewInode (i p : ℕ) (v : ClientView) : Type 0 where
   pub unused : is_in_use i v.tree v.files ≡ false
-  pub parent : has_directory parent v.tree ≡ true
+  pub parent : has_directory p v.tree ≡ true
 
 -- a directory or a file of which it is told is new to it
 abbrev pub IsNewTo : ClientView → Event → Type 0

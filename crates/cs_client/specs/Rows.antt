@@ -7,6 +7,12 @@ use Rattle.cs_bits.specs.declared.Caps.{Caps}
 use Rattle.cs_parts.specs.declared.references.Live.{Live}
 use Rattle.cs_parts.specs.Capabilities.{acknowledged}
 use Rattle.cs_snapctx.specs.Context.{Context}
+use Rattle.cs_caps.specs.declared.client.Done.{Done}
+use Rattle.cs_caps.specs.declared.client.Done.TheVariants as done
+use Rattle.cs_inode.specs.declared.answers.FlushStep.{FlushStep}
+use Rattle.cs_inode.specs.declared.answers.FlushStep.TheVariants as flush
+use Rattle.cs_inode.specs.declared.answers.SnapStep.{SnapStep}
+use Rattle.cs_inode.specs.declared.answers.SnapStep.TheVariants as snap
 use Rattle.cs_inode.specs.Inodes.{FileInode, after_flush, after_flush_snaps, new_inode, with_mode, with_writer, without_writer, written}
 use Rattle.cs_laws.specs.declared.events.Event.{Event}
 use Rattle.cs_laws.specs.declared.events.Event.TheVariants as events
@@ -46,6 +52,20 @@ stopped bits i = if may_write bits then without_writer i else i
 -- the client has only these bits from now on
 abbrev pub acked : ℕ → Caps → FileInode → FileInode
 acked seq bits i = record i { caps = acknowledged i.caps bits seq }
+
+-- The row of f, by what the file says
+
+abbrev pub done_row : ℕ → Option Done → ℕ → Option ClientFile → Option ClientFile
+done_row g (Some (done.Ack seq bits)) f row = at_file g (acked seq bits) f row
+done_row g _ f row = row
+
+abbrev pub flush_row : ℕ → Option FlushStep → ℕ → Option ClientFile → Option ClientFile
+flush_row g (Some (flush.Sent x)) f row = at_file g (after_flush x.tid) f row
+flush_row g _ f row = row
+
+abbrev pub snap_row : ℕ → Option SnapStep → ℕ → Option ClientFile → Option ClientFile
+snap_row g (Some (snap.Sent x)) f row = at_file g (after_flush_snaps x.tid) f row
+snap_row g _ f row = row
 
 -- The row of f, by what a call is answered
 

@@ -108,12 +108,15 @@ ContextsFollow tree realms files = (f : ℕ) (r : ClientFile) → get nat_cmp fi
 abbrev pub AreDrawn : Files → ℕ → Type 0
 AreDrawn files sent = (f : ℕ) (r : ClientFile) → get nat_cmp files f ≡ Some r → greatest_tid r.inode ≤ sent
 
+abbrev pub IsDrawnBelow : ℕ → Files → Type 0
+IsDrawnBelow tid files = (f : ℕ) (r : ClientFile) → get nat_cmp files f ≡ Some r → greatest_tid r.inode < tid
+
 -- what always holds of a file stays
 pub record IsLike (old new : FileInode) : Type 0 where
   pub ino : new.ino ≡ old.ino
   pub writers : new.writers ≡ old.writers
   pub tids : greatest_tid new ≤ greatest_tid old
-  pub size : new.meta.size ≡ old.meta.size
+  pub size : old.meta.size ≤ greatest_end → new.meta.size ≤ greatest_end
 
 -- the table says the same of each file
 abbrev pub SameRows : Files → Files → Type 0

@@ -1,19 +1,22 @@
 // The client is told of directories and files and of the time, and acknowledges what was revoked.
 ghost use Rattle.std.specs.Prelude.{◌≡◌, ◌+◌, ℕ, ◌∷◌, ◌++◌, [], true, false, IfOk, OnOk, OnErr};
 ghost use Rattle.std.specs.BTreeMap.{get};
+ghost use Rattle.std.specs.Option.{option_map};
 ghost use Rattle.std.specs.Ordering.{nat_cmp};
 ghost use Rattle.cs_tree.specs.Directories.{has_directory};
 ghost use Rattle.cs_laws.specs.declared.answers.Answer.TheVariants as answers;
 ghost use Rattle.cs_laws.specs.declared.events.Event.TheVariants as events;
 ghost use Rattle.cs_laws.specs.Events.{clock_then};
-ghost use Rattle.cs_client.specs.Answers.{check_answer, clock_answer};
+ghost use Rattle.cs_inode.specs.Answers.{check_answer};
+ghost use Rattle.cs_client.specs.Answers.{check_call_answer, clock_answer};
 ghost use Rattle.cs_client.specs.Calls.{AddsDirectory, check_sent, made_after};
 ghost use Rattle.cs_client.specs.Contexts.{home_context};
-ghost use Rattle.cs_client.specs.Rows.{checked_row, made_row, new_file};
+ghost use Rattle.cs_client.specs.Rows.{checked_row, done_row, made_row, new_file};
 ghost use Rattle.cs_client.specs.Views.{AreMade, KeepsTables, SamePlaces, SameRows, is_kept};
 
 use crate::contexts::file_context;
 use crate::file::ClientFile;
+use cs_bits::Caps;
 use cs_caps::Done;
 use cs_ids::{Ino, Memory};
 use cs_inode::Inode;
@@ -90,17 +93,16 @@ pub fn check(
     file: Ino,
     out: &mut MessageList,
 ) -> Result<Answer, Memory>
-    ensures answer { IfOk result (λ a. a ≡ check_answer file refs.now.live (get nat_cmp files.old file)) }
+    ensures answer { IfOk result (λ a. a ≡ check_call_answer file refs.now.live (get nat_cmp files.old file)) }
     ensures rows { IfOk result (λ a. (f : ℕ) → get nat_cmp files.new f ≡ checked_row file a f (get nat_cmp files.old f)) }
     ensures sent { IfOk result (λ a. out.new ≡ out.old ++ check_sent file a) }
     ensures tables { KeepsTables files.old files.new }
     ensures places { SamePlaces files.old files.new }
 {
-    let used = refs.used(file);
-    let Some(row) = files.get_mut(&file) else {
+    let Some(done) = complete(files, file, refs.used(file)) else {
         return Ok(Answer::Unknown);
     };
-    match row.inode.check(used) {
+    match done {
         Done::Nothing => Ok(Answer::Nothing),
         Done::Hold { bits } => Ok(Answer::Hold { bits }),
         Done::Ack { seq, bits } => {
@@ -108,4 +110,15 @@ pub fn check(
             Ok(Answer::Ack { seq, bits })
         }
     }
+}
+
+// The same, of a file whose live references have these bits, or None where it is unknown.
+fn complete(files: &mut BTreeMap<Ino, ClientFile>, file: Ino, used: Caps) -> Option<Done>
+    ensures answer { result ≡ option_map (λ r. check_answer used r.inode) (get nat_cmp files.old file) }
+    ensures rows { (f : ℕ) → get nat_cmp files.new f ≡ done_row file result f (get nat_cmp files.old f) }
+    ensures tables { KeepsTables files.old files.new }
+    ensures places { SamePlaces files.old files.new }
+{
+    let row = files.get_mut(&file)?;
+    Some(row.inode.check(used))
 }

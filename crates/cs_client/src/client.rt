@@ -13,7 +13,7 @@ ghost use Rattle.cs_laws.specs.Devices.{FaultsOf};
 ghost use Rattle.cs_laws.specs.Fits.{fits, is_shown, is_write};
 ghost use Rattle.cs_laws.specs.References.{can_end, named};
 ghost use Rattle.cs_objstore.specs.Files.{AppliesNew, file_byte, with_new};
-ghost use Rattle.cs_client.specs.Answers.{begin_answer, call_answer, check_answer, clock_answer, end_answer, flush_call_answer, flush_snaps_call_answer, has_writing, read_answer};
+ghost use Rattle.cs_client.specs.Answers.{begin_answer, call_answer, check_call_answer, clock_answer, end_answer, flush_call_answer, flush_snaps_call_answer, has_writing, read_answer};
 ghost use Rattle.cs_client.specs.Calls.{Called, HasNumbers, IsNewInode, IsNewTo, call_operations, call_sent, calls_store, check_sent, flush_sent, flush_snaps_sent, is_call, read_calls, write_calls};
 ghost use Rattle.cs_client.specs.Messages.{Accepts, Delivered, TellsRealms, message_answer};
 ghost use Rattle.cs_client.specs.Views.{IsBlank, is_kept};
@@ -321,7 +321,7 @@ impl Client {
     }
 
     fn check(&mut self, file: Ino, out: &mut MessageList) -> Result<Answer, Memory>
-        ensures answer { IfOk result (λ a. a ≡ check_answer file self.old.refs.live (get nat_cmp self.old.files file)) }
+        ensures answer { IfOk result (λ a. a ≡ check_call_answer file self.old.refs.live (get nat_cmp self.old.files file)) }
         ensures after { IfOk result (λ a. Called self.old self.new (events.Check file) a) }
         ensures sent { IfOk result (λ a. out.new ≡ out.old ++ check_sent file a) }
     {

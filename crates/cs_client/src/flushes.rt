@@ -1,13 +1,15 @@
 // What the client has of a file's metadata is sent to the server.
-ghost use Rattle.std.specs.Prelude.{◌≡◌, ℕ, ◌+◌, ◌<◌, ◌++◌, List, IfOk};
+ghost use Rattle.std.specs.Prelude.{◌≡◌, ℕ, ◌+◌, ◌<◌, ◌++◌, List, IfOk, OnErr};
 ghost use Rattle.std.specs.BTreeMap.{get};
+ghost use Rattle.std.specs.Option.{option_map};
 ghost use Rattle.std.specs.Ordering.{nat_cmp};
 ghost use Rattle.cs_parts.specs.declared.references.Live.{Live};
 ghost use Rattle.cs_laws.specs.declared.events.Event.TheVariants as events;
 ghost use Rattle.cs_client.specs.Answers.{flush_call_answer, flush_snaps_call_answer};
 ghost use Rattle.cs_client.specs.Calls.{flush_sent, flush_snaps_sent, flushes_after};
-ghost use Rattle.cs_client.specs.Rows.{flushed_row, snap_flushed_row};
-ghost use Rattle.cs_client.specs.Views.{AreDrawn, AreTables, SamePlaces};
+ghost use Rattle.cs_inode.specs.Answers.{flush_answer, flush_snaps_answer};
+ghost use Rattle.cs_client.specs.Rows.{flush_row, flushed_row, snap_flushed_row, snap_row};
+ghost use Rattle.cs_client.specs.Views.{AreDrawn, AreTables, IsDrawnBelow, SamePlaces, SameRows};
 
 use crate::file::ClientFile;
 use cs_flush::Sent;
@@ -32,10 +34,10 @@ pub fn flush(
     ensures tables { (rs : List Live) → AreTables files.old rs flushes.old → AreTables files.new rs flushes.new }
     ensures places { SamePlaces files.old files.new }
 {
-    let Some(row) = files.get_mut(&file) else {
+    let Some(step) = start_flush(files, file, Tid::after(*flushes))? else {
         return Ok(Answer::Unknown);
     };
-    match row.inode.flush(Tid::after(*flushes))? {
+    match step {
         FlushStep::Snap => Ok(Answer::Again(Why::Snap)),
         FlushStep::Clean => Ok(Answer::Clean),
         FlushStep::Sent(Sent { tid, follows, meta }) => {
@@ -49,6 +51,24 @@ pub fn flush(
             Ok(Answer::Flush { tid })
         }
     }
+}
+
+// What the file says to a flush of this number, or None where it is unknown.
+fn start_flush(
+    files: &mut BTreeMap<Ino, ClientFile>,
+    file: Ino,
+    tid: Tid,
+) -> Result<Option<FlushStep>, Memory>
+    requires { IsDrawnBelow tid files.old }
+    ensures answer { IfOk result (λ s. s ≡ option_map (λ r. flush_answer tid r.inode) (get nat_cmp files.old file)) }
+    ensures rows { IfOk result (λ s. (f : ℕ) → get nat_cmp files.new f ≡ flush_row file s f (get nat_cmp files.old f)) }
+    ensures places { SamePlaces files.old files.new }
+    ensures err { OnErr result (SameRows files.old files.new) }
+{
+    let Some(row) = files.get_mut(&file) else {
+        return Ok(None);
+    };
+    Ok(Some(row.inode.flush(tid)?))
 }
 
 /// The file's first cap snap that wasn't sent is.
@@ -67,10 +87,10 @@ pub fn flush_snaps(
     ensures tables { (rs : List Live) → AreTables files.old rs flushes.old → AreTables files.new rs flushes.new }
     ensures places { SamePlaces files.old files.new }
 {
-    let Some(row) = files.get_mut(&file) else {
+    let Some(step) = start_snap_flush(files, file, Tid::after(*flushes)) else {
         return Ok(Answer::Unknown);
     };
-    match row.inode.flush_snaps(Tid::after(*flushes)) {
+    match step {
         SnapStep::None => Ok(Answer::NoneQueued),
         SnapStep::Writing => Ok(Answer::Writing),
         SnapStep::Sent(Sent { tid, follows, meta }) => {
@@ -84,4 +104,19 @@ pub fn flush_snaps(
             Ok(Answer::FlushSnap { tid, follows })
         }
     }
+}
+
+// What the file says to a flush of a cap snap under this number, or None where it is unknown.
+fn start_snap_flush(
+    files: &mut BTreeMap<Ino, ClientFile>,
+    file: Ino,
+    tid: Tid,
+) -> Option<SnapStep>
+    requires { IsDrawnBelow tid files.old }
+    ensures answer { result ≡ option_map (λ r. flush_snaps_answer tid r.inode) (get nat_cmp files.old file) }
+    ensures rows { (f : ℕ) → get nat_cmp files.new f ≡ snap_row file result f (get nat_cmp files.old f) }
+    ensures places { SamePlaces files.old files.new }
+{
+    let row = files.get_mut(&file)?;
+    Some(row.inode.flush_snaps(tid))
 }
