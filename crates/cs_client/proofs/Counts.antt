@@ -114,7 +114,7 @@ unused_writers f (r ∷ rs) unused = first_counts (is_writer_of f) r rs ∙ at (
   where
     at : (b : Bool) → (is_used f rs ≡ false → writers_of f rs ≡ 0) → (b || is_used f rs) ≡ false → cond (b && may_write r.bits) 1 0 + writers_of f rs ≡ 0
     at true rest e = absurd (cc)
-    at false rest e = rest e
+    at false rest e = omega (arith, rest e)
 
 -- What always holds of the tables, as references begin and end
 
