@@ -9,3 +9,4 @@ pub mod Sends
 pub mod Steps
 pub mod TakenIn
 pub mod Touched
+pub mod Written
