@@ -1,5 +1,5 @@
 -- How many writers a file has, as references begin and end.
-use Rattle.std.proofs.Common.{◌≡◌, ◌∙◌, refl, sym, ap, subst, ℕ, ◌+◌, ◌-◌, ◌≤◌, ◌<◌, ◌==◌, ◌&&◌, ◌||◌, not, Bool, true, false, cond, List, [], ◌∷◌, ◌++◌, Option, Some, None, filter, length, is_some, arith}
+use Rattle.std.proofs.Common.{◌≡◌, ◌∙◌, refl, sym, ap, subst, ℕ, ◌+◌, ◌≤◌, ◌<◌, ◌==◌, ◌&&◌, ◌||◌, not, Bool, true, false, cond, List, [], ◌∷◌, ◌++◌, Some, None, filter, length, arith}
 use Rattle.std.proofs.lemmas.Bool.{eq-eqb, eqb-true}
 use Rattle.std.proofs.lemmas.List.Folds.{list_any-append}
 use Rattle.std.proofs.lemmas.List.Sums.{count_by-le-length, length-filter}
@@ -18,7 +18,7 @@ use Rattle.cs_parts.specs.declared.references.Live.{Live}
 use Rattle.cs_parts.specs.References.{has_ref, is_ref, is_writer_of, ref_named, without_ref}
 use Rattle.cs_refs.specs.Table.{writers_of}
 use Rattle.cs_client.specs.Rows.{started, stopped}
-use Rattle.cs_client.specs.Views.{AreTables, Files, HaveTables, IsRow, is_kept, is_used}
+use Rattle.cs_client.specs.Views.{Files, HaveTables, IsRow, is_kept, is_used}
 
 pub writers_few : (g : ℕ) (rs : List Live) → writers_of g rs ≤ length rs
 writers_few g rs = count_by-le-length (is_writer_of g) rs

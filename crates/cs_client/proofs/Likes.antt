@@ -1,23 +1,14 @@
 -- What a file's calls leave of what always holds of it.
-use Rattle.std.proofs.Common.{◌≡◌, ◌∙◌, refl, sym, ap, subst, ℕ, ◌+◌, ◌-◌, ◌≤◌, ◌<◌, ◌==◌, ◌&&◌, not, Bool, true, false, cond, max, List, [], ◌∷◌, ◌++◌, None, arith}
-use Rattle.cs_bits.specs.declared.Caps.{Caps}
-use Rattle.cs_caps.specs.declared.client.Done.{Done}
-use Rattle.cs_caps.specs.declared.client.Done.TheVariants as done
-use Rattle.cs_caps.specs.Client.{completed}
+use Rattle.std.proofs.Common.{◌≡◌, ◌∙◌, refl, sym, ap, subst, ℕ, ◌≤◌, ◌<◌, ◌&&◌, not, Bool, true, false, cond, List, arith}
 use Rattle.cs_parts.specs.declared.capabilities.ClientCaps.{ClientCaps}
 use Rattle.cs_capsnap.proofs.Changes.{greatest_left, greatest_push, greatest_sent}
 use Rattle.cs_capsnap.specs.declared.snap.CapSnap.{CapSnap}
 use Rattle.cs_capsnap.specs.CapSnaps as snaps
 use Rattle.cs_flush.proofs.Rising.{greatest_acked, greatest_started}
-use Rattle.cs_flush.specs.declared.sent.Sent.{Sent}
 use Rattle.cs_flush.specs.Flushes as flushes
 use Rattle.cs_inode.specs.declared.answers.ChmodStep.TheVariants as chmod
-use Rattle.cs_inode.specs.declared.answers.FlushStep.{FlushStep}
-use Rattle.cs_inode.specs.declared.answers.FlushStep.TheVariants as flush
-use Rattle.cs_inode.specs.declared.answers.SnapStep.{SnapStep}
-use Rattle.cs_inode.specs.declared.answers.SnapStep.TheVariants as snap
-use Rattle.cs_inode.specs.Answers.{chmod_answer, flush_answer, flush_snaps_answer, flush_snaps_answer_of}
-use Rattle.cs_inode.specs.Inodes.{FileInode, after_ack, after_chmod, after_flush, after_flush_snaps, greatest_tid, is_dirty, needs_snap, with_context, with_mode, written}
+use Rattle.cs_inode.specs.Answers.{chmod_answer}
+use Rattle.cs_inode.specs.Inodes.{FileInode, after_ack, after_chmod, after_flush, after_flush_snaps, is_dirty, needs_snap, with_context, with_mode, written}
 use Rattle.cs_laws.specs.Context.{differs}
 use Rattle.cs_laws.specs.Fits.{greatest_end}
 use Rattle.cs_parts.specs.declared.references.Live.{Live}

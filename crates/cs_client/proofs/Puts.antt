@@ -1,15 +1,14 @@
 -- The inode of one row becomes another one.
-use Rattle.std.proofs.Common.{◌≡◌, ◌∙◌, refl, sym, ap, subst, ℕ, ◌≤◌, ◌<◌, ◌==◌, Bool, true, false, cond, is_some, List, Option, Some, None, arith}
+use Rattle.std.proofs.Common.{◌≡◌, ◌∙◌, refl, sym, ap, subst, ℕ, ◌≤◌, ◌==◌, Bool, true, false, cond, is_some, List, Option, Some, None, arith}
 use Rattle.std.proofs.lemmas.Bool.{eqb-true}
 use Rattle.std.specs.BTreeMap.{get}
 use Rattle.std.specs.Option.{option_map}
 use Rattle.std.specs.Ordering.{nat_cmp}
 use Rattle.cs_parts.specs.declared.references.Live.{Live}
-use Rattle.cs_inode.specs.Inodes.{FileInode, greatest_tid}
-use Rattle.cs_laws.specs.Fits.{greatest_end}
+use Rattle.cs_inode.specs.Inodes.{FileInode}
 use Rattle.cs_client.specs.declared.file.ClientFile.{ClientFile}
 use Rattle.cs_client.specs.Rows.{at_file, with_inode}
-use Rattle.cs_client.specs.Views.{AreTables, Files, HaveHomes, IsLike, IsRow, KeepsTables, SameHomes, SamePlaces, SameRows, is_kept, is_used, place_of}
+use Rattle.cs_client.specs.Views.{AreTables, Files, IsLike, IsRow, KeepsTables, SameHomes, SamePlaces, SameRows, is_kept, is_used, place_of}
 
 -- the row of g has the inode i
 pub record Puts (old new : Files) (g : ℕ) (r : ClientFile) (i : FileInode) : Type 0 where

@@ -12,7 +12,7 @@ use Rattle.cs_inode.specs.declared.answers.FlushStep.TheVariants as flush
 use Rattle.cs_inode.specs.declared.answers.SnapStep.{SnapStep}
 use Rattle.cs_inode.specs.declared.answers.SnapStep.TheVariants as snap
 use Rattle.cs_inode.specs.Answers.{flush_answer, flush_snaps_answer}
-use Rattle.cs_inode.specs.Inodes.{FileInode, write_operations}
+use Rattle.cs_inode.specs.Inodes.{write_operations}
 use Rattle.cs_laws.specs.declared.events.Event.{Event}
 use Rattle.cs_laws.specs.declared.events.Event.TheVariants as events
 use Rattle.cs_laws.specs.declared.answers.Answer.{Answer}

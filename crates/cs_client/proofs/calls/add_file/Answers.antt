@@ -1,4 +1,4 @@
-use Rattle.std.proofs.Common.{rules, ◌≡◌, ◌∷◌, ◌++◌, [], ◌<◌, sym, subst, length, arith}
+use Rattle.std.proofs.Common.{rules, ◌≡◌, ◌∷◌, ◌++◌, [], ◌<◌, sym, subst, length}
 use Rattle.cs_client.specs.Contexts.{home_context}
 use Rattle.cs_client.specs.Rows.{new_file}
 use Rattle.cs_client.specs.Views.{AreMade, SameRows}

@@ -1,4 +1,4 @@
-use Rattle.std.proofs.Common.{◌≡◌, ◌∙◌, ◌+◌, refl, ap, Some, None}
+use Rattle.std.proofs.Common.{◌≡◌, ◌∙◌, ◌+◌, refl, ap, Some}
 use Rattle.cs_inode.specs.declared.answers.SnapStep.{SnapStep}
 use Rattle.cs_inode.specs.declared.answers.SnapStep.TheVariants as snap
 use Rattle.cs_client.proofs.Sends.{drawn_below, snap_sent_tables, snap_unsent}

@@ -1,4 +1,4 @@
-use Rattle.std.proofs.Common.{rules, sym, ap, ◌∙◌}
+use Rattle.std.proofs.Common.{rules, sym}
 use Rattle.cs_client.specs.Views.{Files, SameRows}
 use Rattle.cs_client.proofs.Puts.{Puts, put_places, put_same, same_places}
 use Rattle.cs_client.proofs.Steps.{context_flushed, flush_rows}

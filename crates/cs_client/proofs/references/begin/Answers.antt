@@ -1,4 +1,4 @@
-use Rattle.std.proofs.Common.{rules, ◌≡◌, ◌∙◌, ◌∷◌, ◌++◌, [], ◌<◌, ◌≤◌, refl, sym, ap, subst, true, Some, length, arith}
+use Rattle.std.proofs.Common.{rules, ◌≡◌, ◌∷◌, ◌++◌, [], refl, sym, subst, true, length, arith}
 use Rattle.cs_parts.specs.declared.references.Live.{Live}
 use Rattle.cs_refs.specs.Table.{writers_of}
 use Rattle.cs_client.specs.Views.{AreTables, Files, is_kept}

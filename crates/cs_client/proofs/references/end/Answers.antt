@@ -1,7 +1,6 @@
 use Rattle.std.proofs.Common.{rules, ◌≡◌, ◌∙◌, sym, ap, false, Some, slice_index, subst}
 use Rattle.cs_laws.specs.declared.events.RefName.TheVariants as names
 use Rattle.cs_laws.specs.References.{named}
-use Rattle.cs_parts.specs.declared.references.Live.{Live}
 use Rattle.cs_parts.specs.References.{has_ref, ref_named, without_ref}
 use Rattle.cs_client.specs.Views.{AreTables, Files}
 use Rattle.cs_client.proofs.Counts.{ended_lives, ended_other, ends_counted, named_kept, never_absent, stopped_context, stopped_row, without_absent}

@@ -1,4 +1,4 @@
-use Rattle.std.proofs.Common.{◌≡◌, ◌∙◌, ◌+◌, ◌∷◌, [], ◌++◌, refl, ap, take, take_all, false, arith}
+use Rattle.std.proofs.Common.{◌≡◌, ◌∙◌, ◌+◌, ◌∷◌, [], ◌++◌, refl, ap, take, false, arith}
 use Rattle.std.proofs.lemmas.List.{length-take, take_more}
 use Rattle.cs_tree.specs.Directories.{path_of}
 use Rattle.cs_client.specs.Views.{is_among}
