@@ -1,5 +1,6 @@
 pub mod AllTold
 pub mod Counts
+pub mod Draws
 pub mod Likes
 pub mod Made
 pub mod Nearest

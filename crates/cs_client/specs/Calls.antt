@@ -1,5 +1,5 @@
 -- What a call leaves of the client, sends and writes.
-use Rattle.std.specs.Prelude.{◌≡◌, ℕ, ◌+◌, ◌<◌, ◌==◌, ◌||◌, Bool, true, false, List, [], ◌∷◌, ◌++◌, Option, Some, None, length, if◌then◌else◌}
+use Rattle.std.specs.Prelude.{◌≡◌, ℕ, ◌+◌, ◌<◌, ◌≤◌, ◌==◌, ◌||◌, Bool, true, false, List, [], ◌∷◌, ◌++◌, Option, Some, None, length, if◌then◌else◌}
 use Rattle.std.specs.BTreeMap.{get}
 use Rattle.std.specs.Option.{option_map_or}
 use Rattle.std.specs.Ordering.{nat_cmp}
@@ -64,6 +64,12 @@ pub record HasNumbers (v : ClientView) : Type 0 where
   pub operations : v.operations < 99998
   pub flushes : v.flushes < 99998
   pub begun : (c : ℕ) → begun_of c v.refs < 99998
+
+-- at most so many numbers of each kind were drawn
+pub record HasDrawn (k : ℕ) (v : ClientView) : Type 0 where
+  pub operations : v.operations ≤ k
+  pub flushes : v.flushes ≤ k
+  pub begun : (c : ℕ) → begun_of c v.refs ≤ k
 
 -- What it leaves
 

@@ -107,11 +107,7 @@ pub fn flush_snaps(
 }
 
 // What the file says to a flush of a cap snap under this number, or None where it is unknown.
-fn start_snap_flush(
-    files: &mut BTreeMap<Ino, ClientFile>,
-    file: Ino,
-    tid: Tid,
-) -> Option<SnapStep>
+fn start_snap_flush(files: &mut BTreeMap<Ino, ClientFile>, file: Ino, tid: Tid) -> Option<SnapStep>
     requires { IsDrawnBelow tid files.old }
     ensures answer { result ≡ option_map (λ r. flush_snaps_answer tid r.inode) (get nat_cmp files.old file) }
     ensures rows { (f : ℕ) → get nat_cmp files.new f ≡ snap_row file result f (get nat_cmp files.old f) }

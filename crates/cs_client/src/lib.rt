@@ -8,6 +8,7 @@ mod client;
 mod contexts;
 mod file;
 mod flushes;
+mod laws;
 mod messages;
 mod references;
 mod told;
@@ -15,3 +16,4 @@ mod writes;
 
 pub use client::Client;
 pub use file::ClientFile;
+pub use laws::{calls_draw_few_numbers, clients_may_cross_threads};

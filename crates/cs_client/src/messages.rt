@@ -22,13 +22,7 @@ use std::alloc::Global;
 use std::collections::BTreeMap;
 
 /// The client may have these bits of a file from now on, and it may grow up to `max` bytes.
-pub fn deliver_cap(
-    files: &mut BTreeMap<Ino, ClientFile>,
-    file: Ino,
-    seq: Seq,
-    bits: Caps,
-    max: u32,
-)
+pub fn deliver_cap(files: &mut BTreeMap<Ino, ClientFile>, file: Ino, seq: Seq, bits: Caps, max: u32)
     requires { is_kept files.old file ≡ true }
     ensures rows { (f : ℕ) → get nat_cmp files.new f ≡ at_file file (with_caps bits seq max) f (get nat_cmp files.old f) }
     ensures tables { KeepsTables files.old files.new }

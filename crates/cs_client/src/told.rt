@@ -22,11 +22,7 @@ use std::collections::BTreeMap;
 
 /// Takes realm records in, each as the last one of its realm. They come parents first. The realms whose
 /// contexts change are touched.
-pub fn take_in(
-    alloc: Global,
-    realms: &mut Realms,
-    told: &[RealmRecord],
-) -> Result<Vec<Ino>, Memory>
+pub fn take_in(alloc: Global, realms: &mut Realms, told: &[RealmRecord]) -> Result<Vec<Ino>, Memory>
     requires { ParentsAreKnown realms.old told.now }
     ensures records { OnOk result (realms.new ≡ with_records told.now realms.old) }
     ensures touched { IfOk result (λ touched. OthersStay touched.items realms.old realms.new) }

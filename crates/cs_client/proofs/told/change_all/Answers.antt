@@ -10,8 +10,16 @@ pub overflow_add-count : goal.overflow_add-count
 overflow_add-count c =
     let made = c.args.made.now in
     let small = count_small (path_of c.args.tree.now) c.args.realms.now c.args.files.now (take c.loop-file.file-index made) in
-    omega (arith, small, length-take c.loop-file.file-index made, c.loop-file.invariant.count, c.requires.few, c.loop-file-test.true, c.from-count.ensures,
-      byte_small c.in_ok-needed.needed)
+    omega (
+      arith,
+      small,
+      length-take c.loop-file.file-index made,
+      c.loop-file.invariant.count,
+      c.requires.few,
+      c.loop-file-test.true,
+      c.from-count.ensures,
+      byte_small c.in_ok-needed.needed,
+    )
 
 pub change-requires-clause-rises : goal.change-requires-clause-rises
 change-requires-clause-rises c =
