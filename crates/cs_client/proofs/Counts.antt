@@ -46,7 +46,8 @@ writers_begin g (r ∷ rs) n =
     omega (arith, first_counts w r rs, first_counts w r (rs ++ n ∷ []), writers_begin g rs n)
 
 -- one reference less
-pub writers_without : (g c n : ℕ) (r : Live) (rs : List Live) → ref_named c n rs ≡ Some r → writers_of g rs ≡ writers_of g (without_ref c n rs) + cond (is_writer_of g r) 1 0
+pub writers_without : (g c n : ℕ) (r : Live) (rs : List Live) → ref_named c n rs ≡ Some r
+    → writers_of g rs ≡ writers_of g (without_ref c n rs) + cond (is_writer_of g r) 1 0
 writers_without g c n r [] is = absurd cc
 writers_without g c n r (y ∷ ys) is = at (is_ref c n y) is (λ e. writers_without g c n r ys e)
   where
@@ -56,7 +57,8 @@ writers_without g c n r (y ∷ ys) is = at (is_ref c n y) is (λ e. writers_with
     at : (b : Bool) → cond b (Some y) (ref_named c n ys) ≡ Some r
         → (ref_named c n ys ≡ Some r → writers_of g ys ≡ writers_of g (without_ref c n ys) + cond (is_writer_of g r) 1 0)
         → writers_of g (y ∷ ys) ≡ writers_of g (cond b ys (y ∷ without_ref c n ys)) + cond (is_writer_of g r) 1 0
-    at true e rest = let same : y ≡ r = cc in subst (λ z. writers_of g (y ∷ ys) ≡ writers_of g ys + cond (is_writer_of g z) 1 0) same (omega (arith, first_counts w y ys))
+    at true e rest = let same : y ≡ r = cc in subst (λ z. writers_of g (y ∷ ys) ≡ writers_of g ys + cond (is_writer_of g z) 1 0) same
+        (omega (arith, first_counts w y ys))
     at false e rest = omega (arith, first_counts w y ys, first_counts w y (without_ref c n ys), rest e)
 
 -- where a reference doesn't live, nothing is taken away
@@ -88,7 +90,8 @@ named_used c (names.Own n) r rs is = ref_used c n r rs is
 named_used c (names.Kept n) r rs is = ref_used 0 n r rs is
 
 -- the file of a live reference is kept
-pub named_kept : (files : Files) (c : ℕ) (name : RefName) (r : Live) (rs : List Live) → HaveTables files rs → named c name rs ≡ Some r → is_kept files r.file ≡ true
+pub named_kept : (files : Files) (c : ℕ) (name : RefName) (r : Live) (rs : List Live) → HaveTables files rs → named c name rs ≡ Some r
+    → is_kept files r.file ≡ true
 named_kept files c name r rs t is = t.1.lives r.file (named_used c name r rs is)
 
 pub never_absent : (files : Files) (f : ℕ) → is_kept files f ≡ true → get nat_cmp files f ≡ None → ⊥
@@ -98,7 +101,8 @@ used_without : (f c n : ℕ) (rs : List Live) → is_used f (without_ref c n rs)
 used_without f c n [] used = used
 used_without f c n (y ∷ ys) used = at (is_ref c n y) (λ e. used_without f c n ys e) used
   where
-    step : (b : Bool) → (is_used f (without_ref c n ys) ≡ true → is_used f ys ≡ true) → (b || is_used f (without_ref c n ys)) ≡ true → (b || is_used f ys) ≡ true
+    step : (b : Bool) → (is_used f (without_ref c n ys) ≡ true → is_used f ys ≡ true) → (b || is_used f (without_ref c n ys)) ≡ true
+        → (b || is_used f ys) ≡ true
     step true rest e = refl
     step false rest e = rest e
 
@@ -194,7 +198,8 @@ pub ended_lives : (files : Files) (rs : List Live) (c n : ℕ) → ((f : ℕ) �
 ended_lives files rs c n lives f used = lives f (used_without f c n rs used)
 
 -- a writer that ends was counted
-pub ends_counted : (rs : List Live) (c n : ℕ) (r : Live) (sent : ℕ) (i : FileInode) → ref_named c n rs ≡ Some r → IsRow rs sent r.file i → may_write r.bits ≡ true → 1 ≤ i.writers
+pub ends_counted : (rs : List Live) (c n : ℕ) (r : Live) (sent : ℕ) (i : FileInode) → ref_named c n rs ≡ Some r → IsRow rs sent r.file i
+    → may_write r.bits ≡ true → 1 ≤ i.writers
 ends_counted rs c n r sent i is row may =
     let count : writers_of r.file rs ≡ writers_of r.file (without_ref c n rs) + 1 =
     writers_without r.file c n r rs is ∙ ap (λ b. writers_of r.file (without_ref c n rs) + cond b 1 0) (own_writer r.file r refl ∙ may) in

@@ -32,7 +32,8 @@ operations_two : (tid off : ℕ) (bytes : List ℕ) (row : Option ClientFile) �
 operations_two tid off bytes None fit = omega arith
 operations_two tid off bytes (Some x) fit = few_operations tid x.inode.ino off bytes (context_under x.inode) fit
 
-on_two : (o : Option Live) (off : ℕ) (bytes : List ℕ) (count : ℕ) (files : Files) → is_write off bytes ≡ true → length (operations_on o off bytes count files) ≤ 2
+on_two : (o : Option Live) (off : ℕ) (bytes : List ℕ) (count : ℕ) (files : Files) → is_write off bytes ≡ true
+    → length (operations_on o off bytes count files) ≤ 2
 on_two None off bytes count files fit = omega arith
 on_two (Some r) off bytes count files fit = operations_two (count + 1) off bytes (get nat_cmp files r.file) fit
 

@@ -48,7 +48,8 @@ or_false : (a : Bool) → a ≡ (a || false)
 or_false true = refl
 or_false false = refl
 
-pub added_made : (old new : Files) (g : ℕ) (r : ClientFile) (made : List ℕ) → is_kept old g ≡ false → AddsRow old new g r → AreMade old made → length made < 4294967295
+pub added_made : (old new : Files) (g : ℕ) (r : ClientFile) (made : List ℕ) → is_kept old g ≡ false → AddsRow old new g r → AreMade old made
+    → length made < 4294967295
     → AreMade new (made ++ g ∷ [])
 added_made old new g r made unkept adds m room = record {
   listed = λ f.

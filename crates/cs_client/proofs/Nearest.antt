@@ -15,14 +15,16 @@ is_realm : (b k : Bool) → (b ≡ false) ↔ (k ≡ false) → b ≡ true → k
 is_realm b true same some = refl
 is_realm b false same some = absurd (true≢false (sym some ∙ same.1 refl))
 
-pub found_here : (up : List ℕ) (ts : List RealmRecord) (i d : ℕ) (some : Bool) → i < length up → d ≡ get_or up i d → nearest_context (drop i up) ts ≡ nearest_context up ts
+pub found_here : (up : List ℕ) (ts : List RealmRecord) (i d : ℕ) (some : Bool) → i < length up → d ≡ get_or up i d
+    → nearest_context (drop i up) ts ≡ nearest_context up ts
     → (some ≡ false) ↔ (is_known d ts ≡ false) → some ≡ true → context ts d ≡ nearest_context up ts
 found_here up ts i d some within is still same has =
     let known : is_known d ts ≡ true = is_realm some (is_known d ts) same has in
     let here : nearest_context (d ∷ drop (i + 1) up) ts ≡ context ts d = rw known refl in
     sym here ∙ (ap (λ ds. nearest_context ds ts) (sym (rest up i d within is)) ∙ still)
 
-pub not_here : (up : List ℕ) (ts : List RealmRecord) (i d : ℕ) → i < length up → d ≡ get_or up i d → nearest_context (drop i up) ts ≡ nearest_context up ts → is_known d ts ≡ false
+pub not_here : (up : List ℕ) (ts : List RealmRecord) (i d : ℕ) → i < length up → d ≡ get_or up i d
+    → nearest_context (drop i up) ts ≡ nearest_context up ts → is_known d ts ≡ false
     → nearest_context (drop (i + 1) up) ts ≡ nearest_context up ts
 not_here up ts i d within is still unknown =
     let here : nearest_context (d ∷ drop (i + 1) up) ts ≡ nearest_context (drop (i + 1) up) ts = rw unknown refl in

@@ -22,8 +22,11 @@ or_right false c is = is
 
 pub once_more : (fs : List ℕ) (f : ℕ) → is_among f fs ≡ false → IsEachOnce fs → IsEachOnce (fs ++ f ∷ [])
 once_more [] f new once = (refl, tt)
-once_more (g ∷ gs) f new once =
-    (list_any-append (λ k. k == g) gs (f ∷ []) ∙ rw (once.0, apart g f (or_left (g == f) (is_among f gs) new)) refl, once_more gs f (or_right (g == f) (is_among f gs) new) once.1)
+once_more (g ∷ gs) f new once = (
+  list_any-append (λ k. k == g) gs (f ∷ []) ∙ rw (once.0, apart g f (or_left (g == f) (is_among f gs) new)) refl,
+  once_more gs f
+      (or_right (g == f) (is_among f gs) new) once.1,
+)
 
 once_split : (xs : List ℕ) (n : ℕ) (ys : List ℕ) → IsEachOnce (xs ++ n ∷ ys) → is_among n xs ≡ false
 once_split [] n ys once = refl

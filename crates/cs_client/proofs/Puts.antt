@@ -126,7 +126,8 @@ at_some : (go : FileInode → FileInode) (o : Option ClientFile) (x : ClientFile
 at_some go (Some r) x e = let now : ◌≡◌ {A = ClientFile} (with_inode go r) x = cc in (r, refl, sym now)
 at_some go None x e = absurd (cc)
 
-pub at_rows : (old new : Files) (g : ℕ) (go : FileInode → FileInode) (rs : List Live) (sent drawn : ℕ) → ((f : ℕ) → get nat_cmp new f ≡ at_file g go f (get nat_cmp old f))
+pub at_rows : (old new : Files) (g : ℕ) (go : FileInode → FileInode) (rs : List Live) (sent drawn : ℕ)
+    → ((f : ℕ) → get nat_cmp new f ≡ at_file g go f (get nat_cmp old f))
     → sent ≤ drawn → ((i : FileInode) → IsRow rs sent g i → IsRow rs drawn g (go i)) → AreTables old rs sent → AreTables new rs drawn
 at_rows old new g go rs sent drawn rows more here t = record {
   rows = λ f x is. each f x (g == f) refl (sym (rows f) ∙ is);

@@ -21,7 +21,8 @@ use Rattle.cs_client.specs.Rows.{acked, done_row, flush_row, snap_row}
 use Rattle.cs_client.specs.Views.{Files}
 use Rattle.cs_client.proofs.Puts.{Puts, put_at, put_same}
 
-pub done_rows : (old new : Files) (g : ℕ) (r : ClientFile) (i : FileInode) (d : Done) → Puts old new g r i → i ≡ record r.inode { caps = completed r.inode.caps d }
+pub done_rows : (old new : Files) (g : ℕ) (r : ClientFile) (i : FileInode) (d : Done) → Puts old new g r i
+    → i ≡ record r.inode { caps = completed r.inode.caps d }
     → (f : ℕ) → get nat_cmp new f ≡ done_row g (Some d) f (get nat_cmp old f)
 done_rows old new g r i (done.Ack seq bits) put is = put_at old new g r i (acked seq bits) put is
 done_rows old new g r i (done.Hold bits) put is = put_same old new g r i put is
@@ -54,7 +55,8 @@ pub flush_rows : (old new : Files) (g : ℕ) (r : ClientFile) (i : FileInode) (t
     → i ≡ after_flush tid r.inode → (f : ℕ) → get nat_cmp new f ≡ flush_row g (Some x) f (get nat_cmp old f)
 flush_rows old new g r i tid x said put is = rw said (flush_rows_of old new g r i tid (flush_answer tid r.inode) (flush_is tid r.inode) put is)
 
-context_flushed_at : (b : Bool) (tid : ℕ) (i j : FileInode) → j ≡ cond b (record i { flushes = flushes.started tid i.context.seq i.meta i.flushes }) i → j.context ≡ i.context
+context_flushed_at : (b : Bool) (tid : ℕ) (i j : FileInode) → j ≡ cond b (record i { flushes = flushes.started tid i.context.seq i.meta i.flushes }) i
+    → j.context ≡ i.context
 context_flushed_at true tid i j is = ap (λ (k : FileInode). k.context) is
 context_flushed_at false tid i j is = ap (λ (k : FileInode). k.context) is
 
@@ -63,13 +65,15 @@ context_flushed tid i j is = context_flushed_at (not (snaps.is_writing i.snaps) 
 
 -- Flushes of cap snaps
 
-snap_rows_at : (old new : Files) (g : ℕ) (r : ClientFile) (i : FileInode) (tid : ℕ) (o : Option CapSnap) → snaps.first_unsent r.inode.snaps ≡ o → Puts old new g r i
+snap_rows_at : (old new : Files) (g : ℕ) (r : ClientFile) (i : FileInode) (tid : ℕ) (o : Option CapSnap) → snaps.first_unsent r.inode.snaps ≡ o
+    → Puts old new g r i
     → i ≡ after_flush_snaps tid r.inode → (f : ℕ) → get nat_cmp new f ≡ snap_row g (Some (flush_snaps_answer_of tid o)) f (get nat_cmp old f)
 snap_rows_at old new g r i tid None none put is = put_same old new g r i put (is ∙ rw none refl)
 snap_rows_at old new g r i tid (Some x) first put is = at x.writing refl
   where
     at : (b : Bool) → x.writing ≡ b → (f : ℕ)
-        → get nat_cmp new f ≡ snap_row g (Some (cond b snap.Writing (snap.Sent (record { tid = tid; follows = snaps.follows x; meta = x.meta })))) f (get nat_cmp old f)
+        → get nat_cmp new f ≡ snap_row g (Some (cond b snap.Writing (snap.Sent (record { tid = tid; follows = snaps.follows x; meta = x.meta })))) f
+        (get nat_cmp old f)
     at true writing = put_same old new g r i put (is ∙ rw (first, writing) refl)
     at false not_writing = put_at old new g r i (after_flush_snaps tid) put is
 
@@ -91,9 +95,11 @@ tid_of_flush tid i _ x (waits same) e = absurd (cc)
 tid_of_flush tid i _ x (clean same) e = absurd (cc)
 tid_of_flush tid i _ x sent e = cc
 
-pub sent_tid : (tid : ℕ) (row : Option ClientFile) (x : Sent) (s : Option FlushStep) → s ≡ option_map (λ r. flush_answer tid r.inode) row → s ≡ Some (flush.Sent x) → x.tid ≡ tid
+pub sent_tid : (tid : ℕ) (row : Option ClientFile) (x : Sent) (s : Option FlushStep) → s ≡ option_map (λ r. flush_answer tid r.inode) row
+    → s ≡ Some (flush.Sent x) → x.tid ≡ tid
 sent_tid tid None x s said is = absurd (cc)
-sent_tid tid (Some r) x s said is = let here : flush.Sent x ≡ flush_answer tid r.inode = cc in tid_of_flush tid r.inode (flush_answer tid r.inode) x (flush_is tid r.inode) here
+sent_tid tid (Some r) x s said is = let here : flush.Sent x ≡ flush_answer tid r.inode = cc in tid_of_flush tid r.inode (flush_answer tid r.inode) x
+    (flush_is tid r.inode) here
 
 tid_of_snap : (tid : ℕ) (o : Option CapSnap) (x : Sent) → snap.Sent x ≡ flush_snaps_answer_of tid o → x.tid ≡ tid
 tid_of_snap tid None x e = absurd (cc)
@@ -103,7 +109,8 @@ tid_of_snap tid (Some y) x e = at y.writing e
     at true e = absurd (cc)
     at false e = cc
 
-pub snap_sent_tid : (tid : ℕ) (row : Option ClientFile) (x : Sent) (s : Option SnapStep) → s ≡ option_map (λ r. flush_snaps_answer tid r.inode) row → s ≡ Some (snap.Sent x)
+pub snap_sent_tid : (tid : ℕ) (row : Option ClientFile) (x : Sent) (s : Option SnapStep) → s ≡ option_map (λ r. flush_snaps_answer tid r.inode) row
+    → s ≡ Some (snap.Sent x)
     → x.tid ≡ tid
 snap_sent_tid tid None x s said is = absurd (cc)
 snap_sent_tid tid (Some r) x s said is =

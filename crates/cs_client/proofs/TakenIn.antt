@@ -21,7 +21,8 @@ pub next_known : (told : List RealmRecord) (i : ℕ) (ts all : List RealmRecord)
     → missing_parent ts r ≡ None
 next_known told i ts all r within is rest = (subst (λ us. ParentsAreKnown ts us) (split_at told i r within is) rest.known).0
 
-pub rest_next : (told : List RealmRecord) (i : ℕ) (ts all now : List RealmRecord) (r : RealmRecord) → i < length told → r ≡ get_or told i r → now ≡ with_record r ts
+pub rest_next : (told : List RealmRecord) (i : ℕ) (ts all now : List RealmRecord) (r : RealmRecord) → i < length told → r ≡ get_or told i r
+    → now ≡ with_record r ts
     → Rest told i ts all → Rest told (i + 1) now all
 rest_next told i ts all now r within is taken rest =
     let here = split_at told i r within is in

@@ -124,7 +124,8 @@ way_stays touched (d ∷ up) rs now stay quiet =
     at false is equal same rest = rw (equal, is) rest
 
 -- so does a file that had the context of its way up
-pub files_stay : (tree : List Directory) (rs now : List RealmRecord) (files : Files) (touched : List ℕ) → ContextsFollow tree rs files → OthersStay touched rs now
+pub files_stay : (tree : List Directory) (rs now : List RealmRecord) (files : Files) (touched : List ℕ) → ContextsFollow tree rs files
+    → OthersStay touched rs now
     → FilesStay (path_of tree) touched now files
 files_stay tree rs now files touched follow stay f = at (get nat_cmp files f) refl
   where

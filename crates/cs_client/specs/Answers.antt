@@ -21,8 +21,11 @@ use Rattle.cs_laws.specs.declared.events.Event.TheVariants as events
 use Rattle.cs_laws.specs.declared.answers.Answer.{Answer}
 use Rattle.cs_laws.specs.declared.answers.Answer.TheVariants as answers
 use Rattle.cs_laws.specs.declared.answers.Why.TheVariants as why
+use Rattle.cs_laws.specs.declared.objects.At.TheVariants as at
+use Rattle.cs_laws.specs.declared.objects.ObjOp.{ObjOp}
 use Rattle.cs_laws.specs.Answers.{answer_check_of, answer_chmod_on, answer_write_on, bytes_from, may_read}
 use Rattle.cs_laws.specs.References.{can_end, named}
+use Rattle.cs_objstore.specs.Files.{file_byte}
 use Rattle.cs_client.specs.declared.file.ClientFile.{ClientFile}
 use Rattle.cs_client.specs.Views.{ClientView, Files}
 
@@ -50,6 +53,10 @@ end_answer can = if can then answers.Ended else answers.Unknown
 -- how many bytes from an offset on, and no more than asked for, a file of this size has
 abbrev pub shown_count : ℕ → ℕ → ℕ → ℕ
 shown_count size off len = min len (size - off)
+
+-- the byte at place i of file f, by the head of a store to which these operations were applied
+abbrev pub head_byte : List ObjOp → ℕ → ℕ → ℕ
+head_byte ops f i = file_byte at.Head f ops i
 
 -- head f i: the store's byte at place i of file f
 abbrev pub read_answer : Option Live → (ℕ → ℕ → ℕ) → ℕ → ℕ → Files → Answer

@@ -1,5 +1,5 @@
 -- What contracts see of the client, and what always holds of it.
-use Rattle.std.specs.Prelude.{◌≡◌, ℕ, ◌<◌, ◌≤◌, ◌==◌, ◌^◌, Bool, true, false, is_some, List, [], ◌∷◌, Some, None, length}
+use Rattle.std.specs.Prelude.{◌≡◌, ℕ, ◌<◌, ◌≤◌, ◌==◌, ◌^◌, Bool, true, false, is_some, List, [], ◌∷◌, Option, Some, None, length}
 use Rattle.std.specs.BTreeMap.{BTreeMap, get}
 use Rattle.std.specs.List.{list_any}
 use Rattle.std.specs.Option.{option_map}
@@ -117,6 +117,10 @@ pub record IsLike (old new : FileInode) : Type 0 where
   pub writers : new.writers ≡ old.writers
   pub tids : greatest_tid new ≤ greatest_tid old
   pub size : old.meta.size ≤ greatest_end → new.meta.size ≤ greatest_end
+
+-- each row is what the function makes of the one before
+abbrev pub RowsAfter : (ℕ → Option ClientFile → Option ClientFile) → Files → Files → Type 0
+RowsAfter go old new = (f : ℕ) → get nat_cmp new f ≡ go f (get nat_cmp old f)
 
 -- the table says the same of each file
 abbrev pub SameRows : Files → Files → Type 0

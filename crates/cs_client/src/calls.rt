@@ -12,7 +12,7 @@ ghost use Rattle.cs_client.specs.Answers.{check_call_answer, clock_answer};
 ghost use Rattle.cs_client.specs.Calls.{AddsDirectory, check_sent, made_after};
 ghost use Rattle.cs_client.specs.Contexts.{home_context};
 ghost use Rattle.cs_client.specs.Rows.{checked_row, done_row, made_row, new_file};
-ghost use Rattle.cs_client.specs.Views.{AreMade, KeepsTables, SamePlaces, SameRows, is_kept};
+ghost use Rattle.cs_client.specs.Views.{AreMade, KeepsTables, RowsAfter, SamePlaces, SameRows, is_kept};
 
 use crate::contexts::file_context;
 use crate::file::ClientFile;
@@ -55,8 +55,8 @@ pub fn add_file(
     requires made { AreMade files.old made.old.items }
     requires new { is_kept files.old file ≡ false }
     ensures answer { IfOk result (λ a. a ≡ answers.Made) }
-    ensures rows { IfOk result (λ a. (f : ℕ) → get nat_cmp files.new f
-        ≡ made_row file (new_file file home (home_context tree.now realms.now home)) a f (get nat_cmp files.old f)) }
+    ensures rows { IfOk result (λ a. RowsAfter
+        (made_row file (new_file file home (home_context tree.now realms.now home)) a) files.old files.new) }
     ensures listed { IfOk result (λ a. made.new.items ≡ made_after (events.File file home) a made.old.items) }
     ensures tables { KeepsTables files.old files.new }
     ensures made { AreMade files.new made.new.items }
@@ -94,7 +94,7 @@ pub fn check(
     out: &mut MessageList,
 ) -> Result<Answer, Memory>
     ensures answer { IfOk result (λ a. a ≡ check_call_answer file refs.now.live (get nat_cmp files.old file)) }
-    ensures rows { IfOk result (λ a. (f : ℕ) → get nat_cmp files.new f ≡ checked_row file a f (get nat_cmp files.old f)) }
+    ensures rows { IfOk result (λ a. RowsAfter (checked_row file a) files.old files.new) }
     ensures sent { IfOk result (λ a. out.new ≡ out.old ++ check_sent file a) }
     ensures tables { KeepsTables files.old files.new }
     ensures places { SamePlaces files.old files.new }
@@ -115,7 +115,7 @@ pub fn check(
 // The same, of a file whose live references have these bits, or None where it is unknown.
 fn complete(files: &mut BTreeMap<Ino, ClientFile>, file: Ino, used: Caps) -> Option<Done>
     ensures answer { result ≡ option_map (λ r. check_answer used r.inode) (get nat_cmp files.old file) }
-    ensures rows { (f : ℕ) → get nat_cmp files.new f ≡ done_row file result f (get nat_cmp files.old f) }
+    ensures rows { RowsAfter (done_row file result) files.old files.new }
     ensures tables { KeepsTables files.old files.new }
     ensures places { SamePlaces files.old files.new }
 {

@@ -7,13 +7,12 @@ ghost use Rattle.cs_inode.specs.Inodes.{owed};
 ghost use Rattle.cs_laws.specs.declared.answers.Answer.TheVariants as answers;
 ghost use Rattle.cs_laws.specs.declared.events.Event.TheVariants as events;
 ghost use Rattle.cs_laws.specs.declared.messages.Message.TheVariants as messages;
-ghost use Rattle.cs_laws.specs.declared.objects.At.TheVariants as at;
 ghost use Rattle.cs_laws.specs.Answers.{answer_chmod_on, answer_write_on};
 ghost use Rattle.cs_laws.specs.Devices.{FaultsOf};
 ghost use Rattle.cs_laws.specs.Fits.{fits, is_shown, is_write};
 ghost use Rattle.cs_laws.specs.References.{can_end, named};
-ghost use Rattle.cs_objstore.specs.Files.{AppliesNew, file_byte, with_new};
-ghost use Rattle.cs_client.specs.Answers.{begin_answer, call_answer, check_call_answer, clock_answer, end_answer, flush_call_answer, flush_snaps_call_answer, has_writing, read_answer};
+ghost use Rattle.cs_objstore.specs.Files.{AppliesNew, with_new};
+ghost use Rattle.cs_client.specs.Answers.{begin_answer, call_answer, check_call_answer, clock_answer, end_answer, flush_call_answer, flush_snaps_call_answer, has_writing, head_byte, read_answer};
 ghost use Rattle.cs_client.specs.Calls.{Called, HasNumbers, IsNewInode, IsNewTo, call_operations, call_sent, calls_store, check_sent, flush_sent, flush_snaps_sent, is_call, read_calls, write_calls};
 ghost use Rattle.cs_client.specs.Messages.{Accepts, Delivered, TellsRealms, message_answer};
 ghost use Rattle.cs_client.specs.Views.{IsBlank, is_kept};
@@ -114,21 +113,25 @@ impl Client {
         requires numbers { HasNumbers self.old }
 
         // What is answered, left and sent.
-        ensures answer { IfOk result (λ a. a ≡ call_answer self.old active (λ f i. file_byte at.Head f (O.ops store.old) i) event.now) }
+        ensures answer { IfOk result
+            (λ a. a ≡ call_answer self.old active (head_byte (O.ops store.old)) event.now) }
         ensures after { IfOk result (λ a. Called self.old self.new event.now a) }
         ensures sent { IfOk result (λ a. out.new ≡ out.old ++ call_sent event.now a self.old) }
 
         // What the store has.
-        ensures stored { IfOk result (λ a. O.ops store.new ≡ with_new (call_operations event.now a self.old) (O.ops store.old)) }
+        ensures stored { IfOk result
+            (λ a. O.ops store.new ≡ with_new (call_operations event.now a self.old) (O.ops store.old)) }
         ensures front { OnErr result (AppliesNew
-            (call_operations event.now (call_answer self.old active (λ f i. file_byte at.Head f (O.ops store.old) i) event.now) self.old)
+            (call_operations event.now (call_answer self.old active (head_byte (O.ops store.old)) event.now)
+            self.old)
             (O.ops store.old) (O.ops store.new)) }
 
         // When it is called, and why it fails.
-        ensures quiet { calls_store event.now (call_answer self.old active (λ f i. file_byte at.Head f (O.ops store.old) i) event.now) ≡ false
+        ensures quiet { calls_store event.now
+            (call_answer self.old active (head_byte (O.ops store.old)) event.now) ≡ false
             → store.new ≡ store.old }
         ensures faults { FaultsOf StepFault.Store
-            (calls_store event.now (call_answer self.old active (λ f i. file_byte at.Head f (O.ops store.old) i) event.now))
+            (calls_store event.now (call_answer self.old active (head_byte (O.ops store.old)) event.now))
             (O.faults store.old) (O.faults store.new) result }
         ensures unlogged { IsErrOf result StepFault.Log → ⊥ }
     {
@@ -233,7 +236,8 @@ impl Client {
 
     fn begin(&mut self, caller: Caller, file: Ino, bits: Caps, end: u32) -> Result<Answer, Memory>
         requires { HasNumbers self.old }
-        ensures answer { IfOk result (λ a. a ≡ begin_answer caller bits end self.old.refs (get nat_cmp self.old.files file)) }
+        ensures answer { IfOk result
+            (λ a. a ≡ begin_answer caller bits end self.old.refs (get nat_cmp self.old.files file)) }
         ensures after { IfOk result (λ a. Called self.old self.new (events.Begin caller file bits end) a) }
     {
         begin(&mut self.files, &mut self.refs, caller, file, bits, end)
@@ -256,15 +260,21 @@ impl Client {
     ) -> Result<Answer, StepFault>
         requires fits { is_write off bytes.now ≡ true }
         requires numbers { HasNumbers self.old }
-        ensures answer { IfOk result (λ a. a ≡ answer_write_on (named caller name self.old.refs.live) off (length bytes.now)) }
+        ensures answer { IfOk result
+            (λ a. a ≡ answer_write_on (named caller name self.old.refs.live) off (length bytes.now)) }
         ensures after { IfOk result (λ a. Called self.old self.new (events.Write caller name off bytes.now) a) }
         ensures stored { IfOk result (λ a. O.ops store.new
-            ≡ with_new (call_operations (events.Write caller name off bytes.now) a self.old) (O.ops store.old)) }
+            ≡ with_new (call_operations (events.Write caller name off bytes.now) a self.old)
+            (O.ops store.old)) }
         ensures front { OnErr result (AppliesNew
-            (call_operations (events.Write caller name off bytes.now) (answer_write_on (named caller name self.old.refs.live) off (length bytes.now)) self.old)
+            (call_operations (events.Write caller name off bytes.now)
+            (answer_write_on (named caller name self.old.refs.live) off (length bytes.now)) self.old)
             (O.ops store.old) (O.ops store.new)) }
-        ensures quiet { write_calls (answer_write_on (named caller name self.old.refs.live) off (length bytes.now)) ≡ false → store.new ≡ store.old }
-        ensures faults { FaultsOf StepFault.Store (write_calls (answer_write_on (named caller name self.old.refs.live) off (length bytes.now)))
+        ensures quiet { write_calls
+            (answer_write_on (named caller name self.old.refs.live) off (length bytes.now)) ≡ false
+            → store.new ≡ store.old }
+        ensures faults { FaultsOf StepFault.Store
+            (write_calls (answer_write_on (named caller name self.old.refs.live) off (length bytes.now)))
             (O.faults store.old) (O.faults store.new) result }
         ensures unlogged { IsErrOf result StepFault.Log → ⊥ }
     {
@@ -291,13 +301,17 @@ impl Client {
     ) -> Result<Answer, StepFault>
         requires fits { is_shown off len ≡ true }
         ensures answer { IfOk result (λ a. a
-            ≡ read_answer (named caller name self.old.refs.live) (λ f i. file_byte at.Head f (O.ops store.old) i) off len self.old.files) }
+            ≡ read_answer (named caller name self.old.refs.live) (head_byte (O.ops store.old)) off len
+            self.old.files) }
         ensures after { IfOk result (λ a. Called self.old self.new (events.Read caller name off len) a) }
         ensures kept { O.ops store.new ≡ O.ops store.old }
-        ensures quiet { read_calls (read_answer (named caller name self.old.refs.live) (λ f i. file_byte at.Head f (O.ops store.old) i) off len self.old.files)
+        ensures quiet { read_calls
+            (read_answer (named caller name self.old.refs.live) (head_byte (O.ops store.old)) off len
+            self.old.files)
             ≡ false → store.new ≡ store.old }
         ensures faults { FaultsOf StepFault.Store
-            (read_calls (read_answer (named caller name self.old.refs.live) (λ f i. file_byte at.Head f (O.ops store.old) i) off len self.old.files))
+            (read_calls (read_answer (named caller name self.old.refs.live) (head_byte (O.ops store.old)) off
+            len self.old.files))
             (O.faults store.old) (O.faults store.new) result }
         ensures unlogged { IsErrOf result StepFault.Log → ⊥ }
     {
@@ -314,14 +328,16 @@ impl Client {
     }
 
     fn chmod(&mut self, caller: Caller, name: RefName, mode: u16) -> Answer
-        ensures answer { result ≡ answer_chmod_on (has_writing self.old.files) (named caller name self.old.refs.live) }
+        ensures answer { result ≡ answer_chmod_on (has_writing self.old.files)
+            (named caller name self.old.refs.live) }
         ensures after { Called self.old self.new (events.Chmod caller name mode) result }
     {
         chmod(&mut self.files, &self.refs, caller, name, mode)
     }
 
     fn check(&mut self, file: Ino, out: &mut MessageList) -> Result<Answer, Memory>
-        ensures answer { IfOk result (λ a. a ≡ check_call_answer file self.old.refs.live (get nat_cmp self.old.files file)) }
+        ensures answer { IfOk result
+            (λ a. a ≡ check_call_answer file self.old.refs.live (get nat_cmp self.old.files file)) }
         ensures after { IfOk result (λ a. Called self.old self.new (events.Check file) a) }
         ensures sent { IfOk result (λ a. out.new ≡ out.old ++ check_sent file a) }
     {
@@ -330,18 +346,22 @@ impl Client {
 
     fn flush(&mut self, file: Ino, out: &mut MessageList) -> Result<Answer, Memory>
         requires { HasNumbers self.old }
-        ensures answer { IfOk result (λ a. a ≡ flush_call_answer self.old.flushes (get nat_cmp self.old.files file)) }
+        ensures answer { IfOk result
+            (λ a. a ≡ flush_call_answer self.old.flushes (get nat_cmp self.old.files file)) }
         ensures after { IfOk result (λ a. Called self.old self.new (events.Flush file) a) }
-        ensures sent { IfOk result (λ a. out.new ≡ out.old ++ flush_sent file a (get nat_cmp self.old.files file)) }
+        ensures sent { IfOk result
+            (λ a. out.new ≡ out.old ++ flush_sent file a (get nat_cmp self.old.files file)) }
     {
         flush(&mut self.files, &mut self.flushes, file, out)
     }
 
     fn flush_snaps(&mut self, file: Ino, out: &mut MessageList) -> Result<Answer, Memory>
         requires { HasNumbers self.old }
-        ensures answer { IfOk result (λ a. a ≡ flush_snaps_call_answer self.old.flushes (get nat_cmp self.old.files file)) }
+        ensures answer { IfOk result
+            (λ a. a ≡ flush_snaps_call_answer self.old.flushes (get nat_cmp self.old.files file)) }
         ensures after { IfOk result (λ a. Called self.old self.new (events.FlushSnaps file) a) }
-        ensures sent { IfOk result (λ a. out.new ≡ out.old ++ flush_snaps_sent file a (get nat_cmp self.old.files file)) }
+        ensures sent { IfOk result
+            (λ a. out.new ≡ out.old ++ flush_snaps_sent file a (get nat_cmp self.old.files file)) }
     {
         flush_snaps(&mut self.files, &mut self.flushes, file, out)
     }

@@ -9,7 +9,7 @@ ghost use Rattle.cs_client.specs.Answers.{flush_call_answer, flush_snaps_call_an
 ghost use Rattle.cs_client.specs.Calls.{flush_sent, flush_snaps_sent, flushes_after};
 ghost use Rattle.cs_inode.specs.Answers.{flush_answer, flush_snaps_answer};
 ghost use Rattle.cs_client.specs.Rows.{flush_row, flushed_row, snap_flushed_row, snap_row};
-ghost use Rattle.cs_client.specs.Views.{AreDrawn, AreTables, IsDrawnBelow, SamePlaces, SameRows};
+ghost use Rattle.cs_client.specs.Views.{AreDrawn, AreTables, IsDrawnBelow, RowsAfter, SamePlaces, SameRows};
 
 use crate::file::ClientFile;
 use cs_flush::Sent;
@@ -28,10 +28,11 @@ pub fn flush(
     requires drawn { AreDrawn files.old flushes.old }
     requires number { flushes.old < 99998 }
     ensures answer { IfOk result (λ a. a ≡ flush_call_answer flushes.old (get nat_cmp files.old file)) }
-    ensures rows { IfOk result (λ a. (f : ℕ) → get nat_cmp files.new f ≡ flushed_row file a f (get nat_cmp files.old f)) }
+    ensures rows { IfOk result (λ a. RowsAfter (flushed_row file a) files.old files.new) }
     ensures count { IfOk result (λ a. flushes.new ≡ flushes_after (events.Flush file) a flushes.old) }
     ensures sent { IfOk result (λ a. out.new ≡ out.old ++ flush_sent file a (get nat_cmp files.old file)) }
-    ensures tables { (rs : List Live) → AreTables files.old rs flushes.old → AreTables files.new rs flushes.new }
+    ensures tables { (rs : List Live) → AreTables files.old rs flushes.old → AreTables files.new rs
+        flushes.new }
     ensures places { SamePlaces files.old files.new }
 {
     let Some(step) = start_flush(files, file, Tid::after(*flushes))? else {
@@ -60,8 +61,9 @@ fn start_flush(
     tid: Tid,
 ) -> Result<Option<FlushStep>, Memory>
     requires { IsDrawnBelow tid files.old }
-    ensures answer { IfOk result (λ s. s ≡ option_map (λ r. flush_answer tid r.inode) (get nat_cmp files.old file)) }
-    ensures rows { IfOk result (λ s. (f : ℕ) → get nat_cmp files.new f ≡ flush_row file s f (get nat_cmp files.old f)) }
+    ensures answer { IfOk result
+        (λ s. s ≡ option_map (λ r. flush_answer tid r.inode) (get nat_cmp files.old file)) }
+    ensures rows { IfOk result (λ s. RowsAfter (flush_row file s) files.old files.new) }
     ensures places { SamePlaces files.old files.new }
     ensures err { OnErr result (SameRows files.old files.new) }
 {
@@ -81,10 +83,12 @@ pub fn flush_snaps(
     requires drawn { AreDrawn files.old flushes.old }
     requires number { flushes.old < 99998 }
     ensures answer { IfOk result (λ a. a ≡ flush_snaps_call_answer flushes.old (get nat_cmp files.old file)) }
-    ensures rows { IfOk result (λ a. (f : ℕ) → get nat_cmp files.new f ≡ snap_flushed_row file a f (get nat_cmp files.old f)) }
+    ensures rows { IfOk result (λ a. RowsAfter (snap_flushed_row file a) files.old files.new) }
     ensures count { IfOk result (λ a. flushes.new ≡ flushes_after (events.FlushSnaps file) a flushes.old) }
-    ensures sent { IfOk result (λ a. out.new ≡ out.old ++ flush_snaps_sent file a (get nat_cmp files.old file)) }
-    ensures tables { (rs : List Live) → AreTables files.old rs flushes.old → AreTables files.new rs flushes.new }
+    ensures sent { IfOk result (λ a. out.new ≡ out.old ++ flush_snaps_sent file a
+        (get nat_cmp files.old file)) }
+    ensures tables { (rs : List Live) → AreTables files.old rs flushes.old → AreTables files.new rs
+        flushes.new }
     ensures places { SamePlaces files.old files.new }
 {
     let Some(step) = start_snap_flush(files, file, Tid::after(*flushes)) else {
@@ -110,7 +114,7 @@ pub fn flush_snaps(
 fn start_snap_flush(files: &mut BTreeMap<Ino, ClientFile>, file: Ino, tid: Tid) -> Option<SnapStep>
     requires { IsDrawnBelow tid files.old }
     ensures answer { result ≡ option_map (λ r. flush_snaps_answer tid r.inode) (get nat_cmp files.old file) }
-    ensures rows { (f : ℕ) → get nat_cmp files.new f ≡ snap_row file result f (get nat_cmp files.old f) }
+    ensures rows { RowsAfter (snap_row file result) files.old files.new }
     ensures places { SamePlaces files.old files.new }
 {
     let row = files.get_mut(&file)?;

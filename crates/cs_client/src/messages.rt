@@ -9,7 +9,7 @@ ghost use Rattle.cs_tree.specs.Directories.{path_of};
 ghost use Rattle.cs_client.specs.Messages.{ParentsAreKnown, with_caps};
 ghost use Rattle.cs_client.specs.Rows.{at_file};
 ghost use Rattle.cs_client.specs.Told.{ContextsRise, count_changed, told_row};
-ghost use Rattle.cs_client.specs.Views.{ContextsFollow, IsEachOnce, KeepsTables, SameHomes, SamePlaces, is_among, is_kept};
+ghost use Rattle.cs_client.specs.Views.{ContextsFollow, IsEachOnce, KeepsTables, RowsAfter, SameHomes, SamePlaces, is_among, is_kept};
 
 use crate::file::ClientFile;
 use crate::told::{change_all, take_in};
@@ -24,7 +24,7 @@ use std::collections::BTreeMap;
 /// The client may have these bits of a file from now on, and it may grow up to `max` bytes.
 pub fn deliver_cap(files: &mut BTreeMap<Ino, ClientFile>, file: Ino, seq: Seq, bits: Caps, max: u32)
     requires { is_kept files.old file ≡ true }
-    ensures rows { (f : ℕ) → get nat_cmp files.new f ≡ at_file file (with_caps bits seq max) f (get nat_cmp files.old f) }
+    ensures rows { RowsAfter (at_file file (with_caps bits seq max)) files.old files.new }
     ensures tables { KeepsTables files.old files.new }
     ensures places { SamePlaces files.old files.new }
 {
@@ -38,7 +38,7 @@ pub fn deliver_cap(files: &mut BTreeMap<Ino, ClientFile>, file: Ino, seq: Seq, b
 /// snap.
 pub fn deliver_ack(files: &mut BTreeMap<Ino, ClientFile>, file: Ino, tid: Tid)
     requires { is_kept files.old file ≡ true }
-    ensures rows { (f : ℕ) → get nat_cmp files.new f ≡ at_file file (after_ack tid) f (get nat_cmp files.old f) }
+    ensures rows { RowsAfter (at_file file (after_ack tid)) files.old files.new }
     ensures tables { KeepsTables files.old files.new }
     ensures places { SamePlaces files.old files.new }
 {
@@ -65,9 +65,11 @@ pub fn deliver_realms(
     requires parents { ParentsAreKnown realms.old told.now }
     requires rises { ContextsRise (path_of tree.now) (with_records told.now realms.old) files.old }
     requires before { followed.old ≡ true → ContextsFollow tree.now realms.old files.old }
-    ensures count { IfOk result (λ n. n ≡ count_changed (path_of tree.now) (with_records told.now realms.old) files.old made.now) }
-    ensures rows { OnOk result ((f : ℕ) → get nat_cmp files.new f
-        ≡ option_map (told_row (path_of tree.now) (with_records told.now realms.old)) (get nat_cmp files.old f)) }
+    ensures count { IfOk result
+        (λ n. n ≡ count_changed (path_of tree.now) (with_records told.now realms.old) files.old made.now) }
+    ensures rows { OnOk result (RowsAfter
+        (λ f row. option_map (told_row (path_of tree.now) (with_records told.now realms.old)) row) files.old
+        files.new) }
     ensures realms { OnOk result (realms.new ≡ with_records told.now realms.old) }
     ensures tables { KeepsTables files.old files.new }
     ensures homes { SameHomes files.old files.new }

@@ -10,7 +10,7 @@ ghost use Rattle.cs_laws.specs.References.{can_end, named};
 ghost use Rattle.cs_client.specs.Answers.{begin_answer, end_answer, has_writing};
 ghost use Rattle.cs_client.specs.Calls.{RefsAfter, seq_of};
 ghost use Rattle.cs_client.specs.Rows.{begun_row, ended_row, mode_row, started, stopped};
-ghost use Rattle.cs_client.specs.Views.{AreTables, HaveTables, KeepsTables, SamePlaces, SameRows};
+ghost use Rattle.cs_client.specs.Views.{AreTables, HaveTables, KeepsTables, RowsAfter, SamePlaces, SameRows};
 
 use crate::file::ClientFile;
 use cs_bits::Caps;
@@ -33,9 +33,11 @@ pub fn begin(
     requires tables { HaveTables files.old refs.old.live }
     requires number { begun_of caller refs.old < 99998 }
     ensures answer { IfOk result (λ a. a ≡ begin_answer caller bits end refs.old (get nat_cmp files.old file)) }
-    ensures rows { IfOk result (λ a. (f : ℕ) → get nat_cmp files.new f ≡ begun_row file bits a f (get nat_cmp files.old f)) }
-    ensures refs { IfOk result (λ a. RefsAfter (events.Begin caller file bits end) a (seq_of files.old) refs.old refs.new) }
-    ensures tables { (sent : ℕ) → AreTables files.old refs.old.live sent → AreTables files.new refs.new.live sent }
+    ensures rows { IfOk result (λ a. RowsAfter (begun_row file bits a) files.old files.new) }
+    ensures refs { IfOk result (λ a. RefsAfter (events.Begin caller file bits end) a (seq_of files.old)
+        refs.old refs.new) }
+    ensures tables { (sent : ℕ) → AreTables files.old refs.old.live sent → AreTables files.new refs.new.live
+        sent }
     ensures places { SamePlaces files.old files.new }
     ensures err { OnErr result (SameRows files.old files.new) }
 {
@@ -81,9 +83,10 @@ pub fn end(
 ) -> Answer
     requires tables { HaveTables files.old refs.old.live }
     ensures answer { result ≡ end_answer (can_end caller name refs.old.live) }
-    ensures rows { (f : ℕ) → get nat_cmp files.new f ≡ ended_row (named caller name refs.old.live) result f (get nat_cmp files.old f) }
+    ensures rows { RowsAfter (ended_row (named caller name refs.old.live) result) files.old files.new }
     ensures refs { RefsAfter (events.End caller name) result (seq_of files.old) refs.old refs.new }
-    ensures tables { (sent : ℕ) → AreTables files.old refs.old.live sent → AreTables files.new refs.new.live sent }
+    ensures tables { (sent : ℕ) → AreTables files.old refs.old.live sent → AreTables files.new refs.new.live
+        sent }
     ensures places { SamePlaces files.old files.new }
 {
     let RefName::Own(number) = name else {
@@ -129,7 +132,7 @@ pub fn chmod(
 ) -> Answer
     requires tables { HaveTables files.old refs.now.live }
     ensures answer { result ≡ answer_chmod_on (has_writing files.old) (named caller name refs.now.live) }
-    ensures rows { (f : ℕ) → get nat_cmp files.new f ≡ mode_row (named caller name refs.now.live) mode result f (get nat_cmp files.old f) }
+    ensures rows { RowsAfter (mode_row (named caller name refs.now.live) mode result) files.old files.new }
     ensures tables { KeepsTables files.old files.new }
     ensures places { SamePlaces files.old files.new }
 {

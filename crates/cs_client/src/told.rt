@@ -101,7 +101,8 @@ fn change(
 ) -> Result<bool, Memory>
     requires empty { empty.now ≡ empty_context }
     requires rises { RisesIn (path_of tree.now) realms.now (get nat_cmp files.old file) }
-    requires stay { followed ≡ true → StaysIn (path_of tree.now) touched.now realms.now (get nat_cmp files.old file) }
+    requires stay { followed ≡ true → StaysIn (path_of tree.now) touched.now realms.now
+        (get nat_cmp files.old file) }
     ensures ok { IfOk result (λ b. ChangesRow (path_of tree.now) realms.now files.old files.new file b) }
     ensures tables { KeepsTables files.old files.new }
     ensures homes { SameHomes files.old files.new }

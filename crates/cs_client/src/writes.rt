@@ -2,16 +2,15 @@
 ghost use Rattle.std.specs.Prelude.{◌≡◌, ℕ, ◌+◌, ◌-◌, ◌<◌, ◌≤◌, true, false, length, min, nat_lt, take, IfOk, OnErr, IsErrOf};
 ghost use Rattle.std.specs.BTreeMap.{get};
 ghost use Rattle.std.specs.Ordering.{nat_cmp};
-ghost use Rattle.cs_laws.specs.declared.objects.At.TheVariants as at;
 ghost use Rattle.cs_laws.specs.Answers.{answer_write_on, bytes_from};
 ghost use Rattle.cs_laws.specs.Devices.{FaultsOf};
 ghost use Rattle.cs_laws.specs.Fits.{greatest_end, is_shown, is_write};
 ghost use Rattle.cs_laws.specs.References.{named};
-ghost use Rattle.cs_objstore.specs.Files.{AppliesNew, file_byte, with_new};
-ghost use Rattle.cs_client.specs.Answers.{read_answer, shown_count};
+ghost use Rattle.cs_objstore.specs.Files.{AppliesNew, with_new};
+ghost use Rattle.cs_client.specs.Answers.{head_byte, read_answer, shown_count};
 ghost use Rattle.cs_client.specs.Calls.{read_calls, write_calls, written_operations};
 ghost use Rattle.cs_client.specs.Rows.{written_row};
-ghost use Rattle.cs_client.specs.Views.{HaveTables, KeepsTables, SamePlaces};
+ghost use Rattle.cs_client.specs.Views.{HaveTables, KeepsTables, RowsAfter, SamePlaces};
 
 use crate::file::ClientFile;
 use crate::references::find;
@@ -40,19 +39,25 @@ pub fn write<O: ObjStore>(
     requires tables { HaveTables files.old refs.now.live }
     requires fits { is_write off bytes.now ≡ true }
     requires number { operations.old < 99998 }
-    ensures answer { IfOk result (λ a. a ≡ answer_write_on (named caller name refs.now.live) off (length bytes.now)) }
-    ensures rows { IfOk result (λ a. (f : ℕ) → get nat_cmp files.new f
-        ≡ written_row (named caller name refs.now.live) (off + length bytes.now) clock a f (get nat_cmp files.old f)) }
+    ensures answer { IfOk result
+        (λ a. a ≡ answer_write_on (named caller name refs.now.live) off (length bytes.now)) }
+    ensures rows { IfOk result (λ a. RowsAfter
+        (written_row (named caller name refs.now.live) (off + length bytes.now) clock a) files.old files.new) }
     ensures drawn { IfOk result (λ a. operations.new ≡ operations.old
-        + length (written_operations (named caller name refs.now.live) off bytes.now a operations.old files.old)) }
+        + length (written_operations (named caller name refs.now.live) off bytes.now a operations.old
+        files.old)) }
     ensures tables { KeepsTables files.old files.new }
     ensures places { SamePlaces files.old files.new }
     ensures stored { IfOk result (λ a. O.ops store.new
-        ≡ with_new (written_operations (named caller name refs.now.live) off bytes.now a operations.old files.old) (O.ops store.old)) }
+        ≡ with_new (written_operations (named caller name refs.now.live) off bytes.now a operations.old
+        files.old) (O.ops store.old)) }
     ensures front { OnErr result (AppliesNew (written_operations (named caller name refs.now.live) off bytes.now
-        (answer_write_on (named caller name refs.now.live) off (length bytes.now)) operations.old files.old) (O.ops store.old) (O.ops store.new)) }
-    ensures quiet { write_calls (answer_write_on (named caller name refs.now.live) off (length bytes.now)) ≡ false → store.new ≡ store.old }
-    ensures faults { FaultsOf StepFault.Store (write_calls (answer_write_on (named caller name refs.now.live) off (length bytes.now)))
+        (answer_write_on (named caller name refs.now.live) off (length bytes.now)) operations.old files.old)
+        (O.ops store.old) (O.ops store.new)) }
+    ensures quiet { write_calls (answer_write_on (named caller name refs.now.live) off (length bytes.now))
+        ≡ false → store.new ≡ store.old }
+    ensures faults { FaultsOf StepFault.Store
+        (write_calls (answer_write_on (named caller name refs.now.live) off (length bytes.now)))
         (O.faults store.old) (O.faults store.new) result }
     ensures unlogged { IsErrOf result StepFault.Log → ⊥ }
 {
@@ -92,12 +97,14 @@ pub fn read<O: ObjStore>(
     requires tables { HaveTables files.now refs.now.live }
     requires fits { is_shown off len ≡ true }
     ensures answer { IfOk result (λ a. a
-        ≡ read_answer (named caller name refs.now.live) (λ f i. file_byte at.Head f (O.ops store.old) i) off len files.now) }
+        ≡ read_answer (named caller name refs.now.live) (head_byte (O.ops store.old)) off len files.now) }
     ensures kept { O.ops store.new ≡ O.ops store.old }
-    ensures quiet { read_calls (read_answer (named caller name refs.now.live) (λ f i. file_byte at.Head f (O.ops store.old) i) off len files.now) ≡ false
+    ensures quiet { read_calls (read_answer (named caller name refs.now.live) (head_byte (O.ops store.old))
+        off len files.now) ≡ false
         → store.new ≡ store.old }
     ensures faults { FaultsOf StepFault.Store
-        (read_calls (read_answer (named caller name refs.now.live) (λ f i. file_byte at.Head f (O.ops store.old) i) off len files.now))
+        (read_calls (read_answer (named caller name refs.now.live) (head_byte (O.ops store.old)) off len
+        files.now))
         (O.faults store.old) (O.faults store.new) result }
     ensures unlogged { IsErrOf result StepFault.Log → ⊥ }
 {
@@ -125,10 +132,12 @@ fn read_inode<O: ObjStore>(
 ) -> Result<Bytes, StepFault>
     requires fits { is_shown off len ≡ true }
     requires size { inode.now.meta.size ≤ greatest_end }
-    ensures bytes { IfOk result (λ b. b ≡ bytes_from (file_byte at.Head file (O.ops store.old)) off (shown_count inode.now.meta.size off len)) }
+    ensures bytes { IfOk result
+        (λ b. b ≡ bytes_from (head_byte (O.ops store.old) file) off (shown_count inode.now.meta.size off len)) }
     ensures kept { O.ops store.new ≡ O.ops store.old }
     ensures quiet { nat_lt 0 (shown_count inode.now.meta.size off len) ≡ false → store.new ≡ store.old }
-    ensures faults { FaultsOf StepFault.Store (nat_lt 0 (shown_count inode.now.meta.size off len)) (O.faults store.old) (O.faults store.new) result }
+    ensures faults { FaultsOf StepFault.Store (nat_lt 0 (shown_count inode.now.meta.size off len))
+        (O.faults store.old) (O.faults store.new) result }
     ensures unlogged { IsErrOf result StepFault.Log → ⊥ }
 {
     let mut bytes = Bytes::new(alloc);
@@ -155,7 +164,7 @@ fn read_base<O: ObjStore>(
     requires upto { count ≤ len }
     requires within { off + count ≤ greatest_end }
     ensures length { IfOk result (λ b. length b ≡ min len (greatest_end - off)) }
-    ensures front { IfOk result (λ b. take count b ≡ bytes_from (file_byte at.Head file (O.ops store.old)) off count) }
+    ensures front { IfOk result (λ b. take count b ≡ bytes_from (head_byte (O.ops store.old) file) off count) }
     ensures kept { O.ops store.new ≡ O.ops store.old }
     ensures faults { FaultsOf StepFault.Store true (O.faults store.old) (O.faults store.new) result }
     ensures unlogged { IsErrOf result StepFault.Log → ⊥ }

@@ -24,4 +24,5 @@ returns-clause-made c =
     let room : length c.args.made.now.items < 4294967295 = search rules in
     let listed : c.push_reserved.new.self.items ≡ c.args.made.now.items ++ c.args.file ∷ [] = search rules in
     subst (λ ns. AreMade c.insert.new.self ns) (sym listed)
-    (added_made c.args.files.now c.insert.new.self c.args.file (new_file c.args.file c.args.home context) c.args.made.now.items c.requires.new adds c.requires.made room)
+    (added_made c.args.files.now c.insert.new.self c.args.file (new_file c.args.file c.args.home context) c.args.made.now.items c.requires.new adds
+    c.requires.made room)

@@ -10,7 +10,8 @@ loop-directory-init c = refl
 pub returns-then-is_some : goal.returns-then-is_some
 returns-then-is_some c =
     c.context-found.ensures.value
-    ∙ found_here c.args.path.now c.args.realms.now c.loop-directory.directory-index c.directory-item.result c.is_some.result c.loop-directory-test.true c.directory-item.is
+    ∙ found_here c.args.path.now c.args.realms.now c.loop-directory.directory-index c.directory-item.result c.is_some.result
+    c.loop-directory-test.true c.directory-item.is
     c.loop-directory.invariant (rw c.is_some.ensures c.context-found.ensures.unknown) c.if-is_some.true
 
 pub loop-directory-preserved : goal.loop-directory-preserved

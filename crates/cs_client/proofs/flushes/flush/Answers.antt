@@ -13,17 +13,20 @@ returns-in_err-step-clause-tables c = λ rs t. same_tables c.args.files.now c.st
 
 pub returns-in_default-clause-tables : goal.returns-in_default-clause-tables
 returns-in_default-clause-tables c = λ rs t.
-    flush_unsent c.args.files.now c.start_flush.new.files c.args.file c.in_ok-step.field-0 c.in_ok-step.ensures.rows (λ f row. rw c.in_default.is refl) rs c.args.flushes.now t
+    flush_unsent c.args.files.now c.start_flush.new.files c.args.file c.in_ok-step.field-0 c.in_ok-step.ensures.rows
+    (λ f row. rw c.in_default.is refl) rs c.args.flushes.now t
 
 pub returns-in-Snap-clause-tables : goal.returns-in-Snap-clause-tables
 returns-in-Snap-clause-tables c = λ rs t.
     let is : c.in_ok-step.field-0 ≡ Some flush.Snap = c.in-Some.is ∙ ap (λ (x : FlushStep). Some x) c.in-Snap.is in
-    flush_unsent c.args.files.now c.start_flush.new.files c.args.file c.in_ok-step.field-0 c.in_ok-step.ensures.rows (λ f row. rw is refl) rs c.args.flushes.now t
+    flush_unsent c.args.files.now c.start_flush.new.files c.args.file c.in_ok-step.field-0 c.in_ok-step.ensures.rows (λ f row. rw is refl) rs
+    c.args.flushes.now t
 
 pub returns-in-Clean-clause-tables : goal.returns-in-Clean-clause-tables
 returns-in-Clean-clause-tables c = λ rs t.
     let is : c.in_ok-step.field-0 ≡ Some flush.Clean = c.in-Some.is ∙ ap (λ (x : FlushStep). Some x) c.in-Clean.is in
-    flush_unsent c.args.files.now c.start_flush.new.files c.args.file c.in_ok-step.field-0 c.in_ok-step.ensures.rows (λ f row. rw is refl) rs c.args.flushes.now t
+    flush_unsent c.args.files.now c.start_flush.new.files c.args.file c.in_ok-step.field-0 c.in_ok-step.ensures.rows (λ f row. rw is refl) rs
+    c.args.flushes.now t
 
 pub returns-in_err-push-in-Sent-clause-tables : goal.returns-in_err-push-in-Sent-clause-tables
 returns-in_err-push-in-Sent-clause-tables c =

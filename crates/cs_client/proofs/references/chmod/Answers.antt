@@ -35,7 +35,8 @@ returns-in-Snap-clause-rows c =
     let i = c.chmod.new.self in
     let new : Files = c.get_mut.follows.lender (record r { inode = i }) in
     let put : Puts c.args.files.now new c.in-Some.live.file r i = record { had = sym c.in-Some-get_mut.ensures.value; rows = λ g. search rules } in
-    put_same c.args.files.now new c.in-Some.live.file r i put (mode_kept c.args.mode r.inode i (sym c.in-Snap.is ∙ c.chmod.ensures.answer) c.chmod.ensures.after)
+    put_same c.args.files.now new c.in-Some.live.file r i put
+    (mode_kept c.args.mode r.inode i (sym c.in-Snap.is ∙ c.chmod.ensures.answer) c.chmod.ensures.after)
 
 pub returns-in-Snap-clause-tables : goal.returns-in-Snap-clause-tables
 returns-in-Snap-clause-tables c =

@@ -24,7 +24,8 @@ overflow_add-count c =
 pub change-requires-clause-rises : goal.change-requires-clause-rises
 change-requires-clause-rises c =
     let made = c.args.made.now in
-    next_rises (path_of c.args.tree.now) c.args.realms.now c.args.files.now c.loop-file.files (take c.loop-file.file-index made) c.file-item.result c.loop-file.invariant.rows
+    next_rises (path_of c.args.tree.now) c.args.realms.now c.args.files.now c.loop-file.files (take c.loop-file.file-index made) c.file-item.result
+    c.loop-file.invariant.rows
     (front_without made c.loop-file.file-index c.file-item.result c.loop-file-test.true c.file-item.is c.requires.once) c.requires.rises
 
 pub change-requires-clause-stay : goal.change-requires-clause-stay
@@ -60,10 +61,12 @@ loop-file-preserved c =
     let f = c.file-item.result in
     let b = c.in_ok-needed.needed in
     let fs = take c.loop-file.file-index made in
-    let more : take (c.loop-file.file-index + 1) made ≡ fs ++ f ∷ [] = rw (← c.file-item.is) at (take_more made c.loop-file.file-index f c.loop-file-test.true) in
+    let more : take (c.loop-file.file-index + 1) made ≡ fs ++ f ∷ [] = rw (← c.file-item.is) at
+    (take_more made c.loop-file.file-index f c.loop-file-test.true) in
     let absent : is_among f fs ≡ false = front_without made c.loop-file.file-index f c.loop-file-test.true c.file-item.is c.requires.once in
     rw more (record {
-      count = ap (λ k. c.loop-file.count + k) c.from-count.ensures ∙ next_count up ts old mid new fs f c.loop-file.count b i.rows c.in_ok-needed.ensures.ok absent i.count;
+      count = ap (λ k. c.loop-file.count + k) c.from-count.ensures ∙ next_count up ts old mid new fs f c.loop-file.count b i.rows
+          c.in_ok-needed.ensures.ok absent i.count;
       rows = next_rows up ts old mid new fs f b i.rows c.in_ok-needed.ensures.ok absent;
       tables = λ rs sent t. c.change.ensures.tables rs sent (i.tables rs sent t);
       homes = λ g. c.change.ensures.homes g ∙ i.homes g;
