@@ -34,9 +34,10 @@ use std::alloc::Global;
 use std::collections::BTreeMap;
 use std::marker::Model;
 
-/// The client of a run. Each file that it keeps has an inode's number of its own, counts its live writers,
-/// has unacknowledged flushes of drawn numbers alone and is at most 1,048,576 bytes long. Each live
-/// reference is one to such a file. So it is after a fault too, after which nothing else is said.
+/// The client of a run: the directories and realms of which it was told, what it keeps of each file, and
+/// the callers' live references. Of each file it counts the live references that may write, has
+/// unacknowledged flushes of numbers alone that were drawn, and a size of at most 1,048,576 bytes; each
+/// live reference is one to a file that it keeps. So it is after a fault too, and no more is said then.
 #[derive(Drop)]
 pub struct Client {
     alloc: Global,
@@ -66,9 +67,27 @@ impl Model for Client {
 
     ghost coded = { Prim.hlevel (codes, btree_map_code) };
 
-    ghost view = { λ c. record { clock = c.clock; tree = c.tree; realms = c.realms; files = c.files; made = c.made.items; refs = c.refs; operations = c.operations; flushes = c.flushes } };
+    ghost view = { λ c. record {
+      clock = c.clock;
+      tree = c.tree;
+      realms = c.realms;
+      files = c.files;
+      made = c.made.items;
+      refs = c.refs;
+      operations = c.operations;
+      flushes = c.flushes;
+    } };
 
-    ghost invariant = { λ c. IsClient (record { clock = c.clock; tree = c.tree; realms = c.realms; files = c.files; made = c.made.items; refs = c.refs; operations = c.operations; flushes = c.flushes })
+    ghost invariant = { λ c. IsClient (record {
+      clock = c.clock;
+      tree = c.tree;
+      realms = c.realms;
+      files = c.files;
+      made = c.made.items;
+      refs = c.refs;
+      operations = c.operations;
+      flushes = c.flushes;
+    })
         × (c.followed ≡ true → ContextsFollow c.tree c.realms c.files) };
 }
 
