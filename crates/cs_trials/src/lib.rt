@@ -5,6 +5,8 @@
 #[cfg(test)]
 mod capsnap;
 #[cfg(test)]
+mod client;
+#[cfg(test)]
 mod command;
 #[cfg(test)]
 mod flush;
