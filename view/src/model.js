@@ -204,13 +204,19 @@
 
   const isBefore = (at, seq) => at === 'head' || seq < at;
 
-  function metaAt(state, f, at) {
+  // of the file's recorded flushes from before the state, the one that follows the greatest number, and of those the last
+  function lastFlush(state, f, at) {
     let best = null;
     for (const x of fileOf(state, f).recorded) {
       if (!isBefore(at, x.follows)) continue;
       if (!best || x.follows > best.follows || (x.follows === best.follows && x.tid > best.tid)) best = x;
     }
-    return best ? best.meta : { size: 0, mtime: 0, mode: FIRST_MODE };
+    return best;
+  }
+
+  function metaAt(state, f, at) {
+    const flush = lastFlush(state, f, at);
+    return flush ? flush.meta : { size: 0, mtime: 0, mode: FIRST_MODE };
   }
 
   // ---- realms and contexts
@@ -556,7 +562,11 @@
 
   function whyShown(s, e) {
     const reasons = reasonsOf(s, e.file, e.at);
-    return reasons.length ? `By the rule it is pending: ${reasons.join('; ')}.` : 'By the rule nothing of it is owed: it is settled.';
+    if (reasons.length) return `By the rule it is pending: ${reasons.join('; ')}.`;
+    const flush = lastFlush(s, e.file, e.at);
+    const source = flush ? `the record of flush ${flush.tid}` : 'a new file, since no flush tells of it';
+    const writes = e.at === 'head' ? 'all writes' : `the writes on references begun before the client was told of ${e.at}`;
+    return `By the rule nothing of it is owed. Size, time and mode are those of ${source}; the bytes are what ${writes} left.`;
   }
 
   const setupAnswers = (effect) => ({

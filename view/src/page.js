@@ -203,9 +203,9 @@
     const { counts, differences } = page.run;
     const underWay = counts.sentToClient + counts.sentToServer - page.run.tracks.arrows.filter((a) => a.to !== null).length;
     const parts = [
-      `${page.name}: ${counts.entries} entries`,
-      `${counts.sentToClient} messages to the client, ${counts.sentToServer} to the server, ${underWay} still under way`,
-      `${counts.begun} references begun, ${counts.ended} ended`,
+      `${page.name}: ${counts.entries} ${counts.entries === 1 ? 'entry' : 'entries'}`,
+      `messages: ${counts.sentToClient} to the client, ${counts.sentToServer} to the server, ${underWay} still under way`,
+      `references: ${counts.begun} begun, ${counts.ended} ended`,
       `${counts.durable} of ${counts.records} records durable`,
       `${counts.showsAgreeing} of ${counts.shows} show lines as computed`,
     ];
