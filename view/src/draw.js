@@ -49,7 +49,7 @@
 
     layOut() {
       this.rows = [];
-      this.axisHeight = this.cell >= 60 ? 40 : 88;
+      this.axisHeight = this.cell >= 60 ? 40 : this.cell >= 16 ? 88 : 24;
       this.height = this.axisHeight + 4;
       this.index();
       for (const caller of this.callers()) this.addCaller(caller);
@@ -75,6 +75,7 @@
         this.sentAt.set(arrow.from, [...(this.sentAt.get(arrow.from) || []), arrow]);
         if (arrow.to !== null) this.deliveredAt.set(arrow.to, arrow);
       }
+      this.differsAt = new Set(this.run.differences.map((d) => d.entry));
       const { records, commits } = this.run.tracks;
       this.logLane = records.map((record) => ({ from: record.from, to: open(record.durable), record }));
       this.durableSpans = commits.map((c, i) => ({ from: c.entry, to: i + 1 < commits.length ? commits[i + 1].entry : Infinity, value: c.durable }));
@@ -131,7 +132,7 @@
       this.fill(0, 0, view.width, view.height, palette.paper);
       this.clipTo(LABEL_WIDTH, 0, view.width, view.height, () => this.drawCursor());
       const seen = this.rowsSeen();
-      this.clipTo(LABEL_WIDTH, this.axisHeight, view.width, view.height, () => seen.forEach((row) => this.drawRow(row)));
+      this.clipTo(LABEL_WIDTH, this.axisHeight, view.width, view.height, () => { seen.forEach((row) => this.drawRow(row)); this.drawCursorLine(); });
       this.clipTo(0, this.axisHeight, LABEL_WIDTH, view.height, () => seen.forEach((row) => this.drawLabel(row)));
       this.drawAxis();
       return seen.length;
@@ -167,8 +168,16 @@
       this.fill(this.x(cursor) - this.cell / 2, 0, this.cell, this.view.height, this.palette.cursor);
     }
 
+    // over the bars, where the column's colour is hidden
+    drawCursorLine() {
+      if (!this.view.cursor) return;
+      this.context.globalAlpha = 0.35;
+      this.line(this.x(this.view.cursor), this.axisHeight, this.x(this.view.cursor), this.view.height, this.palette.ink, 1);
+      this.context.globalAlpha = 1;
+    }
+
     drawAxis() {
-      const { palette, view, context } = this;
+      const { palette, view } = this;
       this.clipTo(0, 0, view.width, this.axisHeight, () => {
         this.fill(0, 0, view.width, this.axisHeight, palette.paper);
         this.clipTo(LABEL_WIDTH, 0, view.width, this.axisHeight, () => {
@@ -178,14 +187,13 @@
         this.text('entry', 8, this.axisHeight - 11, { colour: palette.soft });
         this.line(0, this.axisHeight - 0.5, view.width, this.axisHeight - 0.5, palette.soft, 1);
       });
-      context.globalAlpha = 1;
     }
 
     drawTick(n) {
       const entry = this.run.entries[n - 1];
       const x = this.x(n);
       const step = Math.ceil(26 / this.cell);
-      if (n % step === 0 || step === 1) this.text(String(n), x, this.axisHeight - 11, { align: 'center', size: 11, colour: n === this.view.cursor ? this.palette.ink : this.palette.soft, weight: n === this.view.cursor ? 700 : 400 });
+      if (n % step === 0 || step === 1) this.text(String(n), x, this.axisHeight - 11, { align: 'center', size: 11, colour: this.differsAt.has(n) ? this.palette.wrong : n === this.view.cursor ? this.palette.ink : this.palette.soft, weight: n === this.view.cursor || this.differsAt.has(n) ? 700 : 400 });
       if (this.cell < 16) return;
       const did = this.effectOf(entry);
       const style = { size: 11.5, colour: did || entry.event.kind === 'show' ? this.palette.ink : this.palette.soft };
@@ -227,7 +235,7 @@
       const letter = { write: 'W', read: 'R', mode: 'M' }[how];
       this.drawn.add('marks');
       const x = this.x(entry);
-      if (this.cell < 12) { this.fill(x - 1, y - 5, 2, 10, this.palette.paper); return; }
+      if (this.cell < 16) { this.fill(x - 1, y - 6, 2, 12, this.palette.paper); return; }
       this.disc(x, y, 7, this.palette.paper);
       this.text(letter, x, y + 0.5, { align: 'center', size: 10, weight: 700 });
     }
@@ -305,7 +313,7 @@
       if (arrows.length === 1) {
         const colour = this.palette[FAMILY[arrows[0].message.kind]];
         const [kind, number] = messageShort(arrows[0].message);
-        return [{ text: this.labelThatFits([kind, kind === 'flushack' ? 'fl.ack' : kind], this.cell - 2), colour }, { text: String(number), colour }];
+        return [{ text: this.labelThatFits([kind, kind === 'flushack' ? 'fl.ack' : kind], this.cell - 2, 10.5), colour }, { text: String(number), colour }];
       }
       if (arrows.length > 1) return [{ text: String(arrows.length), colour: soft }, { text: 'news', colour: soft }];
       const words = entry.answerText.split(' ');
@@ -335,7 +343,7 @@
       for (const { record } of this.seen(this.logLane)) {
         const x = this.x(record.from);
         const colour = record.body.kind === 'flush' ? palette.flushes : palette.snaps;
-        const text = this.cell < 26 ? '' : this.labelThatFits([recordShort(record.body).join(' '), recordShort(record.body)[0][0] + recordShort(record.body)[1]], this.cell - 2);
+        const text = this.cell < 26 ? '' : this.labelThatFits([recordShort(record.body).join(' '), recordShort(record.body)[0][0] + recordShort(record.body)[1]], this.cell - 4, 10.5);
         const half = text ? this.measure(text, 10.5) / 2 + 4 : 4;
         this.fill(x - half, upper - 9, half * 2, 18, palette.paper);
         this.box(x - half, upper - 8, half * 2, 16, colour);
@@ -369,7 +377,7 @@
       const x = this.x(show.entry);
       const colour = show.agrees ? this.palette.agrees : this.palette.wrong;
       this.drawn.add(show.agrees ? 'agrees' : 'wrong');
-      if (this.cell < 12) { this.fill(x - 1, y - 6, 2, 12, colour); return; }
+        if (this.cell < 19) { this.fill(x - 1.5, y - 7, 3, 14, colour); return; }
       this.disc(x, y, 8, this.palette.paper);
       this.ring(x, y, 8, colour);
       this.text(show.agrees ? '✓' : '≠', x, y + 0.5, { align: 'center', size: 11, weight: 700, colour });
@@ -553,8 +561,8 @@
       if (most && this.measure(text, size, weight) > most) context.fillText(text, x, y, Math.max(1, most)); else context.fillText(text, x, y);
     }
 
-    labelThatFits(labels, width) {
-      return labels.find((label) => this.measure(label, 11.5) <= width) || '';
+    labelThatFits(labels, width, size = 11.5) {
+      return labels.find((label) => this.measure(label, size) <= width) || '';
     }
 
     // the first of these labels that fits somewhere between a bar's marks, in the first gap that is wide enough

@@ -242,11 +242,17 @@
     return own;
   }
 
+  // the numbers of both lists, the greatest first, each once
+  function descending(own, others) {
+    if (!others.length && own.every((s, i) => i === 0 || s < own[i - 1])) return own;
+    return [...new Set([...own, ...others])].sort((a, b) => b - a);
+  }
+
   function contextOf(table, d, known = new Map()) {
     if (known.has(d)) return known.get(d);
     const r = table.get(d);
     const above = r.parent !== null && table.has(r.parent) && r.parent !== d ? contextOf(table, r.parent, known) : { seq: 0, snaps: [] };
-    const context = { seq: Math.max(r.seq, above.seq), snaps: [...new Set([...r.own, ...above.snaps])].sort((a, b) => b - a) };
+    const context = { seq: Math.max(r.seq, above.seq), snaps: descending(r.own, above.snaps) };
     known.set(d, context);
     return context;
   }
@@ -256,11 +262,15 @@
     return d === undefined ? { seq: 0, snaps: [] } : contextOf(table, d, known);
   }
 
-  function coveredBy(state, f) {
-    return pathContext(pathOf(state, fileOf(state, f).home), state.standing).snaps;
+  // the contexts that were computed of a table of realms, which is never changed in place
+  const contextsOf = new WeakMap();
+
+  function standingContext(state, f) {
+    if (!contextsOf.has(state.standing)) contextsOf.set(state.standing, new Map());
+    return pathContext(pathOf(state, fileOf(state, f).home), state.standing, contextsOf.get(state.standing));
   }
 
-  const coversFile = (state, f, s) => coveredBy(state, f).includes(s);
+  const coversFile = (state, f, s) => standingContext(state, f).snaps.includes(s);
 
   // ---- what is owed (Owed): each of its reasons has the shape "a number below the snapshot's", so a snapshot is owed exactly
   // where it is above the least of these numbers
@@ -864,7 +874,7 @@
     touch(f) { this.touched.add(f); }
     made(f) { this.touch(f); }
     sent(message, towards) {
-      const arrow = { message, towards, from: this.now, to: null };
+      const arrow = { message: { ...message, realms: undefined }, towards, from: this.now, to: null };
       this.byMessage.set(message.id, arrow);
       this.run.tracks.arrows.push(arrow);
       this.run.counts[towards === 'client' ? 'sentToClient' : 'sentToServer']++;

@@ -58,7 +58,6 @@
     page.picture = new Picture(page.run, page.cell);
     $('space').style.width = `${page.picture.width}px`;
     $('space').style.height = `${page.picture.height}px`;
-    if (document.body.classList.contains('picture')) $('stage').style.height = `${page.picture.height}px`;
     redraw();
   }
 
@@ -207,7 +206,7 @@
       `messages: ${counts.sentToClient} to the client, ${counts.sentToServer} to the server, ${underWay} still under way`,
       `references: ${counts.begun} begun, ${counts.ended} ended`,
       `${counts.durable} of ${counts.records} records durable`,
-      `${counts.showsAgreeing} of ${counts.shows} show lines as computed`,
+      counts.shows ? `${counts.showsAgreeing} of ${counts.shows} show lines as computed` : 'no show lines',
     ];
     $('counts').textContent = parts.join(' · ');
     if (!differences.length) return;
