@@ -171,7 +171,7 @@
     // over the bars, where the column's colour is hidden
     drawCursorLine() {
       if (!this.view.cursor) return;
-      this.context.globalAlpha = 0.35;
+      this.context.globalAlpha = 0.22;
       this.line(this.x(this.view.cursor), this.axisHeight, this.x(this.view.cursor), this.view.height, this.palette.ink, 1);
       this.context.globalAlpha = 1;
     }

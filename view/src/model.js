@@ -575,7 +575,7 @@
     if (reasons.length) return `By the rule it is pending: ${reasons.join('; ')}.`;
     const flush = lastFlush(s, e.file, e.at);
     const source = flush ? `the record of flush ${flush.tid}` : 'a new file, since no flush tells of it';
-    const writes = e.at === 'head' ? 'all writes' : `the writes on references begun before the client was told of ${e.at}`;
+    const writes = e.at === 'head' ? 'all writes' : `the writes on references begun before the client was told of snapshot ${e.at}`;
     return `By the rule nothing of it is owed. Size, time and mode are those of ${source}; the bytes are what ${writes} left.`;
   }
 
