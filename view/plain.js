@@ -3,16 +3,18 @@
 // state behind every entry.
 'use strict';
 
-// The spans of `pending` are found by brute force; for a long journal, whose spans are known otherwise, they can be given.
-function plainCount(text, knownSpans) {
+// The spans of `pending`, and behind how many entries each state is pending, are found by brute force; for a long journal, where
+// they are known otherwise, they can be given.
+function plainCount(text, known) {
   const lines = text.split('\n').filter((line) => / -> /.test(line)).map((line) => {
     const [event, answer] = line.replace(/^[0-9]+ /, '').split(' -> ');
     return { event: event.split(' '), answer: answer.split(' ') };
   });
-  const counts = { entries: lines.length, sentToClient: 0, sentToServer: 0, deliveredToClient: 0, deliveredToServer: 0, begun: 0, ended: 0, shows: 0, pendingSpans: 0, records: 0, durable: 0, operations: 0 };
+  const counts = { entries: lines.length, sentToClient: 0, sentToServer: 0, deliveredToClient: 0, deliveredToServer: 0, begun: 0, ended: 0, shows: 0, pendingSpans: 0, pendingEntries: 0, records: 0, durable: 0, operations: 0 };
   const parents = { 1: null };
   const files = {};
   const snapshots = {};
+  const removals = {};
   let live = [];
   const told = [];
   const pendingBefore = {};
@@ -85,11 +87,11 @@ function plainCount(text, knownSpans) {
     }
     if (line === 'tomds flushed' || line === 'snap snap' || line === 'rmsnap removed') counts.records++;
     if (line === 'snap snap') snapshots[answer[1]] = { directory: a, gone: false };
-    if (line === 'rmsnap removed') snapshots[a].gone = true;
+    if (line === 'rmsnap removed') { snapshots[a].gone = true; removals[answer[2]] = Number(a); }
     if (line === 'commit commit') { counts.sentToClient += Number(answer[1]); counts.durable += Number(answer[1]); }
     if (line === 'toclient snap') hear(Number(answer[1]), answer[2]);
     if (line === 'toclient flushack') files[answer[1]].flushes.find((x) => x.tid === Number(answer[2])).acked = true;
-    if (knownSpans === undefined) countSpans();
+    if (!known) countSpans();
   });
 
   function countSpans() {
@@ -97,13 +99,22 @@ function plainCount(text, knownSpans) {
       const states = Object.keys(snapshots).filter((s) => !snapshots[s].gone && pathOf(files[f].home).includes(snapshots[s].directory));
       for (const s of ['head', ...states.map(Number)]) {
         const pending = isPending(f, s);
+        if (pending) counts.pendingEntries++;
         if (pending && !pendingBefore[`${f}@${s}`]) counts.pendingSpans++;
         pendingBefore[`${f}@${s}`] = pending;
       }
     }
   }
-  if (knownSpans !== undefined) counts.pendingSpans = knownSpans;
-  return { counts, wrongShows };
+  Object.assign(counts, known);
+
+  // each file's context as the client knows it at the end: the greatest number that it was told, and the snapshots
+  function contextOf(f) {
+    const heard = told.filter(([, d]) => pathOf(files[f].home).includes(d)).map(([n]) => n);
+    const snaps = heard.filter((n) => snapshots[n] && !heard.some((m) => removals[m] === n)).reverse();
+    return `${seqOf(f)} {${snaps.join(', ')}}`;
+  }
+  const contexts = known ? {} : Object.fromEntries(Object.keys(files).map((f) => [f, contextOf(f)]));
+  return { counts, wrongShows, contexts };
 }
 
 module.exports = { plainCount };

@@ -986,7 +986,7 @@
     }
   }
 
-  const newCounts = () => ({ entries: 0, sentToClient: 0, sentToServer: 0, deliveredToClient: 0, deliveredToServer: 0, begun: 0, ended: 0, shows: 0, showsAgreeing: 0, pendingSpans: 0, records: 0, durable: 0, operations: 0, differences: 0 });
+  const newCounts = () => ({ entries: 0, sentToClient: 0, sentToServer: 0, deliveredToClient: 0, deliveredToServer: 0, begun: 0, ended: 0, shows: 0, showsAgreeing: 0, pendingSpans: 0, pendingEntries: 0, records: 0, durable: 0, operations: 0, differences: 0 });
   const CHECKPOINT = 500;
 
   // A run: the entries of a journal with all that was computed of them, once. `stateAt(n)` is the state after n entries.
@@ -1039,7 +1039,12 @@
       counts.differences = this.differences.length;
       const isPending = (span) => span.value === 'pending';
       for (const track of tracks.files.values()) {
-        for (const bar of [track.head, ...track.states]) counts.pendingSpans += bar.band.spans.filter(isPending).length;
+        for (const bar of [track.head, ...track.states]) {
+          for (const span of bar.band.spans.filter(isPending)) {
+            counts.pendingSpans++;
+            counts.pendingEntries += Math.min(span.to, counts.entries + 1) - span.from;
+          }
+        }
       }
     }
 
