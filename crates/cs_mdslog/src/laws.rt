@@ -1,7 +1,8 @@
 // What holds of the types, and of the bytes of records. The functions do nothing: they are there for their
 // contracts.
-ghost use Rattle.std.specs.Prelude.{◌≡◌, [], ◌∷◌, codes, true};
+ghost use Rattle.std.specs.Prelude.{◌≡◌, [], ◌∷◌, codes, true, Option, Some};
 ghost use denote.Param.Send.{IsSend};
+ghost use Rattle.cs_codec.specs.Codecs.{IsSpelled, IsUnspelled};
 ghost use Rattle.cs_laws.specs.declared.records.Record.{Record};
 ghost use Rattle.cs_laws.specs.declared.records.RecordBody.TheVariants as bodies;
 ghost use Rattle.cs_laws.specs.declared.requests.OpAnswer.TheVariants as replies;
@@ -13,6 +14,12 @@ ghost use Rattle.cs_mdslog.specs.contracts.faulty.FaultyLog as faulty_log_row;
 /// Records with equal bytes are equal.
 pub fn one_spelling()
     ensures { (r s : Record) → record_spelled r ≡ true → record_spelled s ≡ true → record_bytes r ≡ record_bytes s → r ≡ s }
+{}
+
+/// What `decode_record` gives of the bytes of a record is that record.
+pub fn each_record_is_read()
+    ensures { (r : Record) (read : Option Record) → record_spelled r ≡ true → IsSpelled record_bytes record_spelled (record_bytes r) read
+        → IsUnspelled record_bytes record_spelled (record_bytes r) read → read ≡ Some r }
 {}
 
 /// A record whose numbers and names are in their ranges fits.

@@ -14,6 +14,9 @@ pub use answers::LogFault;
 pub use decode::decode_record;
 pub use encode::encode_record;
 pub use faulty::FaultyLog;
-pub use laws::{one_spelling, records_by_example, spelled_records_fit, values_may_cross_threads};
+pub use laws::{
+    each_record_is_read, one_spelling, records_by_example, spelled_records_fit,
+    values_may_cross_threads,
+};
 pub use memory::MemLog;
 pub use traits::MdsLog;
