@@ -9,7 +9,7 @@ use Rattle.cs_tree.specs.declared.directories.Directory.{Directory}
 use Rattle.cs_tree.specs.Directories.{has_directory}
 use Rattle.cs_laws.specs.declared.records.Record.{Record}
 use Rattle.cs_laws.specs.Logged.{LogIs}
-use Rattle.cs_laws.specs.Spellings.{record_fits}
+use Rattle.cs_laws.specs.Spellings.{record_spelled}
 use Rattle.cs_records.specs.Log.{IsLog}
 
 abbrev pub Homes : Type 0
@@ -42,10 +42,10 @@ LogHolds rs n v = LogIs rs n v.durable v.fresh
 
 -- What always holds
 
--- each record may follow those before it, and has a spelling
+-- each record may follow those before it, and has a spelling of its own
 pub record AreRecords (rs : List Record) : Type 0 where
   pub log : IsLog rs
-  pub fits : All (λ r. record_fits r ≡ true) rs
+  pub spelled : All (λ r. record_spelled r ≡ true) rs
 
 -- each file lies in a directory that is known
 abbrev pub AreIn : List Directory → Homes → Type 0

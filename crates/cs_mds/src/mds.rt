@@ -1,5 +1,5 @@
 // The server and its calls.
-ghost use Rattle.std.specs.Prelude.{◌≡◌, ℕ, ◌<◌, ◌++◌, ◌∷◌, [], true, false, None, length, IfOk, OnOk, OnErr, IsErrOf};
+ghost use Rattle.std.specs.Prelude.{◌≡◌, ℕ, ◌<◌, ◌++◌, ◌∷◌, [], true, false, None, length, nat_lt, IfOk, OnOk, OnErr, IsErrOf};
 ghost use Rattle.std.specs.BTreeMap.{get};
 ghost use Rattle.std.specs.Ordering.{nat_cmp};
 ghost use Rattle.cs_laws.specs.declared.events.Event.TheVariants as events;
@@ -140,6 +140,14 @@ impl Mds {
         revoke_in(&self.homes, &mut self.caps, file, bits, out)
     }
 
+    /// Whether one more snapshot or removal can draw its number, which is at most 99,998. It takes no
+    /// memory.
+    pub fn has_room(&self) -> bool
+        ensures { result ≡ nat_lt (greatest_number (stand self.now)) 99998 }
+    {
+        self.records.has_room()
+    }
+
     /// Takes a snapshot of a directory under a name, and appends its record. The numbers that
     /// snapshots and removals drew are below 99,998.
     pub fn snap<L: MdsLog>(
@@ -213,7 +221,9 @@ impl Mds {
             } => {
                 let (file, tid, follows, meta) = (*file, *tid, *follows, *meta);
                 let records = &mut self.records;
-                Ok(flush_in(self.alloc, records, false, file, tid, follows, meta, log, out)?)
+                Ok(flush_in(
+                    self.alloc, records, false, file, tid, follows, meta, log, out,
+                )?)
             }
             Message::FlushSnap {
                 file,
@@ -223,7 +233,9 @@ impl Mds {
             } => {
                 let (file, tid, follows, meta) = (*file, *tid, *follows, *meta);
                 let records = &mut self.records;
-                Ok(flush_in(self.alloc, records, true, file, tid, follows, meta, log, out)?)
+                Ok(flush_in(
+                    self.alloc, records, true, file, tid, follows, meta, log, out,
+                )?)
             }
             Message::Cap { .. }
             | Message::Safe { .. }

@@ -24,13 +24,7 @@ pub enum Shown {
 }
 
 // What is shown of a file in a directory.
-pub fn shown_at(
-    records: &Records,
-    tree: &Directories,
-    file: Ino,
-    home: Ino,
-    at: At,
-) -> Shown
+pub fn shown_at(records: &Records, tree: &Directories, file: Ino, home: Ino, at: At) -> Shown
     requires { has_directory home tree.now ≡ true }
     ensures { result ≡ shown_at file (all records.now) (path_of tree.now home) at }
 {

@@ -21,6 +21,8 @@ mod laws;
 #[cfg(test)]
 mod log;
 #[cfg(test)]
+mod mds;
+#[cfg(test)]
 mod pages;
 #[cfg(test)]
 mod realms;
