@@ -1,5 +1,5 @@
 -- What a call leaves of the server, and of the log that it is lent.
-use Rattle.std.specs.Prelude.{◌≡◌, ℕ, ◌==◌, List, Option, Some, if◌then◌else◌}
+use Rattle.std.specs.Prelude.{◌≡◌, ℕ, ◌==◌, Bool, List, [], ◌∷◌, Option, Some, if◌then◌else◌}
 use Rattle.std.specs.BTreeMap.{get}
 use Rattle.std.specs.Ordering.{nat_cmp}
 use Rattle.cs_tree.specs.declared.directories.Directory.{Directory}
@@ -10,9 +10,11 @@ use Rattle.cs_laws.specs.declared.events.Event.{Event}
 use Rattle.cs_laws.specs.declared.events.Event.TheVariants as events
 use Rattle.cs_laws.specs.declared.messages.Message.{Message}
 use Rattle.cs_laws.specs.Capabilities.{server_then}
-use Rattle.cs_laws.specs.Logged.{LogHalts}
+use Rattle.cs_laws.specs.Logged.{LogHalts, LogIs}
 use Rattle.cs_laws.specs.Standing.{durable_then, fresh_then}
 use Rattle.cs_laws.specs.Tree.{directories_then, path_then, setup_dir_then}
+use Rattle.cs_records.specs.Records.{RecordLog}
+use Rattle.cs_mds.specs.Answers.{calls_log, message_answer, served_answer}
 use Rattle.cs_mds.specs.Views.{Caps, Homes, ServerView, caps_of}
 
 -- which directories there are, their paths, and their order
@@ -47,6 +49,34 @@ pub record Served (q : List Message) (old new : ServerView) (e : Event) (a : Ans
   pub durable : new.durable ≡ durable_then e a old.fresh old.durable
   pub fresh : new.fresh ≡ fresh_then e a q old.fresh
 
+-- The log: rs, n: its records, and how many of them are durable; s, v: the server's before the event
+
+-- the log has the server's records
+abbrev pub LogHas : List (List ℕ) → ℕ → RecordLog → Type 0
+LogHas rs n s = LogIs rs n s.durable s.fresh
+
 -- after a fault the log is as before, or as the event with its answer leaves it
-abbrev pub Halts : List (List ℕ) → ℕ → List Message → ServerView → Event → Answer → Type 0
-Halts rs n q v e a = LogHalts rs n v.durable v.fresh (durable_then e a v.fresh v.durable) (fresh_then e a q v.fresh)
+abbrev pub HaltsIn : List (List ℕ) → ℕ → RecordLog → List Message → Event → Answer → Type 0
+HaltsIn rs n s q e a = LogHalts rs n s.durable s.fresh (durable_then e a s.fresh s.durable) (fresh_then e a q s.fresh)
+
+abbrev pub records_of : ServerView → RecordLog
+records_of v = record { durable = v.durable; fresh = v.fresh }
+
+abbrev pub LogHolds : List (List ℕ) → ℕ → ServerView → Type 0
+LogHolds rs n v = LogHas rs n (records_of v)
+
+-- an event of the server
+
+abbrev pub is_logged : ServerView → Event → Bool
+is_logged v e = calls_log e (served_answer v e)
+
+abbrev pub Halts : List (List ℕ) → ℕ → ServerView → Event → Type 0
+Halts rs n v e = HaltsIn rs n (records_of v) [] e (served_answer v e)
+
+-- a message that is delivered to it
+
+abbrev pub is_message_logged : ServerView → Message → Bool
+is_message_logged v m = calls_log events.ToMds (message_answer v m)
+
+abbrev pub MessageHalts : List (List ℕ) → ℕ → ServerView → Message → Type 0
+MessageHalts rs n v m = HaltsIn rs n (records_of v) (m ∷ []) events.ToMds (message_answer v m)

@@ -1,5 +1,5 @@
 -- What contracts see of the server.
-use Rattle.std.specs.Prelude.{◌≡◌, ℕ, ◌++◌, Bool, true, List, Some, unwrap_or}
+use Rattle.std.specs.Prelude.{◌≡◌, ℕ, ◌++◌, true, List, Some, unwrap_or}
 use Rattle.std.specs.BTreeMap.{BTreeMap, get}
 use Rattle.std.specs.List.{All}
 use Rattle.std.specs.Ordering.{nat_cmp}
@@ -8,7 +8,6 @@ use Rattle.cs_parts.specs.Capabilities.{no_server_caps}
 use Rattle.cs_tree.specs.declared.directories.Directory.{Directory}
 use Rattle.cs_tree.specs.Directories.{has_directory}
 use Rattle.cs_laws.specs.declared.records.Record.{Record}
-use Rattle.cs_laws.specs.Logged.{LogIs}
 use Rattle.cs_laws.specs.Spellings.{record_spelled}
 use Rattle.cs_records.specs.Log.{IsLog}
 
@@ -35,10 +34,6 @@ stand v = v.durable ++ v.fresh
 -- the server's end of a file's capabilities
 abbrev pub caps_of : ℕ → Caps → ServerCaps
 caps_of f caps = unwrap_or (get nat_cmp caps f) no_server_caps
-
--- rs, n: the log's records, and how many of them are durable
-abbrev pub LogHolds : List (List ℕ) → ℕ → ServerView → Type 0
-LogHolds rs n v = LogIs rs n v.durable v.fresh
 
 -- What always holds
 

@@ -6,11 +6,11 @@ ghost use Rattle.cs_laws.specs.Answers.{answer_flushed};
 ghost use Rattle.cs_laws.specs.Devices.{FaultsOf};
 ghost use Rattle.cs_laws.specs.Flight.{acked_again};
 ghost use Rattle.cs_laws.specs.Flushes.{flush_message};
-ghost use Rattle.cs_laws.specs.Logged.{LogHalts, LogIs};
 ghost use Rattle.cs_laws.specs.Spellings.{meta_fits};
 ghost use Rattle.cs_laws.specs.Standing.{fresh_then};
 ghost use Rattle.cs_records.specs.Records.{all};
 ghost use Rattle.cs_mds.specs.Answers.{calls_log, flush_sent};
+ghost use Rattle.cs_mds.specs.Served.{HaltsIn, LogHas};
 ghost use Rattle.cs_mds.specs.Views.{AreRecords};
 
 use crate::logged::log_record;
@@ -34,15 +34,15 @@ pub fn flush_in<L: MdsLog>(
     out: &mut MessageList,
 ) -> Result<Answer, StepFault>
     requires fits { meta_fits meta ≡ true }
-    requires log { LogIs (L.records log.old) (L.durable log.old) records.old.durable records.old.fresh }
+    requires log { LogHas (L.records log.old) (L.durable log.old) records.old }
     ensures answer { IfOk result (λ a. a ≡ answer_flushed (all records.old) file tid) }
     ensures durable { records.new.durable ≡ records.old.durable }
     ensures fresh { IfOk result (λ a. records.new.fresh ≡ fresh_then events.ToMds a (flush_message (record { tid = tid; file = file; follows = follows; meta = meta; snap = snap }) ∷ []) records.old.fresh) }
     ensures sent { IfOk result (λ a. out.new ≡ out.old ++ flush_sent a records.old.durable) }
     ensures err { OnErr result (records.new.fresh ≡ records.old.fresh) }
     ensures kept { AreRecords (all records.old) → AreRecords (all records.new) }
-    ensures log { OnOk result (LogIs (L.records log.new) (L.durable log.new) records.new.durable records.new.fresh) }
-    ensures halted { OnErr result (LogHalts (L.records log.new) (L.durable log.new) records.old.durable records.old.fresh records.old.durable (fresh_then events.ToMds (answer_flushed (all records.old) file tid) (flush_message (record { tid = tid; file = file; follows = follows; meta = meta; snap = snap }) ∷ []) records.old.fresh)) }
+    ensures log { OnOk result (LogHas (L.records log.new) (L.durable log.new) records.new) }
+    ensures halted { OnErr result (HaltsIn (L.records log.new) (L.durable log.new) records.old (flush_message (record { tid = tid; file = file; follows = follows; meta = meta; snap = snap }) ∷ []) events.ToMds (answer_flushed (all records.old) file tid)) }
     ensures faults { FaultsOf StepFault.Log (calls_log events.ToMds (answer_flushed (all records.old) file tid)) (L.faults log.old) (L.faults log.new) result }
     ensures quiet { calls_log events.ToMds (answer_flushed (all records.old) file tid) ≡ false → log.new ≡ log.old }
     ensures unstored { IsErrOf result StepFault.Store → ⊥ }

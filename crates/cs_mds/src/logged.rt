@@ -1,10 +1,11 @@
 // Calls of the log.
 ghost use Rattle.std.specs.Prelude.{◌≡◌, ◌++◌, ◌∷◌, [], true, length, OnOk, OnErr, IsErrOf};
 ghost use Rattle.cs_laws.specs.Devices.{FaultsOf};
-ghost use Rattle.cs_laws.specs.Logged.{LogHalts, LogIs};
+ghost use Rattle.cs_laws.specs.Logged.{LogHalts};
 ghost use Rattle.cs_laws.specs.Spellings.{record_fits};
 ghost use Rattle.cs_records.specs.Log.{IsNext};
 ghost use Rattle.cs_records.specs.Records.{all};
+ghost use Rattle.cs_mds.specs.Served.{LogHas};
 ghost use Rattle.cs_mds.specs.Views.{AreRecords};
 
 use cs_ids::{Bytes, Failed};
@@ -22,12 +23,12 @@ pub fn log_record<L: MdsLog>(
 ) -> Result<(), StepFault>
     requires next { IsNext (all records.old) «record».body }
     requires fits { record_fits «record» ≡ true }
-    requires log { LogIs (L.records log.old) (L.durable log.old) records.old.durable records.old.fresh }
+    requires log { LogHas (L.records log.old) (L.durable log.old) records.old }
     ensures durable { records.new.durable ≡ records.old.durable }
     ensures fresh { OnOk result (records.new.fresh ≡ records.old.fresh ++ «record» ∷ []) }
     ensures err { OnErr result (records.new.fresh ≡ records.old.fresh) }
     ensures kept { AreRecords (all records.old) → AreRecords (all records.new) }
-    ensures log { OnOk result (LogIs (L.records log.new) (L.durable log.new) records.new.durable records.new.fresh) }
+    ensures log { OnOk result (LogHas (L.records log.new) (L.durable log.new) records.new) }
     ensures halted { OnErr result (LogHalts (L.records log.new) (L.durable log.new) records.old.durable records.old.fresh records.old.durable (records.old.fresh ++ «record» ∷ [])) }
     ensures faults { FaultsOf StepFault.Log true (L.faults log.old) (L.faults log.new) result }
     ensures unstored { IsErrOf result StepFault.Store → ⊥ }

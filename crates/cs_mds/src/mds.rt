@@ -10,9 +10,9 @@ ghost use Rattle.cs_laws.specs.Events.{is_setup};
 ghost use Rattle.cs_laws.specs.Fits.{fits};
 ghost use Rattle.cs_laws.specs.Spellings.{message_fits};
 ghost use Rattle.cs_laws.specs.Standing.{greatest_number};
-ghost use Rattle.cs_mds.specs.Answers.{calls_log, committed_sent, message_answer, served_answer, served_sent, shown_of};
-ghost use Rattle.cs_mds.specs.Served.{Halts, Served};
-ghost use Rattle.cs_mds.specs.Views.{LogHolds, caps_of, stand};
+ghost use Rattle.cs_mds.specs.Answers.{committed_sent, message_answer, served_answer, served_sent, shown_of};
+ghost use Rattle.cs_mds.specs.Served.{Halts, LogHolds, MessageHalts, Served, is_logged, is_message_logged};
+ghost use Rattle.cs_mds.specs.Views.{caps_of, stand};
 
 use crate::Shown;
 use crate::caps::{acknowledge_in, grant_in, revoke_in};
@@ -162,9 +162,9 @@ impl Mds {
         ensures after { IfOk result (λ a. Served [] self.old self.new (events.Snap dir name.now) a) }
         ensures same { OnErr result (self.new ≡ self.old) }
         ensures log { OnOk result (LogHolds (L.records log.new) (L.durable log.new) self.new) }
-        ensures halted { OnErr result (Halts (L.records log.new) (L.durable log.new) [] self.old (events.Snap dir name.now) (served_answer self.old (events.Snap dir name.now))) }
-        ensures faults { FaultsOf StepFault.Log (calls_log (events.Snap dir name.now) (served_answer self.old (events.Snap dir name.now))) (L.faults log.old) (L.faults log.new) result }
-        ensures kept { calls_log (events.Snap dir name.now) (served_answer self.old (events.Snap dir name.now)) ≡ false → log.new ≡ log.old }
+        ensures halted { OnErr result (Halts (L.records log.new) (L.durable log.new) self.old (events.Snap dir name.now)) }
+        ensures faults { FaultsOf StepFault.Log (is_logged self.old (events.Snap dir name.now)) (L.faults log.old) (L.faults log.new) result }
+        ensures kept { is_logged self.old (events.Snap dir name.now) ≡ false → log.new ≡ log.old }
         ensures unstored { IsErrOf result StepFault.Store → ⊥ }
     {
         snap_in(self.alloc, &self.tree, &mut self.records, dir, name, log)
@@ -180,9 +180,9 @@ impl Mds {
         ensures after { IfOk result (λ a. Served [] self.old self.new (events.RmSnap snap) a) }
         ensures same { OnErr result (self.new ≡ self.old) }
         ensures log { OnOk result (LogHolds (L.records log.new) (L.durable log.new) self.new) }
-        ensures halted { OnErr result (Halts (L.records log.new) (L.durable log.new) [] self.old (events.RmSnap snap) (served_answer self.old (events.RmSnap snap))) }
-        ensures faults { FaultsOf StepFault.Log (calls_log (events.RmSnap snap) (served_answer self.old (events.RmSnap snap))) (L.faults log.old) (L.faults log.new) result }
-        ensures kept { calls_log (events.RmSnap snap) (served_answer self.old (events.RmSnap snap)) ≡ false → log.new ≡ log.old }
+        ensures halted { OnErr result (Halts (L.records log.new) (L.durable log.new) self.old (events.RmSnap snap)) }
+        ensures faults { FaultsOf StepFault.Log (is_logged self.old (events.RmSnap snap)) (L.faults log.old) (L.faults log.new) result }
+        ensures kept { is_logged self.old (events.RmSnap snap) ≡ false → log.new ≡ log.old }
         ensures unstored { IsErrOf result StepFault.Store → ⊥ }
     {
         remove_in(self.alloc, &mut self.records, snap, log)
@@ -204,9 +204,9 @@ impl Mds {
         ensures sent { IfOk result (λ a. out.new ≡ out.old ++ served_sent events.ToMds a self.old.caps self.old.durable) }
         ensures same { IsErrOf result StepFault.Log → self.new ≡ self.old }
         ensures log { OnOk result (LogHolds (L.records log.new) (L.durable log.new) self.new) }
-        ensures halted { OnErr result (Halts (L.records log.new) (L.durable log.new) (message.now ∷ []) self.old events.ToMds (message_answer self.old message.now)) }
-        ensures faults { FaultsOf StepFault.Log (calls_log events.ToMds (message_answer self.old message.now)) (L.faults log.old) (L.faults log.new) result }
-        ensures kept { calls_log events.ToMds (message_answer self.old message.now) ≡ false → log.new ≡ log.old }
+        ensures halted { OnErr result (MessageHalts (L.records log.new) (L.durable log.new) self.old message.now) }
+        ensures faults { FaultsOf StepFault.Log (is_message_logged self.old message.now) (L.faults log.old) (L.faults log.new) result }
+        ensures kept { is_message_logged self.old message.now ≡ false → log.new ≡ log.old }
         ensures unstored { IsErrOf result StepFault.Store → ⊥ }
     {
         match message {
@@ -259,9 +259,9 @@ impl Mds {
         ensures sent { OnOk result (out.new ≡ out.old ++ committed_sent sending self.old) }
         ensures same { IsErrOf result StepFault.Log → self.new ≡ self.old }
         ensures log { OnOk result (LogHolds (L.records log.new) (L.durable log.new) self.new) }
-        ensures halted { OnErr result (Halts (L.records log.new) (L.durable log.new) [] self.old events.Commit (served_answer self.old events.Commit)) }
-        ensures faults { FaultsOf StepFault.Log (calls_log events.Commit (served_answer self.old events.Commit)) (L.faults log.old) (L.faults log.new) result }
-        ensures kept { calls_log events.Commit (served_answer self.old events.Commit) ≡ false → log.new ≡ log.old }
+        ensures halted { OnErr result (Halts (L.records log.new) (L.durable log.new) self.old events.Commit) }
+        ensures faults { FaultsOf StepFault.Log (is_logged self.old events.Commit) (L.faults log.old) (L.faults log.new) result }
+        ensures kept { is_logged self.old events.Commit ≡ false → log.new ≡ log.old }
         ensures unstored { IsErrOf result StepFault.Store → ⊥ }
     {
         commit_in(&self.tree, &mut self.records, sending, log, out)

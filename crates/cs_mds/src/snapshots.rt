@@ -3,10 +3,10 @@ ghost use Rattle.std.specs.Prelude.{◌≡◌, ◌<◌, [], true, false, IfOk, O
 ghost use Rattle.cs_laws.specs.declared.events.Event.TheVariants as events;
 ghost use Rattle.cs_laws.specs.Devices.{FaultsOf};
 ghost use Rattle.cs_laws.specs.Fits.{fits};
-ghost use Rattle.cs_laws.specs.Logged.{LogHalts, LogIs};
 ghost use Rattle.cs_laws.specs.Standing.{fresh_then, greatest_number};
 ghost use Rattle.cs_records.specs.Records.{all};
 ghost use Rattle.cs_mds.specs.Answers.{calls_log, remove_answer, snap_answer};
+ghost use Rattle.cs_mds.specs.Served.{HaltsIn, LogHas};
 ghost use Rattle.cs_mds.specs.Views.{AreRecords};
 
 use crate::logged::log_record;
@@ -27,14 +27,14 @@ pub fn snap_in<L: MdsLog>(
     log: &mut L,
 ) -> Result<Answer, StepFault>
     requires numbers { greatest_number (all records.old) < 99998 }
-    requires log { LogIs (L.records log.old) (L.durable log.old) records.old.durable records.old.fresh }
+    requires log { LogHas (L.records log.old) (L.durable log.old) records.old }
     ensures answer { IfOk result (λ a. a ≡ snap_answer tree.now (all records.old) dir name.now) }
     ensures durable { records.new.durable ≡ records.old.durable }
     ensures fresh { IfOk result (λ a. records.new.fresh ≡ fresh_then (events.Snap dir name.now) a [] records.old.fresh) }
     ensures err { OnErr result (records.new.fresh ≡ records.old.fresh) }
     ensures kept { AreRecords (all records.old) → AreRecords (all records.new) }
-    ensures log { OnOk result (LogIs (L.records log.new) (L.durable log.new) records.new.durable records.new.fresh) }
-    ensures halted { OnErr result (LogHalts (L.records log.new) (L.durable log.new) records.old.durable records.old.fresh records.old.durable (fresh_then (events.Snap dir name.now) (snap_answer tree.now (all records.old) dir name.now) [] records.old.fresh)) }
+    ensures log { OnOk result (LogHas (L.records log.new) (L.durable log.new) records.new) }
+    ensures halted { OnErr result (HaltsIn (L.records log.new) (L.durable log.new) records.old [] (events.Snap dir name.now) (snap_answer tree.now (all records.old) dir name.now)) }
     ensures faults { FaultsOf StepFault.Log (calls_log (events.Snap dir name.now) (snap_answer tree.now (all records.old) dir name.now)) (L.faults log.old) (L.faults log.new) result }
     ensures quiet { calls_log (events.Snap dir name.now) (snap_answer tree.now (all records.old) dir name.now) ≡ false → log.new ≡ log.old }
     ensures unstored { IsErrOf result StepFault.Store → ⊥ }
@@ -61,14 +61,14 @@ pub fn remove_in<L: MdsLog>(
 ) -> Result<Answer, StepFault>
     requires fits { fits (events.RmSnap snap) ≡ true }
     requires numbers { greatest_number (all records.old) < 99998 }
-    requires log { LogIs (L.records log.old) (L.durable log.old) records.old.durable records.old.fresh }
+    requires log { LogHas (L.records log.old) (L.durable log.old) records.old }
     ensures answer { IfOk result (λ a. a ≡ remove_answer (all records.old) snap) }
     ensures durable { records.new.durable ≡ records.old.durable }
     ensures fresh { IfOk result (λ a. records.new.fresh ≡ fresh_then (events.RmSnap snap) a [] records.old.fresh) }
     ensures err { OnErr result (records.new.fresh ≡ records.old.fresh) }
     ensures kept { AreRecords (all records.old) → AreRecords (all records.new) }
-    ensures log { OnOk result (LogIs (L.records log.new) (L.durable log.new) records.new.durable records.new.fresh) }
-    ensures halted { OnErr result (LogHalts (L.records log.new) (L.durable log.new) records.old.durable records.old.fresh records.old.durable (fresh_then (events.RmSnap snap) (remove_answer (all records.old) snap) [] records.old.fresh)) }
+    ensures log { OnOk result (LogHas (L.records log.new) (L.durable log.new) records.new) }
+    ensures halted { OnErr result (HaltsIn (L.records log.new) (L.durable log.new) records.old [] (events.RmSnap snap) (remove_answer (all records.old) snap)) }
     ensures faults { FaultsOf StepFault.Log (calls_log (events.RmSnap snap) (remove_answer (all records.old) snap)) (L.faults log.old) (L.faults log.new) result }
     ensures quiet { calls_log (events.RmSnap snap) (remove_answer (all records.old) snap) ≡ false → log.new ≡ log.old }
     ensures unstored { IsErrOf result StepFault.Store → ⊥ }
