@@ -41,9 +41,15 @@ fn directories_and_files_are_made_once(rt: HostRuntime) -> Result<(), Fail> {
     assert!(rt; matches!(made, Answer::Made));
     let made = mds.setup(&Event::File { file, parent: dir })?;
     assert!(rt; matches!(made, Answer::Made));
-    let again = mds.setup(&Event::Dir { dir: file, parent: root })?;
+    let again = mds.setup(&Event::Dir {
+        dir: file,
+        parent: root,
+    })?;
     assert!(rt; matches!(again, Answer::Exists));
-    let nowhere = mds.setup(&Event::File { file: ino(101)?, parent: ino(3)? })?;
+    let nowhere = mds.setup(&Event::File {
+        file: ino(101)?,
+        parent: ino(3)?,
+    })?;
     assert!(rt; matches!(nowhere, Answer::NoDir));
     assert!(rt; matches!(mds.shown(file, At::Head), Shown::Meta(_)));
     assert!(rt; matches!(mds.shown(dir, At::Head), Shown::Unknown));
@@ -59,7 +65,10 @@ fn grants_and_revocations_are_sent(rt: HostRuntime) -> Result<(), Fail> {
     let bits = Caps::none();
     let unknown = mds.grant(file, bits, 7, &mut out)?;
     assert!(rt; matches!(unknown, Answer::Unknown));
-    mds.setup(&Event::File { file, parent: ino(1)? })?;
+    mds.setup(&Event::File {
+        file,
+        parent: ino(1)?,
+    })?;
     let granted = mds.grant(file, bits, 7, &mut out)?;
     assert!(rt; matches!(granted, Answer::SentCap { .. }));
     let revoked = mds.revoke(file, bits, &mut out)?;
