@@ -83,7 +83,8 @@ impl Mds {
     }
 
     /// Takes a `dir` or a `file` line: the directory or file stands in its parent before all records. A
-    /// script gives it inode 2 to 9,999.
+    /// script gives it inode 2 to 9,999. It answers `Exists` where the inode is in use, `NoDir` where
+    /// the parent is no directory, and else `Made`.
     pub fn setup(&mut self, event: &Event) -> Result<Answer, Memory>
         requires setup { is_setup event.now ≡ true }
         requires fits { fits event.now ≡ true }
@@ -113,7 +114,9 @@ impl Mds {
     }
 
     /// Grants the client bits of a file, with a greatest end of a write in bytes, and sends it what it
-    /// may have from now on. The last message of the file has a number below 99,998.
+    /// may have from now on. The last message of the file has a number below 99,998. It answers
+    /// `SentCap`, or `Unknown` where it doesn't know the file. After `Memory` the bits may be granted
+    /// and not sent.
     pub fn grant(
         &mut self,
         file: Ino,
@@ -130,7 +133,8 @@ impl Mds {
     }
 
     /// Takes bits of a file back from the client, and sends it what it may have from now on. The last
-    /// message of the file has a number below 99,998.
+    /// message of the file has a number below 99,998. It answers `SentCap`, or `Unknown` where it
+    /// doesn't know the file. After `Memory` the bits may be taken back and nothing sent.
     pub fn revoke(&mut self, file: Ino, bits: Caps, out: &mut MessageList) -> Result<Answer, Memory>
         requires { (caps_of file self.old.caps).seq < 99998 }
         ensures answer { IfOk result (λ a. a ≡ served_answer self.old (events.Revoke file bits)) }
@@ -149,7 +153,9 @@ impl Mds {
     }
 
     /// Takes a snapshot of a directory under a name, and appends its record. The numbers that
-    /// snapshots and removals drew are below 99,998.
+    /// snapshots and removals drew are below 99,998. It answers `Snap` with the next number, `Unknown`
+    /// where there is no such directory, and `Exists` where one of its snapshots that isn't removed has
+    /// the name. After a fault the server is as at entry.
     pub fn snap<L: MdsLog>(
         &mut self,
         dir: Ino,
@@ -171,7 +177,9 @@ impl Mds {
     }
 
     /// Removes a snapshot, which counts from 1, and appends the record of that. The numbers that
-    /// snapshots and removals drew are below 99,998.
+    /// snapshots and removals drew are below 99,998. It answers `Removed` with the next number,
+    /// `NoSnap` where no such snapshot was taken, and `Gone` where it is removed. After a fault the
+    /// server is as at entry.
     pub fn remove_snap<L: MdsLog>(&mut self, snap: Snap, log: &mut L) -> Result<Answer, StepFault>
         requires fits { fits (events.RmSnap snap) ≡ true }
         requires numbers { greatest_number (stand self.old) < 99998 }
@@ -188,8 +196,10 @@ impl Mds {
         remove_in(self.alloc, &mut self.records, snap, log)
     }
 
-    /// Takes a message of the client. A flush whose number is above those of its file's that stand is
-    /// recorded; one that came again is acknowledged at once where its record is durable.
+    /// Takes a message of the client. It answers `CapAck` to an acknowledgement, with what it takes for
+    /// held from now on. A flush whose number is above those of its file's that stand is recorded and
+    /// answered `Flushed`; another one came again: it is answered `FlushDup`, and acknowledged at once
+    /// where its record is durable.
     pub fn step_message<L: MdsLog>(
         &mut self,
         message: &Message,
