@@ -19,6 +19,10 @@ mod io;
 #[cfg(test)]
 mod laws;
 #[cfg(test)]
+mod log;
+#[cfg(test)]
+mod mds;
+#[cfg(test)]
 mod pages;
 #[cfg(test)]
 mod realms;
