@@ -1,5 +1,6 @@
 //! Fields in bytes: numbers, flags, names and counted lists, written one behind the other and read back
-//! from the left.
+//! from the left. Numbers have their lowest byte first, as in Ceph's own encoding (`encoding.h`); which
+//! widths and counts there are is this project's choice.
 #![tactic(auto)]
 
 mod field;

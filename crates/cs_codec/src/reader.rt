@@ -9,8 +9,9 @@ use cs_ids::{Ino, Items, Memory, Name, Seq, Snap, Tid, is_name};
 use std::alloc::Global;
 use std::marker::Model;
 
-/// Bytes that are read from the left, field by field. Contracts see the bytes that are left. A call
-/// that answers None or `Memory` leaves them as they were.
+/// Bytes that are read from the left, field by field. Contracts see the bytes that are left. A number
+/// has its lowest byte first, and is read only where it is in the range of its kind. A call that answers
+/// None or `Memory`, which is want of memory for what it would hand out, leaves the bytes as they were.
 #[derive(Drop)]
 pub struct Reader<'a> {
     left: &'a [u8],
@@ -61,7 +62,7 @@ impl<'a> Reader<'a> {
         Some(value)
     }
 
-    /// The inode in the next eight bytes, or None exactly where none is spelled there.
+    /// The inode in the next eight bytes, 1 to 99,999, or None exactly where none is spelled there.
     pub fn ino(&mut self) -> Option<Ino>
         ensures read { Reads result self.new (number_at 8 1 99999 self.old) }
         ensures none { IfNone result (self.new ≡ self.old) }
@@ -80,8 +81,8 @@ impl<'a> Reader<'a> {
         Some(Ino::new(value))
     }
 
-    /// The number of an operation, a flush or a request in the next eight bytes, or None exactly where
-    /// none is spelled there.
+    /// The number of an operation, a flush or a request in the next eight bytes, 1 to 99,999, or None
+    /// exactly where none is spelled there.
     pub fn tid(&mut self) -> Option<Tid>
         ensures read { Reads result self.new (number_at 8 1 99999 self.old) }
         ensures none { IfNone result (self.new ≡ self.old) }
@@ -90,8 +91,8 @@ impl<'a> Reader<'a> {
         Tid::new(value)
     }
 
-    /// The number of a snapshot or of a removal in the next eight bytes, or None exactly where none is
-    /// spelled there.
+    /// The number of a snapshot or of a removal in the next eight bytes, 0 to 99,999, or None exactly
+    /// where none is spelled there.
     pub fn snap(&mut self) -> Option<Snap>
         ensures read { Reads result self.new (number_at 8 0 99999 self.old) }
         ensures none { IfNone result (self.new ≡ self.old) }
@@ -100,8 +101,8 @@ impl<'a> Reader<'a> {
         Snap::new(value)
     }
 
-    /// The number of a snapshot context in the next eight bytes, or None exactly where none is spelled
-    /// there.
+    /// The number of a snapshot context in the next eight bytes, 0 to 99,999, or None exactly where none
+    /// is spelled there.
     pub fn seq(&mut self) -> Option<Seq>
         ensures read { Reads result self.new (number_at 8 0 99999 self.old) }
         ensures none { IfNone result (self.new ≡ self.old) }
@@ -119,8 +120,8 @@ impl<'a> Reader<'a> {
         Some(value == 1)
     }
 
-    /// The name whose length is in the next byte, with its bytes behind that, or None exactly where
-    /// none is spelled there.
+    /// The name whose length, 1 to 32, is in the next byte, with its bytes behind that, or None exactly
+    /// where none is spelled there.
     #[tactic(auto, unfolding(crate::specs::Fields::name_at))]
     pub fn name(&mut self, alloc: Global) -> Result<Option<Name>, Memory>
         ensures read { GivesField result self.new (name_at self.old) }
@@ -138,8 +139,8 @@ impl<'a> Reader<'a> {
         Ok(Some(name))
     }
 
-    /// The list whose count is in the next two bytes, with its items behind that, or None exactly
-    /// where none is spelled there.
+    /// The list whose count, 0 to 65,535, is in the next two bytes, with its items behind that, or None
+    /// exactly where none is spelled there.
     #[tactic(auto, unfolding(crate::specs::Fields::list_at))]
     pub fn list<T: Field>(&mut self, alloc: Global) -> Result<Option<Items<T>>, Memory>
         ensures read { GivesField result self.new (list_at T.read self.old) }

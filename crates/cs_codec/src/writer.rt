@@ -79,7 +79,7 @@ pub fn put_flag(out: &mut Bytes, flag: bool) -> Result<(), Memory>
     put_number(out, 1, if flag { 1 } else { 0 })
 }
 
-/// Adds the name behind a byte of its length. After `Memory` the bytes are as before.
+/// Adds the name, 1 to 32 bytes, behind a byte of its length. After `Memory` the bytes are as before.
 pub fn put_name(out: &mut Bytes, name: &Name) -> Result<(), Memory>
     ensures ok { OnOk result (out.new ≡ out.old ++ name_bytes name.now) }
     ensures err { OnErr result (out.new ≡ out.old) }
@@ -92,7 +92,8 @@ pub fn put_name(out: &mut Bytes, name: &Name) -> Result<(), Memory>
     out.append(&field[..=bytes.len()])
 }
 
-/// Adds the items behind two bytes of their count. After `Memory` nothing is said of the bytes.
+/// Adds the items, 65,535 at most, behind two bytes of their count. After `Memory` nothing is said of the
+/// bytes.
 pub fn put_list<T: Field>(out: &mut Bytes, items: &[T]) -> Result<(), Memory>
     requires { length items.now ≤ 65535 }
     ensures { OnOk result (out.new ≡ out.old ++ list_bytes T.bytes items.now) }

@@ -5,8 +5,9 @@ ghost use Rattle.cs_ids.specs.Devices.{HasCause, Rose};
 use crate::LogFault;
 use cs_ids::Failed;
 
-/// A log of records. Those from the first one up to some are durable. A call answers `Failed` only where
-/// the count of faults rose in that call. After `Failed` and after `Memory` the records, and how many of
+/// A log of records, after the CephFS documentation of the metadata server's journal. Those from the
+/// first one up to some are durable. A call answers `Failed` only where the count of faults rose in that
+/// call, and `Memory` for want of memory. After `Failed` and after `Memory` the records, and how many of
 /// them are durable, are as before.
 pub trait MdsLog: Drop + Send {
     // The bytes of each record, the oldest first.

@@ -1,0 +1,1101 @@
+// The model part of the picture: it reads a journal, folds its entries to states, and computes what the definitions
+// (crates/cs_laws/specs) say of each. No drawing, no browser: node loads it too.
+//
+// A further event costs a clause in EVENTS: its form, its answers, and for each answer its effect and why it came. A field of a
+// new kind costs one in FIELDS, a new kind of message one in MESSAGES.
+(function (root) {
+  'use strict';
+
+  // ---- sets of capabilities: bits as in Ceph's ceph_fs.h
+
+  const GROUPS = [
+    ['', [['p', 1]]],
+    ['A', [['s', 4], ['x', 8]]],
+    ['L', [['s', 16], ['x', 32]]],
+    ['X', [['s', 64], ['x', 128]]],
+    ['F', [['s', 256], ['x', 512], ['c', 1024], ['r', 2048], ['w', 4096], ['b', 8192], ['a', 16384], ['l', 32768]]],
+  ];
+  const AUTH_EXCL = 8;
+  const FILE_READ = 2048;
+  const FILE_WRITE = 4096;
+  const FIRST_MODE = 0o644;
+  const OBJECT = 65536;
+
+  function capsText(bits) {
+    let text = '';
+    for (const [capital, letters] of GROUPS) {
+      const held = letters.filter(([, bit]) => bits & bit).map(([letter]) => letter).join('');
+      if (held) text += capital + held;
+    }
+    return text || '-';
+  }
+
+  function capsOf(text) {
+    let bits = 0;
+    let letters = GROUPS[0][1];
+    for (const character of text) {
+      const group = GROUPS.find(([capital]) => capital === character);
+      if (group) { letters = group[1]; continue; }
+      const letter = letters.find(([name]) => name === character);
+      if (letter) bits |= letter[1];
+    }
+    return capsText(bits) === text ? bits : null;
+  }
+
+  const covers = (bits, wanted) => (bits & wanted) === wanted;
+  const modeText = (mode) => mode.toString(8).padStart(4, '0');
+  const hexText = (bytes) => bytes.length ? Array.from(bytes, (b) => b.toString(16).padStart(2, '0')).join('') : '-';
+
+  // ---- fields: the words in capitals of a form
+
+  class Misread extends Error {}
+
+  const quoted = (word) => `‘${word.length > 40 ? word.slice(0, 40) + '…' : word}’`;
+
+  function number(name, least, most) {
+    return { name, read(word) {
+      if (!/^(0|[1-9][0-9]*)$/.test(word)) throw new Misread(`${quoted(word)} is no number (${name})`);
+      const value = Number(word);
+      if (value < least || value > most) throw new Misread(`${word} is outside ${least} to ${most} (${name})`);
+      return value;
+    } };
+  }
+
+  function spelled(name, what, pattern, value) {
+    return { name, read(word) {
+      if (!pattern.test(word)) throw new Misread(`${quoted(word)} is no ${what} (${name})`);
+      return value(word);
+    } };
+  }
+
+  const bytesOf = (word) => Uint8Array.from(word.match(/../g) || [], (pair) => parseInt(pair, 16));
+  const reference = number('reference', 0, 99999);
+  const MANY = Number.MAX_SAFE_INTEGER;
+
+  const FIELDS = {
+    C: number('caller', 0, 32),
+    F: number('file', 1, 99999),
+    D: number('directory', 1, 99999),
+    P: number('parent', 1, 99999),
+    T: number('time', 0, 4294967295),
+    R: { name: 'reference', read: (word) => word.startsWith('g') ? { kept: true, number: reference.read(word.slice(1)) } : { kept: false, number: reference.read(word) } },
+    S: number('snapshot', 1, 99999),
+    AT: { name: 'at', read: (word) => word === 'head' ? 'head' : FIELDS.S.read(word) },
+    END: number('end', 0, 1048576),
+    MAX: number('max', 0, 1048576),
+    OFF: number('offset', 0, 1048575),
+    LEN: number('length', 1, 4096),
+    SEQ: number('seq', 0, MANY),
+    TID: number('tid', 0, MANY),
+    FOLLOWS: number('follows', 0, MANY),
+    NUMBER: number('number', 0, MANY),
+    MADE: number('made', 0, MANY),
+    COUNT: number('count', 0, MANY),
+    SIZE: number('size', 0, MANY),
+    BITS: { name: 'bits', read(word) {
+      const bits = capsOf(word);
+      if (bits === null) throw new Misread(`${quoted(word)} is no set of capabilities (bits)`);
+      return bits;
+    } },
+    MODE: spelled('mode', 'mode of four octal digits', /^[0-7]{4}$/, (word) => parseInt(word, 8)),
+    NAME: spelled('name', 'name of a snapshot', /^[a-z0-9][a-z0-9_.-]{0,31}$/, (word) => word),
+    HEX: spelled('bytes', 'text of bytes', /^([0-9a-f]{2}){1,1024}$/, bytesOf),
+    BYTES: spelled('bytes', 'text of bytes', /^(-|([0-9a-f]{2})+)$/, (word) => word === '-' ? new Uint8Array(0) : bytesOf(word)),
+  };
+
+  const compiled = new Map();
+  function formOf(text) {
+    if (!compiled.has(text)) {
+      compiled.set(text, text.split(' ').map((word) => /^[A-Z]+$/.test(word) ? { field: FIELDS[word], word } : { literal: word }));
+    }
+    return compiled.get(text);
+  }
+
+  const fits = (form, words) => form.length === words.length && form.every((part, i) => !part.literal || part.literal === words[i]);
+
+  function readForm(form, words) {
+    const values = {};
+    form.forEach((part, i) => { if (part.field) values[part.field.name] = part.field.read(words[i]); });
+    return values;
+  }
+
+  // ---- states
+
+  const newFile = (f) => ({
+    number: f, home: 1, known: false,
+    server: { given: 0, held: 0, seq: 0, max: 0 },
+    client: { issued: 0, implemented: 0, seq: 0, acked: 0, max: 0 },
+    context: { seq: 0, snaps: [] },
+    writes: [], mode: FIRST_MODE, dirty: 0,
+    queued: [],       // cap snaps that aren't sent, the oldest first
+    unacked: [],      // flushes that were sent and aren't acknowledged
+    acked: new Set(), // their numbers, once they are
+    recorded: [],     // standing records of flushes
+  });
+
+  const rootRecord = () => ({ realm: 1, parent: null, seq: 0, own: [] });
+
+  const newState = () => ({
+    index: 0, clock: 0,
+    paths: new Map([[1, [1]]]), order: [1], files: new Map(),
+    begun: new Map(), live: [],
+    toClient: [], toServer: [], messages: 0,
+    records: [], durable: 0, snapshots: new Map(), names: new Map(), greatest: 0,
+    standing: new Map([[1, rootRecord()]]), atCommit: new Map([[1, rootRecord()]]),
+    lastSent: new Map([[1, rootRecord()]]), realms: new Map([[1, rootRecord()]]),
+    flushes: 0, operations: 0, capSnaps: 0,
+  });
+
+  function copyState(state) {
+    const copy = { ...state };
+    for (const key of Object.keys(copy)) {
+      if (Array.isArray(copy[key])) copy[key] = copy[key].slice();
+      else if (copy[key] instanceof Map) copy[key] = new Map(copy[key]);
+    }
+    for (const [f, file] of copy.files) {
+      copy.files.set(f, { ...file, writes: file.writes.slice(), queued: file.queued.slice(), unacked: file.unacked.slice(), acked: new Set(file.acked), recorded: file.recorded.slice() });
+    }
+    return copy;
+  }
+
+  function fileOf(state, f) {
+    if (!state.files.has(f)) state.files.set(f, newFile(f));
+    return state.files.get(f);
+  }
+
+  const knows = (state, f) => state.files.has(f) && state.files.get(f).known;
+  const pathOf = (state, d) => state.paths.get(d) || [1];
+  const isOf = (r, caller, number) => r.caller === caller && r.number === number;
+  const named = (state, caller, name) => state.live.find((r) => isOf(r, name.kept ? 0 : caller, name.number));
+  const isWriter = (r, f) => r.file === f && covers(r.bits, FILE_WRITE);
+  const writersOf = (state, f) => state.live.filter((r) => isWriter(r, f));
+  const usedOf = (state, f) => state.live.reduce((bits, r) => r.file === f ? bits | r.bits : bits, 0) | fileOf(state, f).dirty;
+  const heldBack = (state, f) => fileOf(state, f).client.implemented & ~fileOf(state, f).client.issued & usedOf(state, f);
+  const isOpen = (state, snap) => snap.writers.some((w) => state.live.some((r) => isOf(r, w.caller, w.number)));
+  const isWriting = (state, f) => fileOf(state, f).queued.some((snap) => isOpen(state, snap));
+
+  // ---- writes and metadata
+
+  function metaOf(writes, mode) {
+    let size = 0;
+    for (const w of writes) size = Math.max(size, w.offset + w.bytes.length);
+    return { size, mtime: writes.length ? writes[writes.length - 1].time : 0, mode };
+  }
+
+  // the bytes from a place on that these writes left, up to a size; the newest write stands last
+  function bytesWithin(size, writes, offset, length) {
+    const count = Math.max(0, Math.min(length, size - offset));
+    const bytes = new Uint8Array(count);
+    const filled = new Uint8Array(count);
+    let left = count;
+    for (let i = writes.length - 1; i >= 0 && left > 0; i--) {
+      const w = writes[i];
+      const from = Math.max(w.offset, offset);
+      const to = Math.min(w.offset + w.bytes.length, offset + count);
+      for (let place = from; place < to; place++) {
+        if (filled[place - offset]) continue;
+        filled[place - offset] = 1;
+        bytes[place - offset] = w.bytes[place - w.offset];
+        left--;
+      }
+    }
+    return bytes;
+  }
+
+  const isBefore = (at, seq) => at === 'head' || seq < at;
+
+  // of the file's recorded flushes from before the state, the one that follows the greatest number, and of those the last
+  function lastFlush(state, f, at) {
+    let best = null;
+    for (const x of fileOf(state, f).recorded) {
+      if (!isBefore(at, x.follows)) continue;
+      if (!best || x.follows > best.follows || (x.follows === best.follows && x.tid > best.tid)) best = x;
+    }
+    return best;
+  }
+
+  function metaAt(state, f, at) {
+    const flush = lastFlush(state, f, at);
+    return flush ? flush.meta : { size: 0, mtime: 0, mode: FIRST_MODE };
+  }
+
+  // ---- realms and contexts
+
+  const isSame = (a, b) => a.length === b.length && a.every((x, i) => x === b[i]);
+  const isSameRecord = (a, b) => a && a.parent === b.parent && a.seq === b.seq && (a.own === b.own || isSame(a.own, b.own));
+
+  // the records of all realms, once this record of the log stands too; each realm's own snapshots stand the newest first
+  function withRealms(state, table, body) {
+    const own = new Map([...table].map(([d, r]) => [d, r]));
+    if (body.kind === 'snapshot') {
+      const was = own.get(body.directory) || { own: [] };
+      own.set(body.directory, { realm: body.directory, parent: null, seq: body.number, own: [body.number, ...was.own] });
+    } else if (body.kind === 'removal') {
+      for (const [d, r] of own) {
+        if (r.own.includes(body.snapshot)) own.set(d, { ...r, seq: body.number, own: r.own.filter((s) => s !== body.snapshot) });
+      }
+    }
+    for (const [d, r] of own) {
+      const parent = pathOf(state, d).slice(1).find((e) => own.has(e)) ?? null;
+      if (parent !== r.parent) own.set(d, { ...r, parent });
+    }
+    return own;
+  }
+
+  // the numbers of both lists, the greatest first, each once
+  function descending(own, others) {
+    if (!others.length && own.every((s, i) => i === 0 || s < own[i - 1])) return own;
+    return [...new Set([...own, ...others])].sort((a, b) => b - a);
+  }
+
+  function contextOf(table, d, known = new Map()) {
+    if (known.has(d)) return known.get(d);
+    const r = table.get(d);
+    const above = r.parent !== null && table.has(r.parent) && r.parent !== d ? contextOf(table, r.parent, known) : { seq: 0, snaps: [] };
+    const context = { seq: Math.max(r.seq, above.seq), snaps: descending(r.own, above.snaps) };
+    known.set(d, context);
+    return context;
+  }
+
+  function pathContext(path, table, known) {
+    const d = path.find((e) => table.has(e));
+    return d === undefined ? { seq: 0, snaps: [] } : contextOf(table, d, known);
+  }
+
+  // the contexts that were computed of a table of realms, which is never changed in place
+  const contextsOf = new WeakMap();
+
+  function standingContext(state, f) {
+    if (!contextsOf.has(state.standing)) contextsOf.set(state.standing, new Map());
+    return pathContext(pathOf(state, fileOf(state, f).home), state.standing, contextsOf.get(state.standing));
+  }
+
+  const coversFile = (state, f, s) => standingContext(state, f).snaps.includes(s);
+
+  // ---- what is owed (Owed): each of its reasons has the shape "a number below the snapshot's", so a snapshot is owed exactly
+  // where it is above the least of these numbers
+
+  function settledUpTo(state, f) {
+    const file = fileOf(state, f);
+    if (!file.known) return -1;
+    let least = file.context.seq;
+    for (const r of state.live) if (isWriter(r, f)) least = Math.min(least, r.tag);
+    for (const x of file.queued) least = Math.min(least, x.follows);
+    for (const x of file.unacked) least = Math.min(least, x.follows);
+    return least;
+  }
+
+  function headReasons(state, f) {
+    const file = fileOf(state, f);
+    const reasons = [];
+    if (!file.known) reasons.push('the client does not know the file');
+    const writers = writersOf(state, f);
+    if (writers.length) reasons.push(`${writers.map(refText).join(' and ')} may still write`);
+    if (file.dirty) reasons.push(`changed metadata (${capsText(file.dirty)}) is not sent`);
+    if (file.queued.length) reasons.push('a cap snap is not sent');
+    if (file.unacked.length) reasons.push(`flush ${file.unacked.map((x) => x.tid).join(', ')} is not acknowledged`);
+    return reasons;
+  }
+
+  function snapReasons(state, f, s) {
+    const file = fileOf(state, f);
+    const reasons = [];
+    if (!file.known) reasons.push('the client does not know the file');
+    if (file.context.seq < s) reasons.push(`the client was not told of snapshot ${s}`);
+    const writers = writersOf(state, f).filter((r) => r.tag < s);
+    if (writers.length) reasons.push(`${writers.map(refText).join(' and ')}, begun before it was told, may still write`);
+    if (file.queued.some((x) => x.follows < s)) reasons.push('a cap snap from then is not sent');
+    const unacked = file.unacked.filter((x) => x.follows < s);
+    if (unacked.length) reasons.push(`flush ${unacked.map((x) => x.tid).join(', ')} is not acknowledged`);
+    return reasons;
+  }
+
+  const reasonsOf = (state, f, at) => at === 'head' ? headReasons(state, f) : snapReasons(state, f, at);
+  const refText = (r) => `reference ${r.number} of caller ${r.caller}`;
+
+  // the answer to a `show` (answer_show)
+  function computeShow(state, e) {
+    const word = (text) => ({ word: text, text });
+    if (!knows(state, e.file)) return word('unknown');
+    if (e.at !== 'head') {
+      const snapshot = state.snapshots.get(e.at);
+      if (!snapshot) return word('nosnap');
+      if (snapshot.removed) return word('gone');
+      if (!coversFile(state, e.file, e.at)) return word('nosnap');
+    }
+    if (reasonsOf(state, e.file, e.at).length) return word('pending');
+    const meta = metaAt(state, e.file, e.at);
+    const writes = fileOf(state, e.file).writes.filter((w) => isBefore(e.at, w.tag));
+    const bytes = bytesWithin(meta.size, writes, e.offset, e.length);
+    return { word: 'size', meta, bytes, text: `size ${meta.size} mtime ${meta.mtime} mode ${modeText(meta.mode)} bytes ${hexText(bytes)}` };
+  }
+
+  // ---- messages and records
+
+  const MESSAGES = {
+    cap: { short: (m) => ['cap', m.seq], words: (m) => `message ${m.seq} of file ${m.file}: it may have ${capsText(m.bits)}, up to the end ${m.max}` },
+    snap: { short: (m) => ['snap', m.number], words: (m) => `news ${m.number} of the snapshots of directory ${m.directory}` },
+    flushack: { short: (m) => ['flushack', m.tid], words: (m) => `flush ${m.tid} of file ${m.file} is durable` },
+    capack: { short: (m) => ['ack', m.seq], words: (m) => `acknowledgement of message ${m.seq} of file ${m.file}: only ${capsText(m.bits)} is kept` },
+    flush: { short: (m) => ['flush', m.flush.tid], words: (m) => `flush ${m.flush.tid} of file ${m.flush.file}` },
+  };
+  const messageWords = (m) => MESSAGES[m.kind].words(m);
+  const messageShort = (m) => MESSAGES[m.kind].short(m);
+  const recordShort = (r) => r.kind === 'flush' ? ['flush', r.flush.tid] : r.kind === 'snapshot' ? ['snap', r.number] : ['removal', r.number];
+  const recordWords = (r) => r.kind === 'flush' ? `flush ${r.flush.tid}` : r.kind === 'snapshot' ? `snapshot ${r.number}` : `removal ${r.number}`;
+
+  function send(state, queue, message, trace) {
+    const sent = { ...message, id: state.messages++ };
+    queue.push(sent);
+    trace.sent(sent, queue === state.toClient ? 'client' : 'server');
+  }
+
+  function deliver(queue, said, trace) {
+    const message = queue.shift() || null;
+    trace.delivered(message, said);
+    return message;
+  }
+
+  function record(state, body, trace) {
+    state.records.push(body);
+    if (body.kind !== 'flush') {
+      state.standing = withRealms(state, state.standing, body);
+      state.greatest = Math.max(state.greatest, body.number);
+    }
+    trace.recorded(body, state.records.length - 1);
+  }
+
+  // ---- effects
+
+  function makeDirectory(state, e) {
+    state.paths.set(e.directory, [e.directory, ...pathOf(state, e.parent)]);
+    state.order = [...state.paths.keys()].sort((a, b) => pathOf(state, a).length - pathOf(state, b).length || a - b);
+  }
+
+  function makeFile(state, e, a, trace) {
+    Object.assign(fileOf(state, e.file), { known: true, home: e.parent, context: pathContext(pathOf(state, e.parent), state.realms) });
+    trace.made(e.file);
+  }
+
+  function begin(state, e, a, trace) {
+    const r = { caller: e.caller, number: a.number, file: e.file, bits: e.bits, end: e.end, tag: fileOf(state, e.file).context.seq };
+    state.live.push(r);
+    state.begun.set(e.caller, (state.begun.get(e.caller) || 0) + 1);
+    trace.begun(r);
+  }
+
+  function end(state, e, a, trace) {
+    const r = e.reference.kept ? null : named(state, e.caller, e.reference);
+    if (!r) return;
+    state.live.splice(state.live.indexOf(r), 1);
+    trace.ended(r);
+  }
+
+  function write(state, e, a, trace) {
+    const r = named(state, e.caller, e.reference);
+    if (!r) return;
+    const file = fileOf(state, r.file);
+    file.writes.push({ offset: e.offset, bytes: e.bytes, time: state.clock, tag: r.tag });
+    file.dirty |= FILE_WRITE;
+    const brought = Math.floor((e.offset + e.bytes.length - 1) / OBJECT) - Math.floor(e.offset / OBJECT) + 1;
+    state.operations += brought;
+    trace.used(r, 'write');
+    trace.stored(state.operations - brought + 1, state.operations);
+  }
+
+  function read(state, e, a, trace) {
+    const r = named(state, e.caller, e.reference);
+    if (r) trace.used(r, 'read');
+  }
+
+  function changeMode(state, e, a, trace) {
+    const r = named(state, e.caller, e.reference);
+    if (!r) return;
+    const file = fileOf(state, r.file);
+    file.mode = e.mode;
+    file.dirty |= AUTH_EXCL;
+    trace.used(r, 'mode');
+  }
+
+  function acknowledge(state, e, a, trace) {
+    const file = fileOf(state, e.file);
+    file.client = { ...file.client, implemented: a.bits, acked: a.seq };
+    send(state, state.toServer, { kind: 'capack', file: e.file, seq: a.seq, bits: a.bits }, trace);
+    trace.touch(e.file);
+  }
+
+  function sendFlush(state, flush, trace, capSnap) {
+    const file = fileOf(state, flush.file);
+    if (!file.acked.has(flush.tid)) file.unacked.push(flush);
+    state.flushes++;
+    trace.flushed(flush, capSnap);
+    send(state, state.toServer, { kind: 'flush', flush }, trace);
+    trace.touch(flush.file);
+  }
+
+  function flushPresent(state, e, a, trace) {
+    const file = fileOf(state, e.file);
+    file.dirty = 0;
+    sendFlush(state, { tid: a.tid, file: e.file, follows: file.context.seq, meta: metaOf(file.writes, file.mode), snap: false }, trace, null);
+  }
+
+  function flushSnap(state, e, a, trace) {
+    const file = fileOf(state, e.file);
+    const first = file.queued.shift() || null;
+    const writes = file.writes.filter((w) => w.tag <= a.follows);
+    sendFlush(state, { tid: a.tid, file: e.file, follows: a.follows, meta: metaOf(writes, first ? first.mode : 0), snap: true }, trace, first);
+  }
+
+  function deliverCap(state, e, a, trace) {
+    deliver(state.toClient, `cap ${a.file} ${a.seq} ${capsText(a.bits)} ${a.max}`, trace);
+    const file = fileOf(state, a.file);
+    file.client = { ...file.client, issued: a.bits, implemented: file.client.implemented | a.bits, seq: a.seq, max: a.max };
+    trace.touch(a.file);
+  }
+
+  function deliverFlushAck(state, e, a, trace) {
+    deliver(state.toClient, `flushack ${a.file} ${a.tid}`, trace);
+    const file = fileOf(state, a.file);
+    file.acked.add(a.tid);
+    const told = file.unacked.find((x) => x.tid === a.tid);
+    const isDone = (x) => x.tid === a.tid || (told && !told.snap && !x.snap && x.tid < a.tid);
+    for (const x of file.unacked.filter(isDone)) trace.flushAcked(x);
+    file.unacked = file.unacked.filter((x) => !isDone(x));
+    trace.touch(a.file);
+  }
+
+  function newContext(state, file, context, trace) {
+    const old = file.context;
+    if (old.seq === context.seq && isSame(old.snaps, context.snaps)) return;
+    const writers = writersOf(state, file.number);
+    if (!isWriting(state, file.number) && (writers.length || file.dirty)) {
+      const snap = { id: state.capSnaps++, follows: old.seq, mode: file.mode, writers };
+      file.queued.push(snap);
+      trace.queued(file.number, snap);
+    }
+    file.context = context;
+    trace.touch(file.number);
+  }
+
+  function deliverSnap(state, e, a, trace) {
+    const message = deliver(state.toClient, `snap ${a.number} ${a.directory}`, trace);
+    for (const r of (message && message.realms) || []) state.realms.set(r.realm, r);
+    const known = new Map();
+    for (const file of state.files.values()) {
+      if (file.known) newContext(state, file, pathContext(pathOf(state, file.home), state.realms, known), trace);
+    }
+  }
+
+  function receiveAck(state, e, a, trace) {
+    deliver(state.toServer, `capack ${a.file} ${a.seq}`, trace);
+    const file = fileOf(state, a.file);
+    file.server = { ...file.server, held: a.bits };
+    trace.touch(a.file);
+  }
+
+  function receiveFlush(state, e, a, trace) {
+    const message = deliver(state.toServer, `flushed ${a.file} ${a.tid}`, trace);
+    if (!message || !message.flush) return;
+    fileOf(state, message.flush.file).recorded.push(message.flush);
+    record(state, { kind: 'flush', flush: message.flush }, trace);
+    trace.touch(message.flush.file);
+  }
+
+  function sendCap(state, f, server, trace) {
+    fileOf(state, f).server = server;
+    send(state, state.toClient, { kind: 'cap', file: f, seq: server.seq, bits: server.given, max: server.max }, trace);
+    trace.touch(f);
+  }
+
+  function grant(state, e, a, trace) {
+    const s = fileOf(state, e.file).server;
+    sendCap(state, e.file, { given: s.given | e.bits, held: s.held | e.bits, seq: s.seq + 1, max: Math.max(s.max, e.max) }, trace);
+  }
+
+  function revoke(state, e, a, trace) {
+    const s = fileOf(state, e.file).server;
+    sendCap(state, e.file, { ...s, given: s.given & ~e.bits, seq: s.seq + 1 }, trace);
+  }
+
+  function takeSnapshot(state, e, a, trace) {
+    state.snapshots.set(a.number, { number: a.number, directory: e.directory, name: e.name, removed: false });
+    record(state, { kind: 'snapshot', number: a.number, directory: e.directory }, trace);
+    trace.snapshot(a.number);
+  }
+
+  function removeSnapshot(state, e, a, trace) {
+    const was = state.snapshots.get(e.snapshot);
+    if (was) state.snapshots.set(e.snapshot, { ...was, removed: true });
+    record(state, { kind: 'removal', snapshot: e.snapshot, number: a.number, directory: was ? was.directory : 1 }, trace);
+    trace.removed(e.snapshot);
+  }
+
+  // the realm records that differ from those sent last, parents first
+  function differing(state) {
+    const changed = state.order.filter((d) => state.atCommit.has(d) && !isSameRecord(state.lastSent.get(d), state.atCommit.get(d)));
+    return changed.map((d) => state.atCommit.get(d));
+  }
+
+  function commit(state, e, a, trace) {
+    for (const r of state.records.slice(state.durable)) {
+      if (r.kind === 'flush') {
+        send(state, state.toClient, { kind: 'flushack', file: r.flush.file, tid: r.flush.tid }, trace);
+        continue;
+      }
+      state.atCommit = withRealms(state, state.atCommit, r);
+      const realms = differing(state);
+      for (const told of realms) state.lastSent.set(told.realm, told);
+      send(state, state.toClient, { kind: 'snap', number: r.number, directory: r.directory, realms }, trace);
+    }
+    state.durable = state.records.length;
+    trace.committed(state.durable);
+  }
+
+  // ---- why an answer came
+
+  const noFile = (s, e) => `No file ${e.file} was made.`;
+  const noReference = (s, e) => e.reference.kept
+    ? `Caller 0 has no live reference ${e.reference.number}.`
+    : `Caller ${e.caller} has no live reference ${e.reference.number}.`;
+  const lacks = (bit) => (s, e) => {
+    const r = named(s, e.caller, e.reference);
+    return r ? `The reference has ${capsText(r.bits)}, and this needs ${bit}.` : `The reference has no ${bit}.`;
+  };
+  const stillWriting = (s, e) => `A cap snap of the file is still writing: ${writersNames(s, e.file)} began before the news of the snapshot, so the file's size there is not known yet.`;
+  function writersNames(s, f) {
+    const names = f === undefined ? [] : writersOf(s, f).map(refText);
+    return names.length ? names.join(' and ') : 'a reference with Fw';
+  }
+  const onReference = (e) => `${e.reference.kept ? 'a reference of caller 0' : 'its reference'} ${e.reference.number}`;
+  const plural = (count, one, many = one + 's') => `${count} ${count === 1 ? one : many}`;
+  const stateName = (at) => at === 'head' ? 'at present' : `at snapshot ${at}`;
+
+  function whyShown(s, e) {
+    const reasons = reasonsOf(s, e.file, e.at);
+    if (reasons.length) return `By the rule it is pending: ${reasons.join('; ')}.`;
+    const flush = lastFlush(s, e.file, e.at);
+    const source = flush ? `the record of flush ${flush.tid}` : 'a new file, since no flush tells of it';
+    const writes = e.at === 'head' ? 'all writes' : `the writes on references begun before the client was told of snapshot ${e.at}`;
+    return `By the rule nothing of it is owed. Size, time and mode are those of ${source}; the bytes are what ${writes} left.`;
+  }
+
+  const setupAnswers = (effect) => ({
+    exists: { why: () => 'A directory or a file has this number already.' },
+    nodir: { why: (s, e) => `There is no directory ${e.parent}.` },
+    made: { effect, why: () => 'It stands before the run, and both sides know it.' },
+  });
+
+  const EVENTS = {
+    dir: { form: 'dir D P', setup: true, lane: 'both', what: (e) => `Directory ${e.directory} stands in directory ${e.parent}.`, answers: setupAnswers(makeDirectory) },
+    file: { form: 'file F P', setup: true, lane: 'both', what: (e) => `File ${e.file} stands in directory ${e.parent}.`, answers: setupAnswers(makeFile) },
+    clock: {
+      form: 'clock T', lane: 'both',
+      what: (e) => `The time is to become ${e.time} seconds.`,
+      answers: {
+        back: { why: (s) => `It is ${s.clock} already, and time never goes back.` },
+        'now T': { effect: (state, e, a) => { state.clock = a.time; }, why: () => 'Writes from here on have this time.' },
+      },
+    },
+    begin: {
+      form: 'begin C F BITS END', lane: 'callers',
+      what: (e) => `Caller ${e.caller} asks for a reference to file ${e.file} with ${capsText(e.bits)}, to write up to the end ${e.end}.`,
+      answers: {
+        unknown: { why: noFile },
+        'again caps': { why: (s, e) => `The client was issued ${capsText(fileOf(s, e.file).client.issued)}; ${capsText(e.bits & ~fileOf(s, e.file).client.issued)} is missing. What was only sent does not count.` },
+        'again snap': { why: (s, e) => `${stillWriting(s, e)} No other writer begins till then.` },
+        'again max': { why: (s, e) => `The last delivered message lets the file grow up to ${fileOf(s, e.file).client.max}.` },
+        full: { why: () => '256 references live, which is the most.' },
+        'ref NUMBER': { effect: begin, why: (s, e, a) => `All its bits are issued. It is reference ${a.number} of this caller, begun under context ${fileOf(s, e.file).context.seq}.` },
+      },
+    },
+    end: {
+      form: 'end C R', lane: 'callers',
+      what: (e) => `Caller ${e.caller} ends ${onReference(e)}.`,
+      answers: {
+        unknown: { why: (s, e) => e.reference.kept ? 'A caller ends only references of its own, named without g.' : noReference(s, e) },
+        ended: { effect: end, why: () => 'It lived. Its bits are no longer in use by it.' },
+      },
+    },
+    write: {
+      form: 'write C R OFF HEX', lane: 'callers',
+      what: (e) => `Caller ${e.caller} writes ${plural(e.bytes.length, 'byte')} at ${e.offset} on ${onReference(e)}.`,
+      check: (e) => e.offset + e.bytes.length > 1048576 ? 'the bytes end above 1048576' : null,
+      answers: {
+        unknown: { why: noReference },
+        nobit: { why: lacks('Fw') },
+        past: { why: (s, e) => `The bytes end at ${e.offset + e.bytes.length}, above the reference's end.` },
+        wrote: { effect: write, why: (s, e) => `The bytes go through to the object store. They carry the context under which the reference began${tagWords(s, e)}, and make the file's size and time dirty.` },
+      },
+    },
+    read: {
+      form: 'read C R OFF LEN', lane: 'callers',
+      what: (e) => `Caller ${e.caller} reads up to ${plural(e.length, 'byte')} from ${e.offset} on ${onReference(e)}.`,
+      answers: {
+        unknown: { why: noReference },
+        nobit: { why: lacks('Fr') },
+        'bytes BYTES': { effect: read, why: (s, e, a) => a.bytes.length ? 'These are what the writes left there, up to the size that the client knows.' : 'The file, as the client knows it, has no bytes there.' },
+      },
+    },
+    chmod: {
+      form: 'chmod C R MODE', lane: 'callers',
+      what: (e) => `Caller ${e.caller} gives the file of ${onReference(e)} the mode ${modeText(e.mode)}.`,
+      answers: {
+        unknown: { why: noReference },
+        nobit: { why: lacks('Ax') },
+        'again snap': { why: (s, e) => stillWriting(s, { file: (named(s, e.caller, e.reference) || {}).file }) },
+        done: { effect: changeMode, why: () => 'The client has the new mode; it is dirty until a flush sends it.' },
+      },
+    },
+    check: {
+      form: 'check F', lane: 'client',
+      what: (e) => `The client looks whether it can acknowledge what it was told of file ${e.file}.`,
+      answers: {
+        unknown: { why: noFile },
+        nothing: { why: () => 'Everything that was delivered is acknowledged.' },
+        'hold BITS': { why: (s, e, a) => `${capsText(a.bits)} was taken back and is still in use: ${usersOf(s, e.file, a.bits)}. So it is held back.` },
+        'ack SEQ BITS': { effect: acknowledge, why: (s, e, a) => `Nothing that was taken back is in use. It acknowledges message ${a.seq} and keeps ${capsText(a.bits)} alone.` },
+      },
+    },
+    flush: {
+      form: 'flush F', lane: 'client',
+      what: (e) => `The client sends the present size, time and mode of file ${e.file}, if they are dirty.`,
+      answers: {
+        unknown: { why: noFile },
+        'again snap': { why: stillWriting },
+        clean: { why: () => 'No metadata was changed since the last flush.' },
+        'flush TID': { effect: flushPresent, why: (s, e, a) => `They are dirty (${capsText(fileOf(s, e.file).dirty)}). This is flush ${a.tid}; nothing is dirty any more.` },
+      },
+    },
+    flushsnaps: {
+      form: 'flushsnaps F', lane: 'client',
+      what: (e) => `The client sends the oldest cap snap of file ${e.file} that it has not sent.`,
+      answers: {
+        unknown: { why: noFile },
+        none: { why: () => 'There is no cap snap to be sent.' },
+        writing: { why: stillWriting },
+        'flushsnap TID FOLLOWS': { effect: flushSnap, why: (s, e, a) => `Its size and time are fixed. It goes as flush ${a.tid}, and follows ${a.follows ? `number ${a.follows}` : 'no earlier snapshot'}.` },
+      },
+    },
+    toclient: {
+      form: 'toclient', lane: 'client',
+      what: () => 'The oldest message on its way to the client is delivered.',
+      answers: {
+        idle: { why: () => 'None is on its way.' },
+        'cap F SEQ BITS MAX': { effect: deliverCap, why: (s, e, a) => `It is message ${a.seq} of file ${a.file}: from now on ${capsText(a.bits)} is issued, and the file may grow to ${a.max}.` },
+        'snap NUMBER D MADE': { effect: deliverSnap, why: (s, e, a) => `The client hears of number ${a.number}, of the snapshots of directory ${a.directory}. ${plural(a.made, 'file')} got a cap snap, being open for writing or dirty.` },
+        'flushack F TID': { effect: deliverFlushAck, why: (s, e, a) => `The client hears that flush ${a.tid} of file ${a.file} is durable at the server.` },
+      },
+    },
+    tomds: {
+      form: 'tomds', lane: 'server',
+      what: () => 'The oldest message on its way to the server is delivered.',
+      answers: {
+        idle: { why: () => 'None is on its way.' },
+        'capack F SEQ held BITS': { effect: receiveAck, why: (s, e, a) => a.seq === fileOf(s, a.file).server.seq
+          ? `It acknowledges the last message of file ${a.file}, so the server now takes ${capsText(a.bits)} for held.`
+          : `It acknowledges message ${a.seq}, and message ${fileOf(s, a.file).server.seq} was sent since: what is held stays ${capsText(a.bits)}.` },
+        'flushed F TID': { effect: receiveFlush, why: (s, e, a) => `The server makes a record of flush ${a.tid}. It is not durable before a commit.` },
+      },
+    },
+    grant: {
+      form: 'grant F BITS MAX', lane: 'server',
+      what: (e) => `The server gives ${capsText(e.bits)} of file ${e.file}, and lets it grow up to ${e.max}.`,
+      answers: {
+        unknown: { why: noFile },
+        'sent SEQ held BITS': { effect: grant, why: (s, e, a) => `Message ${a.seq} of this file tells the client. The server takes ${capsText(a.bits)} for held from now on.` },
+      },
+    },
+    revoke: {
+      form: 'revoke F BITS', lane: 'server',
+      what: (e) => `The server takes ${capsText(e.bits)} of file ${e.file} back.`,
+      answers: {
+        unknown: { why: noFile },
+        'sent SEQ held BITS': { effect: revoke, why: (s, e, a) => `Message ${a.seq} tells the client. ${capsText(a.bits)} counts as held till the client acknowledges.` },
+      },
+    },
+    snap: {
+      form: 'snap D NAME', lane: 'server',
+      what: (e) => `The server takes a snapshot of directory ${e.directory}, named ${e.name}.`,
+      answers: {
+        unknown: { why: (s, e) => `There is no directory ${e.directory}.` },
+        exists: { why: (s, e) => `Directory ${e.directory} has a snapshot of this name.` },
+        'snap NUMBER': { effect: takeSnapshot, why: (s, e, a) => `It is snapshot ${a.number}. Its record is not durable before a commit, and the client is not told before that.` },
+      },
+    },
+    rmsnap: {
+      form: 'rmsnap S', lane: 'server',
+      what: (e) => `The server removes snapshot ${e.snapshot}.`,
+      answers: {
+        nosnap: { why: (s, e) => `There is no snapshot ${e.snapshot}.` },
+        gone: { why: () => 'It was removed before.' },
+        'removed S NUMBER': { effect: removeSnapshot, why: (s, e, a) => `The removal draws number ${a.number}. From now on the snapshot shows nothing.` },
+      },
+    },
+    commit: {
+      form: 'commit', lane: 'server',
+      what: () => 'The server makes its records durable.',
+      answers: {
+        'commit COUNT': { effect: commit, why: (s, e, a) => a.count
+          ? `${plural(a.count, 'record')} became durable: ${s.records.slice(s.durable).map(recordWords).join(', ')}. The client is told of each.`
+          : 'All were durable, so nothing is told.' },
+      },
+    },
+    show: {
+      form: 'show F AT OFF LEN', lane: 'store',
+      what: (e) => `What is recorded and stored of file ${e.file} ${stateName(e.at)}, with ${plural(e.length, 'byte')} from ${e.offset} on?`,
+      answers: {
+        unknown: { why: noFile },
+        nosnap: { why: (s, e) => s.snapshots.has(e.at) ? `Snapshot ${e.at} does not cover the file.` : `There is no snapshot ${e.at}.` },
+        gone: { why: (s, e) => `Snapshot ${e.at} is removed.` },
+        pending: { why: whyShown },
+        'size SIZE mtime T mode MODE bytes BYTES': { why: whyShown },
+      },
+    },
+  };
+
+  function usersOf(s, f, bits) {
+    const users = s.live.filter((r) => r.file === f && (r.bits & bits)).map((r) => `${refText(r)} uses ${capsText(r.bits & bits)}`);
+    const dirty = fileOf(s, f).dirty & bits;
+    if (dirty) users.push(`changed metadata that is not sent needs ${capsText(dirty)}`);
+    return users.join('; ') || 'nothing that this page finds';
+  }
+
+  function tagWords(s, e) {
+    const r = named(s, e.caller, e.reference);
+    return r ? ` (${r.tag})` : '';
+  }
+
+  // ---- parsing
+
+  class NoJournal extends Error {
+    constructor(line, reason) {
+      super(`line ${line}: ${reason}`);
+      this.line = line;
+      this.reason = reason;
+    }
+  }
+
+  function parseAnswer(kind, words) {
+    const event = EVENTS[kind];
+    const key = Object.keys(event.answers).find((form) => fits(formOf(form), words));
+    if (!key) throw new Misread(`${quoted(words.join(' '))} is no answer to ${kind} that this page knows`);
+    return { form: key, word: words[0], ...readForm(formOf(key), words) };
+  }
+
+  function parseEvent(words) {
+    const kind = words[0];
+    if (!Object.hasOwn(EVENTS, kind)) throw new Misread(`${quoted(kind)} is no event that this page knows`);
+    const form = formOf(EVENTS[kind].form);
+    if (!fits(form, words)) throw new Misread(`${kind} has ${plural(form.length - 1, 'field')} (${EVENTS[kind].form}), here are ${words.length - 1}`);
+    const event = { kind, ...readForm(form, words) };
+    const wrong = EVENTS[kind].check && EVENTS[kind].check(event);
+    if (wrong) throw new Misread(wrong);
+    return event;
+  }
+
+  function parseEntry(line, wanted) {
+    const match = /^([0-9]+) (.*)$/.exec(line);
+    if (!match) throw new Misread(`${quoted(line)} is no entry: an entry is its number, an event, an arrow and an answer`);
+    if (match[1] !== String(wanted)) throw new Misread(`the entry has the number ${quoted(match[1])}, and it should have ${wanted}`);
+    const parts = match[2].split(' -> ');
+    if (parts.length !== 2) throw new Misread('an entry has one arrow “ -> ” between its event and its answer');
+    const event = parseEvent(parts[0].split(' '));
+    return { event, answer: parseAnswer(event.kind, parts[1].split(' ')), text: line, eventText: parts[0], answerText: parts[1] };
+  }
+
+  // the entries of a journal; throws NoJournal with the first line that is none of a journal's, and why
+  function parse(text) {
+    const lines = text.split('\n');
+    if (lines[lines.length - 1] === '') lines.pop();
+    if (lines[0] !== 'ceph-journal 1') throw new NoJournal(1, `a journal begins with ‘ceph-journal 1’, this with ${quoted(lines[0] || '')}`);
+    const entries = [];
+    let setupIsOver = false;
+    for (let i = 1; i < lines.length; i++) {
+      if (/^end /.test(lines[i])) {
+        if (lines[i] !== `end ${entries.length}`) throw new NoJournal(i + 1, `the last line should be ‘end ${entries.length}’, the number of entries`);
+        if (i + 1 < lines.length) throw new NoJournal(i + 2, 'a line stands behind the last one');
+        return entries;
+      }
+      try {
+        const entry = parseEntry(lines[i], entries.length + 1);
+        if (EVENTS[entry.event.kind].setup && setupIsOver) throw new Misread('a dir or file line stands behind another event');
+        setupIsOver = setupIsOver || !EVENTS[entry.event.kind].setup;
+        entries.push(entry);
+      } catch (wrong) {
+        throw wrong instanceof Misread ? new NoJournal(i + 1, wrong.message) : wrong;
+      }
+    }
+    throw new NoJournal(lines.length + 1, `the last line, ‘end ${entries.length}’, is missing`);
+  }
+
+  // ---- the fold
+
+  function apply(state, entry, trace) {
+    const { effect } = EVENTS[entry.event.kind].answers[entry.answer.form];
+    if (effect) effect(state, entry.event, entry.answer, trace);
+    state.index++;
+  }
+
+  const nothing = () => {};
+  const SILENT = Object.fromEntries(['sent', 'delivered', 'recorded', 'begun', 'ended', 'used', 'stored', 'touch', 'made', 'flushed', 'flushAcked', 'queued', 'snapshot', 'removed', 'committed'].map((name) => [name, nothing]));
+
+  // values over time: each span has its value from entry `from` on, before entry `to`
+  class Band {
+    constructor() { this.spans = []; }
+    set(entry, value, label) {
+      const last = this.spans[this.spans.length - 1];
+      if (last && last.value === value) return;
+      if (last) last.to = entry;
+      if (last && last.from === entry) this.spans.pop();
+      const before = this.spans[this.spans.length - 1];
+      if (before && before.to === entry && before.value === value) { before.to = Infinity; return; }
+      this.spans.push({ from: entry, to: Infinity, value, label });
+    }
+    close(entry) {
+      const last = this.spans[this.spans.length - 1];
+      if (last) last.to = entry;
+    }
+  }
+
+  const newFileTrack = (f, home) => ({
+    file: f, home, held: new Band(), given: new Band(), issued: new Band(), heldBack: new Band(), dirty: new Band(),
+    capSnaps: [], flushes: [], head: { at: 'head', band: new Band(), shows: [] }, states: [], settled: null,
+  });
+
+  // what the entries did, as things with a beginning and an end, for the drawing
+  class Trace {
+    constructor(run) { this.run = run; this.touched = new Set(); this.byMessage = new Map(); this.byFlush = new Map(); this.bySnap = new Map(); this.byReference = new Map(); }
+    get now() { return this.run.now; }
+    track(f) {
+      const { files } = this.run.tracks;
+      if (!files.has(f)) files.set(f, newFileTrack(f, fileOf(this.run.state, f).home));
+      return files.get(f);
+    }
+    touch(f) { this.touched.add(f); }
+    made(f) { this.touch(f); }
+    sent(message, towards) {
+      const arrow = { message: { ...message, realms: undefined }, towards, from: this.now, to: null };
+      this.byMessage.set(message.id, arrow);
+      this.run.tracks.arrows.push(arrow);
+      this.run.counts[towards === 'client' ? 'sentToClient' : 'sentToServer']++;
+    }
+    delivered(message, said) {
+      const towards = this.run.entries[this.now - 1].event.kind === 'toclient' ? 'client' : 'server';
+      this.run.counts[towards === 'client' ? 'deliveredToClient' : 'deliveredToServer']++;
+      if (message) this.byMessage.get(message.id).to = this.now;
+      const wanted = message ? deliveryText(message) : 'idle';
+      if (wanted !== said) this.run.differences.push({ entry: this.now, kind: 'delivery', computed: wanted, journal: said });
+    }
+    recorded(body, place) { this.run.tracks.records.push({ body, place, from: this.now, durable: null }); if (body.kind === 'flush') this.mark(body.flush, 'recorded'); }
+    committed(durable) {
+      const { records, commits } = this.run.tracks;
+      const before = commits.length ? commits[commits.length - 1].durable : 0;
+      for (let i = before; i < durable; i++) {
+        records[i].durable = this.now;
+        if (records[i].body.kind === 'flush') this.mark(records[i].body.flush, 'durable');
+      }
+      commits.push({ entry: this.now, durable, count: durable - before });
+    }
+    mark(flush, phase) { const bar = this.byFlush.get(flush); if (bar) bar[phase] = this.now; }
+    begun(r) {
+      const bar = { reference: r, from: this.now, to: null, marks: [] };
+      this.byReference.set(r, bar);
+      this.run.tracks.references.push(bar);
+      this.run.counts.begun++;
+      this.touch(r.file);
+    }
+    ended(r) {
+      this.byReference.get(r).to = this.now;
+      this.run.counts.ended++;
+      this.touch(r.file);
+      for (const snap of this.track(r.file).capSnaps) {
+        if (snap.ready === null && snap.sent === null && !isOpen(this.run.state, snap.snap)) snap.ready = this.now;
+      }
+    }
+    used(r, how) { this.byReference.get(r).marks.push({ entry: this.now, how }); this.touch(r.file); }
+    stored(first, last) { this.run.tracks.operations.push({ entry: this.now, first, last }); }
+    flushed(flush, snap) {
+      const bar = { flush, from: this.now, recorded: null, durable: null, acked: null };
+      this.byFlush.set(flush, bar);
+      const open = snap && this.bySnap.get(snap);
+      if (open) { open.sent = this.now; open.bar = bar; }
+      this.track(flush.file).flushes.push(bar);
+    }
+    flushAcked(flush) { this.mark(flush, 'acked'); }
+    queued(f, snap) {
+      const bar = { snap, from: this.now, ready: isOpen(this.run.state, snap) ? null : this.now, sent: null, bar: null };
+      this.bySnap.set(snap, bar);
+      this.track(f).capSnaps.push(bar);
+    }
+    snapshot(s) {
+      for (const file of this.run.state.files.values()) {
+        if (!file.known || !coversFile(this.run.state, file.number, s)) continue;
+        const track = this.track(file.number);
+        track.states.push({ at: s, band: new Band(), shows: [], gone: null });
+        this.setState(track, track.states[track.states.length - 1]);
+      }
+    }
+    removed(s) {
+      for (const track of this.run.tracks.files.values()) {
+        const bar = track.states.find((x) => x.at === s);
+        if (!bar || bar.gone !== null) continue;
+        bar.gone = this.now;
+        bar.band.close(this.now);
+      }
+    }
+    setState(track, bar) {
+      if (bar.gone !== undefined && bar.gone !== null) return;
+      const { state } = this.run;
+      const pending = bar.at === 'head' ? headReasons(state, track.file).length > 0 : bar.at > settledUpTo(state, track.file);
+      const meta = pending ? null : metaAt(state, track.file, bar.at);
+      const label = pending ? 'pending' : `size ${meta.size} mtime ${meta.mtime} mode ${modeText(meta.mode)}`;
+      bar.band.set(this.now, label, label);
+    }
+    settle() {
+      for (const f of this.touched) {
+        const { state } = this.run;
+        const file = fileOf(state, f);
+        const track = this.track(f);
+        track.home = file.home;
+        track.held.set(this.now, file.server.held);
+        track.given.set(this.now, file.server.given);
+        track.issued.set(this.now, file.client.issued);
+        track.heldBack.set(this.now, heldBack(state, f));
+        track.dirty.set(this.now, file.dirty);
+        this.setState(track, track.head);
+        const settled = settledUpTo(state, f);
+        if (settled === track.settled) continue;
+        const low = Math.min(settled, track.settled ?? settled);
+        const high = Math.max(settled, track.settled ?? settled);
+        for (let i = track.states.length - 1; i >= 0 && track.states[i].at > low; i--) {
+          if (track.states[i].at <= high) this.setState(track, track.states[i]);
+        }
+        track.settled = settled;
+      }
+      this.touched.clear();
+    }
+  }
+
+  function deliveryText(m) {
+    switch (m.kind) {
+      case 'cap': return `cap ${m.file} ${m.seq} ${capsText(m.bits)} ${m.max}`;
+      case 'snap': return `snap ${m.number} ${m.directory}`;
+      case 'flushack': return `flushack ${m.file} ${m.tid}`;
+      case 'capack': return `capack ${m.file} ${m.seq}`;
+      default: return `flushed ${m.flush.file} ${m.flush.tid}`;
+    }
+  }
+
+  const newCounts = () => ({ entries: 0, sentToClient: 0, sentToServer: 0, deliveredToClient: 0, deliveredToServer: 0, begun: 0, ended: 0, shows: 0, showsAgreeing: 0, pendingSpans: 0, pendingEntries: 0, records: 0, durable: 0, operations: 0, differences: 0 });
+  const CHECKPOINT = 500;
+
+  // A run: the entries of a journal with all that was computed of them, once. `stateAt(n)` is the state after n entries.
+  class Run {
+    constructor(text) {
+      this.entries = parse(text);
+      this.counts = newCounts();
+      this.differences = [];
+      this.shows = [];
+      this.tracks = { arrows: [], references: [], records: [], commits: [], operations: [], files: new Map() };
+      this.checkpoints = [];
+      this.fold();
+      this.cached = copyState(this.checkpoints[0]);
+    }
+
+    fold() {
+      this.state = newState();
+      const trace = new Trace(this);
+      this.entries.forEach((entry, i) => {
+        if (i % CHECKPOINT === 0) this.checkpoints.push(copyState(this.state));
+        this.now = i + 1;
+        if (entry.event.kind === 'show') this.compare(entry, trace);
+        apply(this.state, entry, trace);
+        trace.settle();
+      });
+      if (!this.checkpoints.length) this.checkpoints.push(copyState(this.state));
+      this.count();
+    }
+
+    compare(entry, trace) {
+      const computed = computeShow(this.state, entry.event).text;
+      const agrees = computed === entry.answerText;
+      const show = { entry: this.now, file: entry.event.file, at: entry.event.at, computed, journal: entry.answerText, agrees };
+      this.shows.push(show);
+      if (!agrees) this.differences.push({ entry: this.now, kind: 'show', computed, journal: entry.answerText });
+      if (!knows(this.state, entry.event.file)) return;
+      const track = trace.track(entry.event.file);
+      const bar = entry.event.at === 'head' ? track.head : track.states.find((x) => x.at === entry.event.at);
+      if (bar) bar.shows.push(show);
+    }
+
+    count() {
+      const { counts, tracks, state } = this;
+      counts.entries = this.entries.length;
+      counts.shows = this.shows.length;
+      counts.showsAgreeing = this.shows.filter((s) => s.agrees).length;
+      counts.records = state.records.length;
+      counts.durable = state.durable;
+      counts.operations = state.operations;
+      counts.differences = this.differences.length;
+      const isPending = (span) => span.value === 'pending';
+      for (const track of tracks.files.values()) {
+        for (const bar of [track.head, ...track.states]) {
+          for (const span of bar.band.spans.filter(isPending)) {
+            counts.pendingSpans++;
+            counts.pendingEntries += Math.min(span.to, counts.entries + 1) - span.from;
+          }
+        }
+      }
+    }
+
+    stateAt(n) {
+      if (this.cached.index > n || this.cached.index + CHECKPOINT < n) {
+        const from = Math.min(Math.floor(n / CHECKPOINT), this.checkpoints.length - 1);
+        this.cached = copyState(this.checkpoints[from]);
+      }
+      while (this.cached.index < n) apply(this.cached, this.entries[this.cached.index], SILENT);
+      return this.cached;
+    }
+
+    // entry n in plain words
+    explain(n) {
+      const entry = this.entries[n - 1];
+      const event = EVENTS[entry.event.kind];
+      const before = this.stateAt(n - 1);
+      return {
+        what: event.what(entry.event),
+        why: event.answers[entry.answer.form].why(before, entry.event, entry.answer),
+        differences: this.differences.filter((d) => d.entry === n),
+      };
+    }
+
+    // the state after n entries, in short lines
+    summary(n) {
+      const s = this.stateAt(n);
+      const lines = [['Time', `${s.clock} s`]];
+      lines.push(['On its way to the client', s.toClient.map((m) => messageShort(m).join(' ')).join(', ') || 'nothing']);
+      lines.push(['On its way to the server', s.toServer.map((m) => messageShort(m).join(' ')).join(', ') || 'nothing']);
+      lines.push(['Log', `${plural(s.records.length, 'record')}, ${s.durable} durable`]);
+      lines.push(['Store', plural(s.operations, 'operation')]);
+      lines.push(['Live references', s.live.length ? shortened(s.live.map((r) => `${r.caller}/${r.number} ${capsText(r.bits)} of ${r.file}`)) : 'none']);
+      return lines;
+    }
+
+    fileSummary(n) {
+      const s = this.stateAt(n);
+      return [...s.files.values()].filter((file) => file.known).map((file) => ({
+        file: file.number,
+        given: capsText(file.server.given), held: capsText(file.server.held),
+        issued: capsText(file.client.issued), implemented: capsText(file.client.implemented),
+        used: capsText(usedOf(s, file.number)), dirty: capsText(file.dirty),
+        context: `${file.context.seq} {${shortened(file.context.snaps)}}`,
+      }));
+    }
+  }
+
+  const shortened = (list) => list.length > 6 ? `${list.slice(0, 6).join(', ')} and ${list.length - 6} more` : list.join(', ');
+
+  const model = { Run, NoJournal, EVENTS, parse, capsText, capsOf, modeText, hexText, messageShort, messageWords, recordShort, recordWords };
+  root.JournalModel = model;
+  if (typeof module !== 'undefined' && module.exports) module.exports = model;
+})(typeof globalThis !== 'undefined' ? globalThis : this);
