@@ -22,7 +22,8 @@ pub fn set_up<O: ObjStore>(
     ensures ok { IfOk result (λ a. Steps state.old state.new event.now a) }
     ensures err { OnErr result (KeepsJournal state.old state.new) }
     ensures store { store.new ≡ store.old }
-    ensures memory { OnErr result (IsErrOf result StepFault.Memory) }
+    ensures unstored { IsErrOf result StepFault.Store → ⊥ }
+    ensures unlogged { IsErrOf result StepFault.Log → ⊥ }
 {
     match state.server.setup(event)? {
         Answer::Made => {

@@ -1,0 +1,202 @@
+-- What is shown of a file, by the sides and by the store.
+use Rattle.std.proofs.Common.{◌≡◌, ◌∙◌, refl, sym, ap, ℕ, zero, suc, ◌+◌, ◌-◌, ◌<◌, ◌≤◌, ◌&&◌, ◌==◌, ◌++◌, min, Bool, true, false, cond, List, [], ◌∷◌, nat_lt, nat_le, Option, Some, None, is_some, arith}
+use Rattle.std.proofs.lemmas.Bool.{and_parts, cond-false, cond-true, cond_both, leb-true, ltb-true}
+use Rattle.std.specs.BTreeMap.{get}
+use Rattle.std.specs.List.{list_any}
+use Rattle.std.specs.Option.{option_map_or}
+use Rattle.std.specs.Ordering.{nat_cmp}
+use Rattle.cs_ids.specs.declared.objects.FileMeta.{FileMeta}
+use Rattle.cs_inode.specs.Inodes as inodes
+use Rattle.cs_tree.specs.Directories.{path_of}
+use Rattle.cs_objstore.specs.Files.{file_byte}
+use Rattle.cs_laws.specs.declared.events.Event.TheVariants as events
+use Rattle.cs_laws.specs.declared.answers.Answer.{Answer}
+use Rattle.cs_laws.specs.declared.answers.Answer.TheVariants as answers
+use Rattle.cs_laws.specs.declared.answers.Entry.{Entry}
+use Rattle.cs_laws.specs.declared.objects.At.{At}
+use Rattle.cs_laws.specs.declared.objects.At.TheVariants as at
+use Rattle.cs_laws.specs.declared.objects.ObjOp.{ObjOp}
+use Rattle.cs_laws.specs.declared.records.Record.{Record}
+use Rattle.cs_laws.specs.Answers.{answer_show, bytes_from, covers_file, is_gone, shown, standing_context, stands}
+use Rattle.cs_laws.specs.Events.{client_knows, server_knows}
+use Rattle.cs_laws.specs.Fits.{greatest_end, is_shown, is_state, most_shown}
+use Rattle.cs_laws.specs.History.{stand, writes}
+use Rattle.cs_laws.specs.Image.{image}
+use Rattle.cs_laws.specs.Metadata.{meta_at}
+use Rattle.cs_laws.specs.Operations.{applied}
+use Rattle.cs_laws.specs.Owed.{owed}
+use Rattle.cs_laws.specs.Runs.{IsRun}
+use Rattle.cs_laws.specs.Shown.{writes_at}
+use Rattle.cs_laws.specs.Standing.{dir_of, is_removed}
+use Rattle.cs_laws.specs.Tree.{server_file_path, server_home}
+use Rattle.cs_client.specs.Answers.{shown_count}
+use Rattle.cs_client.specs.Calls.{has_some}
+use Rattle.cs_client.specs.Views.{ClientView}
+use Rattle.cs_mds.specs.declared.shown.Shown.{Shown}
+use Rattle.cs_mds.specs.declared.shown.Shown.TheVariants as states
+use Rattle.cs_mds.specs.Answers.{shown_at, shown_in, shown_of, shown_of_home}
+use Rattle.cs_mds.specs.Views.{ServerView}
+use Rattle.cs_mds.specs.Views as views
+use Rattle.cs_files.specs.Said.{snapshot_of}
+use Rattle.cs_files.proofs.Owes.{owed_is}
+use Rattle.cs_theorems.proofs.Agreeing.{states_hold}
+use Rattle.cs_theorems.proofs.Covering.{covers_by, stands_dir}
+use Rattle.cs_theorems.proofs.Ends.{states_end}
+use Rattle.cs_theorems.proofs.Sizes.{meta_is}
+use Rattle.cs_world.specs.Devices.{calls_store}
+use Rattle.cs_world.specs.Parts.{ClientAt, ServerAt}
+
+-- The server has the state
+
+-- the answer by what it has
+abbrev by_shown : List Entry → ℕ → At → ℕ → ℕ → Shown → Answer
+by_shown h f a off len states.Unknown = answers.Unknown
+by_shown h f a off len states.Absent = answers.NoSnap
+by_shown h f a off len states.Gone = answers.Gone
+by_shown h f a off len (states.Meta meta) = cond (owed h f a) answers.Pending (shown meta (writes_at a (writes h f)) off len)
+
+-- what the history says that it has
+abbrev shown_by : List Entry → ℕ → At → Shown
+shown_by h f a = cond (server_knows h f) (shown_at f (stand h) (server_file_path h f) a) states.Unknown
+
+shown_is : (h : List Entry) (s : ServerView) (f : ℕ) (a : At) → ServerAt h s → shown_of s f a ≡ shown_by h f a
+shown_is h s f a i = ap (shown_of_home s f a) (i.homes f) ∙ at (server_knows h f)
+  where
+    at : (b : Bool) → shown_of_home s f a (cond b (Some (server_home h f)) None) ≡ cond b (shown_at f (stand h) (server_file_path h f) a) states.Unknown
+    at true = λ k. shown_at f (i.durable k ++ i.fresh k) (i.tree.paths (server_home h f) k) a
+    at false = refl
+
+standing_snap : (p : ℕ) (h : List Entry) (f s off len : ℕ) (o : Option ℕ) → IsRun p h → 1 ≤ s → dir_of s (stand h) ≡ o
+    → cond (stands (at.Snap s) (stand h)) (cond (is_gone (at.Snap s) (stand h)) answers.Gone
+    (cond (covers_file (at.Snap s) (standing_context h f)) (by_shown h f (at.Snap s) off len (states.Meta (meta_at f (at.Snap s) (stand h)))) answers.NoSnap)) answers.NoSnap
+    ≡ by_shown h f (at.Snap s) off len (shown_in f (stand h) (server_file_path h f) s o)
+standing_snap p h f s off len None run low is =
+    cond-false (stands (at.Snap s) (stand h)) _ answers.NoSnap (stands_dir s (stand h) ∙ ap is_some is)
+standing_snap p h f s off len (Some e) run low is =
+    cond-true (stands (at.Snap s) (stand h)) _ answers.NoSnap (stands_dir s (stand h) ∙ ap is_some is) ∙ by_removal (is_removed s (stand h)) refl
+  where
+    x : Answer
+    x = by_shown h f (at.Snap s) off len (states.Meta (meta_at f (at.Snap s) (stand h)))
+
+    by_place : (b : Bool) → cond b x answers.NoSnap ≡ by_shown h f (at.Snap s) off len (cond b (states.Meta (meta_at f (at.Snap s) (stand h))) states.Absent)
+    by_place true = refl
+    by_place false = refl
+
+    by_removal : (b : Bool) → is_removed s (stand h) ≡ b
+        → cond b answers.Gone (cond (covers_file (at.Snap s) (standing_context h f)) x answers.NoSnap)
+        ≡ by_shown h f (at.Snap s) off len (cond b states.Gone
+        (cond (list_any (λ d. d == e) (server_file_path h f)) (states.Meta (meta_at f (at.Snap s) (stand h))) states.Absent))
+    by_removal true gone = refl
+    by_removal false stays =
+        ap (λ c. cond c x answers.NoSnap) (covers_by p h f s e run low is stays) ∙ by_place (list_any (λ d. d == e) (server_file_path h f))
+
+show_known : (p : ℕ) (h : List Entry) (f : ℕ) (a : At) (off len : ℕ) → IsRun p h → is_state a ≡ true
+    → cond (stands a (stand h)) (cond (is_gone a (stand h)) answers.Gone
+    (cond (covers_file a (standing_context h f)) (by_shown h f a off len (states.Meta (meta_at f a (stand h)))) answers.NoSnap)) answers.NoSnap
+    ≡ by_shown h f a off len (shown_at f (stand h) (server_file_path h f) a)
+show_known p h f at.Head off len run state = refl
+show_known p h f (at.Snap s) off len run state = standing_snap p h f s off len (dir_of s (stand h)) run (leb-true 1 s state) refl
+
+-- the answer to a show is by what the server has
+pub show_is : (p : ℕ) (h : List Entry) (s : ServerView) (f : ℕ) (a : At) (off len : ℕ) (x : Shown) → IsRun p h → ServerAt h s → is_state a ≡ true → x ≡ shown_of s f a
+    → answer_show h f a off len ≡ by_shown h f a off len x
+show_is p h s f a off len x run i state is =
+    (ap (λ y. cond (server_knows h f) y answers.Unknown) (show_known p h f a off len run state) ∙ at (server_knows h f))
+    ∙ sym (ap (by_shown h f a off len) (is ∙ shown_is h s f a i))
+  where
+    at : (b : Bool) → cond b (by_shown h f a off len (shown_at f (stand h) (server_file_path h f) a)) answers.Unknown
+        ≡ by_shown h f a off len (cond b (shown_at f (stand h) (server_file_path h f) a) states.Unknown)
+    at true = refl
+    at false = refl
+
+-- Where it has metadata, the file is known, and it is that of the state
+
+record HasMeta (h : List Entry) (f : ℕ) (a : At) (meta : FileMeta) : Type 0 where
+  known : server_knows h f ≡ true
+  meta : meta ≡ meta_at f a (stand h)
+
+meta_in : (h : List Entry) (f : ℕ) (a : At) (meta : FileMeta) → states.Meta meta ≡ shown_at f (stand h) (server_file_path h f) a → meta ≡ meta_at f a (stand h)
+meta_in h f at.Head meta is = cc
+meta_in h f (at.Snap s) meta is = at (dir_of s (stand h)) is
+  where
+    by_place : (b : Bool) → states.Meta meta ≡ cond b (states.Meta (meta_at f (at.Snap s) (stand h))) states.Absent → meta ≡ meta_at f (at.Snap s) (stand h)
+    by_place true is = cc
+    by_place false is = absurd (cc)
+
+    by_removal : (b : Bool) (e : ℕ) → states.Meta meta ≡ cond b states.Gone (cond (list_any (λ d. d == e) (server_file_path h f)) (states.Meta (meta_at f (at.Snap s) (stand h))) states.Absent)
+        → meta ≡ meta_at f (at.Snap s) (stand h)
+    by_removal true e is = absurd (cc)
+    by_removal false e is = by_place (list_any (λ d. d == e) (server_file_path h f)) is
+
+    at : (o : Option ℕ) → states.Meta meta ≡ shown_in f (stand h) (server_file_path h f) s o → meta ≡ meta_at f (at.Snap s) (stand h)
+    at None is = absurd (cc)
+    at (Some e) is = by_removal (is_removed s (stand h)) e is
+
+has_meta : (h : List Entry) (s : ServerView) (f : ℕ) (a : At) (meta : FileMeta) → ServerAt h s → states.Meta meta ≡ shown_of s f a → HasMeta h f a meta
+has_meta h s f a meta i is = at (server_knows h f) refl (is ∙ shown_is h s f a i)
+  where
+    at : (b : Bool) → server_knows h f ≡ b → states.Meta meta ≡ cond b (shown_at f (stand h) (server_file_path h f) a) states.Unknown → HasMeta h f a meta
+    at true known is = record { known = known; meta = meta_in h f a meta is }
+    at false none is = absurd (cc)
+
+-- The client knows what is owed
+
+pub owes : (p : ℕ) (h : List Entry) (v : ClientView) (s : ServerView) (f : ℕ) (a : At) (meta : FileMeta) → IsRun p h → ClientAt h v → ServerAt h s
+    → states.Meta meta ≡ shown_of s f a → option_map_or (λ r. inodes.owed (snapshot_of a) r.inode) (get nat_cmp v.files f) true ≡ owed h f a
+owes p h v s f a meta run i j is =
+    let known : client_knows h f ≡ true = (has_meta h s f a meta j is).known in
+    rw (i.rows f, known) (sym (owed_is p h run f a known))
+
+-- What is asked of the store lies in the file
+
+count_within : (size off len : ℕ) → is_shown off len ≡ true → size ≤ greatest_end → off + shown_count size off len ≤ 1048576
+count_within size off len fit small =
+    let parts = and_parts (nat_lt off greatest_end) (nat_le 1 len && nat_le len most_shown) fit in
+    let low : off < greatest_end = ltb-true off greatest_end parts.0 in
+    omega (arith, low, small)
+
+-- the metadata of a state that isn't owed counts no more bytes than a file may have
+meta_small : (p : ℕ) (h : List Entry) (f : ℕ) (a : At) → IsRun p h → owed h f a ≡ false → (meta_at f a (stand h)).size ≤ greatest_end
+meta_small p h f a run free = rw (meta_is p h run f a free) (states_end p h run f a)
+
+pub within : (p : ℕ) (h : List Entry) (s : ServerView) (f : ℕ) (a : At) (off len : ℕ) (meta : FileMeta) → IsRun p h → ServerAt h s → states.Meta meta ≡ shown_of s f a
+    → owed h f a ≡ false → is_shown off len ≡ true → off + shown_count meta.size off len ≤ 1048576
+within p h s f a off len meta run j is free fit =
+    count_within meta.size off len fit (rw (has_meta h s f a meta j is).meta (meta_small p h f a run free))
+
+-- The store has the bytes
+
+bytes_alike : (F G : ℕ → ℕ) (off n : ℕ) → ((i : ℕ) → F i ≡ G i) → bytes_from F off n ≡ bytes_from G off n
+bytes_alike F G off zero same = refl
+bytes_alike F G off (suc n) same = rw (same off) (ap (λ bs. G off ∷ bs) (bytes_alike F G (off + 1) n same))
+
+pub stored_bytes : (p : ℕ) (h : List Entry) (f : ℕ) (a : At) (ops : List ObjOp) (off n : ℕ) → IsRun p h → ops ≡ applied h
+    → bytes_from (file_byte a f ops) off n ≡ bytes_from (image (writes_at a (writes h f))) off n
+stored_bytes p h f a ops off n run is = rw is (bytes_alike (file_byte a f (applied h)) (image (writes_at a (writes h f))) off n (λ i. states_hold p h run a f i))
+
+-- It is read where some bytes are shown
+
+none_counted : (F : ℕ → ℕ) (off n : ℕ) → has_some (bytes_from F off n) ≡ false → n ≡ 0
+none_counted F off zero none = refl
+none_counted F off (suc n) none = absurd cc
+
+some_counted : (F : ℕ → ℕ) (off n : ℕ) → nat_lt 0 n ≡ true → has_some (bytes_from F off n) ≡ true
+some_counted F off zero some = absurd cc
+some_counted F off (suc n) some = refl
+
+-- a state that isn't owed is shown
+pub shows_it : (p : ℕ) (h : List Entry) (s : ServerView) (f : ℕ) (a : At) (off len : ℕ) (meta : FileMeta) → IsRun p h → ServerAt h s → is_state a ≡ true
+    → states.Meta meta ≡ shown_of s f a → owed h f a ≡ false → answer_show h f a off len ≡ shown meta (writes_at a (writes h f)) off len
+shows_it p h s f a off len meta run j state is free =
+    show_is p h s f a off len (states.Meta meta) run j state is ∙ cond-false (owed h f a) answers.Pending _ free
+
+pub quiet_by : (p : ℕ) (h : List Entry) (f : ℕ) (a : At) (off len count : ℕ) (meta : FileMeta) → answer_show h f a off len ≡ shown meta (writes_at a (writes h f)) off len
+    → count ≡ shown_count meta.size off len → calls_store (events.Show f a off len) (answer_show h f a off len) ≡ false → count ≡ 0
+quiet_by p h f a off len count meta is counted none =
+    counted ∙ none_counted (image (writes_at a (writes h f))) off (shown_count meta.size off len) (sym (ap (λ y. calls_store (events.Show f a off len) y) is) ∙ none)
+
+pub called_by : (p : ℕ) (h : List Entry) (f : ℕ) (a : At) (off len count : ℕ) (meta : FileMeta) → answer_show h f a off len ≡ shown meta (writes_at a (writes h f)) off len
+    → count ≡ shown_count meta.size off len → nat_lt 0 count ≡ true → calls_store (events.Show f a off len) (answer_show h f a off len) ≡ true
+called_by p h f a off len count meta is counted some =
+    ap (λ y. calls_store (events.Show f a off len) y) is
+    ∙ some_counted (image (writes_at a (writes h f))) off (shown_count meta.size off len) (sym (ap (λ n. nat_lt 0 n) counted) ∙ some)
