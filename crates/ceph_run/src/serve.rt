@@ -158,7 +158,7 @@ fn run_events<K: Sink, O: ObjStore, L: MdsLog>(
     requires store { O.ops store ≡ [] }
     requires log { L.records log ≡ [] }
     requires durable { L.durable log ≡ 0 }
-    ensures ends { Ends pages (Runs events.now) result.status (K.taken sink.old) (K.taken sink.new) (K.faults sink.old) (K.faults sink.new)
+    ensures { Ends pages (Runs events.now) result.status (K.taken sink.old) (K.taken sink.new) (K.faults sink.old) (K.faults sink.new)
         (record { ops = O.ops result.store; records = L.records result.log; durable = L.durable result.log })
         (O.faults store) (O.faults result.store) (L.faults log) (L.faults result.log) }
 {

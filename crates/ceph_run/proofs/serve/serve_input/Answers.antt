@@ -3,7 +3,7 @@ use Rattle.ceph_run.proofs.Serving.{refused}
 use Rattle.ceph_run.proofs.serve.serve_input.Goals as goal
 
 pub returns-in-Runs-clause-ends : goal.returns-in-Runs-clause-ends
-returns-in-Runs-clause-ends g c = rw c.in-Runs.is (rw c.events.ensures.events at c.run_events.ensures.ends)
+returns-in-Runs-clause-ends g c = rw c.in-Runs.is (rw c.events.ensures.events at c.run_events.ensures)
 
 pub returns-in-Refused-clause-ends : goal.returns-in-Refused-clause-ends
 returns-in-Refused-clause-ends g c =
