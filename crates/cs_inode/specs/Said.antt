@@ -1,5 +1,5 @@
--- The answers of the history by what a file says.
-use Rattle.std.specs.Prelude.{ℕ, ◌+◌, Option, Some, None, nat_le, if◌then◌else◌}
+-- The answers to calls by what a file says.
+use Rattle.std.specs.Prelude.{ℕ, ◌+◌, ◌-◌, min, nat_le, if◌then◌else◌}
 use Rattle.cs_caps.specs.declared.client.Done.{Done}
 use Rattle.cs_caps.specs.declared.client.Done.TheVariants as done
 use Rattle.cs_inode.specs.declared.answers.Allow.{Allow}
@@ -13,8 +13,6 @@ use Rattle.cs_inode.specs.declared.answers.SnapStep.TheVariants as snap
 use Rattle.cs_laws.specs.declared.answers.Answer.{Answer}
 use Rattle.cs_laws.specs.declared.answers.Answer.TheVariants as answers
 use Rattle.cs_laws.specs.declared.answers.Why.TheVariants as why
-use Rattle.cs_laws.specs.declared.objects.At.{At}
-use Rattle.cs_laws.specs.declared.objects.At.TheVariants as at
 
 -- where the file allows a reference, the table of references decides; count: how many live, begun: how many the caller has begun
 abbrev pub begun_said : ℕ → ℕ → Allow → Answer
@@ -42,7 +40,6 @@ snap_said snap.None = answers.NoneQueued
 snap_said snap.Writing = answers.Writing
 snap_said (snap.Sent x) = answers.FlushSnap x.tid x.follows
 
--- the snapshot of a state, or None for the present one
-abbrev pub snapshot_of : At → Option ℕ
-snapshot_of at.Head = None
-snapshot_of (at.Snap s) = Some s
+-- how many bytes from an offset on, and no more than asked for, a file of this size has
+abbrev pub shown_count : ℕ → ℕ → ℕ → ℕ
+shown_count size off len = min len (size - off)
