@@ -3,17 +3,12 @@ use Rattle.std.proofs.Common.{◌≡◌, ◌∙◌, refl, sym, ap, ℕ, ◌+◌,
 use Rattle.std.specs.BTreeMap.{get}
 use Rattle.std.specs.Ordering.{nat_cmp}
 use Rattle.cs_bits.specs.declared.Caps.{Caps}
-use Rattle.cs_capsnap.specs.CapSnaps as kept
 use Rattle.cs_parts.specs.declared.references.Live.{Live}
 use Rattle.cs_parts.specs.References.{used_in}
 use Rattle.cs_inode.specs.declared.answers.Allow.{Allow}
-use Rattle.cs_inode.specs.declared.answers.Allow.TheVariants as allow
-use Rattle.cs_inode.specs.declared.answers.FlushStep.{FlushStep}
-use Rattle.cs_inode.specs.declared.answers.FlushStep.TheVariants as flush
-use Rattle.cs_inode.specs.declared.answers.SnapStep.{SnapStep}
-use Rattle.cs_inode.specs.declared.answers.SnapStep.TheVariants as snap
-use Rattle.cs_inode.specs.Answers.{allowance, flush_answer, flush_snaps_answer}
-use Rattle.cs_inode.specs.Inodes.{FileInode, used}
+use Rattle.cs_inode.specs.Answers.{allowance, check_answer, chmod_answer, flush_answer, flush_snaps_answer}
+use Rattle.cs_inode.specs.Inodes.{FileInode}
+use Rattle.cs_inode.specs.Said.{begun_said, check_said, chmod_said, flush_said, shown_count, snap_said}
 use Rattle.cs_laws.specs.declared.events.Event.{Event}
 use Rattle.cs_laws.specs.declared.events.Event.TheVariants as events
 use Rattle.cs_laws.specs.declared.events.RefName.{RefName}
@@ -21,25 +16,23 @@ use Rattle.cs_laws.specs.declared.answers.Answer.{Answer}
 use Rattle.cs_laws.specs.declared.answers.Answer.TheVariants as answers
 use Rattle.cs_laws.specs.declared.answers.Entry.{Entry}
 use Rattle.cs_laws.specs.declared.objects.ObjOp.{ObjOp}
-use Rattle.cs_laws.specs.Answers.{answer, answer_begin, answer_check, answer_check_of, answer_chmod, answer_chmod_on, answer_flush, answer_flush_snaps, answer_read, answer_write_on, bytes_from, may_change_mode, may_read}
-use Rattle.cs_laws.specs.CapSnaps.{is_writing}
+use Rattle.cs_laws.specs.Answers.{answer, answer_begin, answer_check, answer_chmod, answer_flush, answer_flush_snaps, answer_read, answer_write_on, bytes_from, may_change_mode, may_read}
 use Rattle.cs_laws.specs.Events.{begun, client_knows, is_setup}
-use Rattle.cs_laws.specs.History.{client, live, queued, sent}
+use Rattle.cs_laws.specs.History.{live, sent}
 use Rattle.cs_laws.specs.Operations.{applied}
 use Rattle.cs_laws.specs.References.{can_end, named}
 use Rattle.cs_laws.specs.Runs.{IsRun}
-use Rattle.cs_client.specs.Answers.{begun_answer, call_answer, clock_answer, end_answer, flushed_answer, has_writing, head_byte, of_file, read_answer, shown_count, snap_flushed_answer}
+use Rattle.cs_client.specs.Answers.{begin_answer, call_answer, check_call_answer, chmod_call_answer, clock_answer, end_answer, flush_call_answer, flush_snaps_call_answer, head_byte, of_file, read_answer}
 use Rattle.cs_client.specs.Calls.{is_call}
 use Rattle.cs_client.specs.Views.{ClientView}
-use Rattle.cs_refs.specs.Table.{RefTable, begun_of}
-use Rattle.cs_files.specs.Laws.{stored_byte}
+use Rattle.cs_refs.specs.Table.{begun_of}
 use Rattle.cs_files.specs.Rows.{inode}
-use Rattle.cs_files.specs.Said.{begun_said, flush_said, snap_said}
 use Rattle.cs_files.proofs.Begins.{begin_said}
+use Rattle.cs_files.proofs.Checks.{check_is}
+use Rattle.cs_files.proofs.Chmods.{chmod_is}
 use Rattle.cs_files.proofs.FileReads.{read_is}
 use Rattle.cs_files.proofs.Flushes.{flush_is, flush_snaps_is}
 use Rattle.cs_files.proofs.Made.{named_known}
-use Rattle.cs_theorems.proofs.QueueAnswers.{queue_writing}
 use Rattle.cs_world.specs.Parts.{ClientAt}
 use Rattle.cs_world.proofs.Rows.{row_is}
 
@@ -52,34 +45,17 @@ by_test : (b : Bool) (x y : Answer) → (b ≡ true → x ≡ y) → (b ≡ fals
 by_test true x y here away = here refl
 by_test false x y here away = away refl
 
-begun_alike : (c : ℕ) (t : RefTable) (x : Allow) → begun_answer c t x ≡ begun_said (length t.live) (begun_of c t) x
-begun_alike c t allow.NoCaps = refl
-begun_alike c t allow.Snap = refl
-begun_alike c t allow.Max = refl
-begun_alike c t (allow.Yes tag) = refl
-
-flushed_alike : (x : FlushStep) → flushed_answer x ≡ flush_said x
-flushed_alike flush.Snap = refl
-flushed_alike flush.Clean = refl
-flushed_alike (flush.Sent x) = refl
-
-snap_alike : (x : SnapStep) → snap_flushed_answer x ≡ snap_said x
-snap_alike snap.None = refl
-snap_alike snap.Writing = refl
-snap_alike (snap.Sent x) = refl
-
 module _ (p : ℕ) (h : List Entry) (run : IsRun p h) (v : ClientView) (i : ClientAt h v) where
   -- what is said of a file is said of what the history keeps of it
   of_row : (say : FileInode → Answer) (f : ℕ) → of_file say (get nat_cmp v.files f) ≡ cond (client_knows h f) (say (inode h f)) answers.Unknown
   of_row say f = ap (of_file say) (i.rows f) ∙ of_known say (client_knows h f) _ _
 
-  begin_is : (c f : ℕ) (bits : Caps) (end : ℕ) → of_file (λ j. begun_answer c v.refs (allowance bits end j)) (get nat_cmp v.files f) ≡ answer_begin h c f bits end
+  begin_is : (c f : ℕ) (bits : Caps) (end : ℕ) → begin_answer c bits end v.refs (get nat_cmp v.files f) ≡ answer_begin h c f bits end
   begin_is c f bits end =
-      let allowed : Allow = allowance bits end (inode h f) in
-      let now : begun_answer c v.refs allowed ≡ begun_said (length (live h)) (begun h c) allowed =
-      begun_alike c v.refs allowed ∙ (λ k. begun_said (length (i.live k)) (i.begun c k) allowed) in
-      of_row (λ j. begun_answer c v.refs (allowance bits end j)) f
-      ∙ by_test (client_knows h f) _ (answer_begin h c f bits end) (λ known. now ∙ sym (begin_said p h run c f bits end known)) (λ none. rw none refl)
+      of_row (λ j. begun_said (length v.refs.live) (begun_of c v.refs) (allowance bits end j)) f
+      ∙ by_test (client_knows h f) _ (answer_begin h c f bits end)
+      (λ known. (λ k. begun_said (length (i.live k)) (i.begun c k) (allowance bits end (inode h f))) ∙ sym (begin_said p h run c f bits end known))
+      (λ none. rw none refl)
 
   -- a live reference is of a file that is known
   row_of_named : (say : FileInode → Answer) (c : ℕ) (name : RefName) (r : Live) → named c name (live h) ≡ Some r
@@ -102,36 +78,38 @@ module _ (p : ℕ) (h : List Entry) (run : IsRun p h) (v : ClientView) (i : Clie
       at None here = rw here refl
       at (Some r) here = on r here (may_read r.bits) refl
 
-  -- whether a cap snap of a file that is known is writing
-  writing_is : (f : ℕ) → client_knows h f ≡ true → has_writing v.files f ≡ is_writing (live h) (queued h f)
-  writing_is f known = rw (i.rows f, known) (queue_writing p h run f)
-
-  chmod_on : (c : ℕ) (name : RefName) → answer_chmod_on (has_writing v.files) (named c name (live h)) ≡ answer_chmod h c name
+  chmod_on : (c : ℕ) (name : RefName) → chmod_call_answer (named c name (live h)) v.files ≡ answer_chmod h c name
   chmod_on c name = at (named c name (live h)) refl
     where
-      at : (o : Option Live) → named c name (live h) ≡ o → answer_chmod_on (has_writing v.files) o ≡ answer_chmod_on (λ f. is_writing (live h) (queued h f)) o
-      at None here = refl
-      at (Some r) here =
-          ap (λ b. cond (may_change_mode r.bits) (cond b (answers.Again why.Snap) answers.Done) answers.NoBit) (writing_is r.file (named_known p h run c name r here))
+      on : (r : Live) → named c name (live h) ≡ Some r → (b : Bool) → may_change_mode r.bits ≡ b
+          → cond b (of_file (λ j. chmod_said (chmod_answer j)) (get nat_cmp v.files r.file)) answers.NoBit ≡ answer_chmod h c name
+      on r here true may = row_of_named (λ j. chmod_said (chmod_answer j)) c name r here ∙ sym (chmod_is p h run c name r here may)
+      on r here false none = rw (here, none) refl
 
-  flush_on : (f : ℕ) → of_file (λ j. flushed_answer (flush_answer (v.flushes + 1) j)) (get nat_cmp v.files f) ≡ answer_flush h f
-  flush_on f =
-      of_row (λ j. flushed_answer (flush_answer (v.flushes + 1) j)) f
-      ∙ by_test (client_knows h f) _ (answer_flush h f)
-      (λ known. ap (λ n. flushed_answer (flush_answer (n + 1) (inode h f))) i.flushes ∙ (flushed_alike _ ∙ sym (flush_is p h run f known)))
-      (λ none. rw none refl)
+      at : (o : Option Live) → named c name (live h) ≡ o → chmod_call_answer o v.files ≡ answer_chmod h c name
+      at None here = rw here refl
+      at (Some r) here = on r here (may_change_mode r.bits) refl
 
-  flush_snaps_on : (f : ℕ) → of_file (λ j. snap_flushed_answer (flush_snaps_answer (v.flushes + 1) j)) (get nat_cmp v.files f) ≡ answer_flush_snaps h f
-  flush_snaps_on f =
-      of_row (λ j. snap_flushed_answer (flush_snaps_answer (v.flushes + 1) j)) f
-      ∙ by_test (client_knows h f) _ (answer_flush_snaps h f)
-      (λ known. ap (λ n. snap_flushed_answer (flush_snaps_answer (n + 1) (inode h f))) i.flushes ∙ (snap_alike _ ∙ sym (flush_snaps_is p h run f known)))
-      (λ none. rw none refl)
-
-  check_on : (f : ℕ) → of_file (λ j. answer_check_of j.caps (used (used_in f v.refs.live) j)) (get nat_cmp v.files f) ≡ answer_check h f
+  check_on : (f : ℕ) → check_call_answer f v.refs.live (get nat_cmp v.files f) ≡ answer_check h f
   check_on f =
-      of_row (λ j. answer_check_of j.caps (used (used_in f v.refs.live) j)) f
-      ∙ ap (λ rs. cond (client_knows h f) (answer_check_of (client h f) (used (used_in f rs) (inode h f))) answers.Unknown) i.live
+      of_row (λ j. check_said (check_answer (used_in f v.refs.live) j)) f
+      ∙ by_test (client_knows h f) _ (answer_check h f)
+      (λ known. ap (λ rs. check_said (check_answer (used_in f rs) (inode h f))) i.live ∙ sym (check_is h f known))
+      (λ none. rw none refl)
+
+  flush_on : (f : ℕ) → flush_call_answer v.flushes (get nat_cmp v.files f) ≡ answer_flush h f
+  flush_on f =
+      of_row (λ j. flush_said (flush_answer (v.flushes + 1) j)) f
+      ∙ by_test (client_knows h f) _ (answer_flush h f)
+      (λ known. ap (λ n. flush_said (flush_answer (n + 1) (inode h f))) i.flushes ∙ sym (flush_is p h run f known))
+      (λ none. rw none refl)
+
+  flush_snaps_on : (f : ℕ) → flush_snaps_call_answer v.flushes (get nat_cmp v.files f) ≡ answer_flush_snaps h f
+  flush_snaps_on f =
+      of_row (λ j. snap_said (flush_snaps_answer (v.flushes + 1) j)) f
+      ∙ by_test (client_knows h f) _ (answer_flush_snaps h f)
+      (λ known. ap (λ n. snap_said (flush_snaps_answer (n + 1) (inode h f))) i.flushes ∙ sym (flush_snaps_is p h run f known))
+      (λ none. rw none refl)
 
   -- the client answers as the history says
   pub call_answer_is : (active : Bool) (e : Event) (ops : List ObjOp) → is_call e ≡ true → is_setup e ≡ false → ops ≡ applied h
@@ -143,7 +121,7 @@ module _ (p : ℕ) (h : List Entry) (run : IsRun p h) (v : ClientView) (i : Clie
   call_answer_is active (events.Read c name off len) ops call later listed =
       ap (λ rs. read_answer (named c name rs) (head_byte ops) off len v.files) i.live ∙ read_on c name off len ops listed
   call_answer_is active (events.Chmod c name mode) ops call later listed =
-      ap (λ rs. answer_chmod_on (has_writing v.files) (named c name rs)) i.live ∙ chmod_on c name
+      ap (λ rs. chmod_call_answer (named c name rs) v.files) i.live ∙ chmod_on c name
   call_answer_is active (events.Check f) ops call later listed = check_on f
   call_answer_is active (events.Flush f) ops call later listed = flush_on f
   call_answer_is active (events.FlushSnaps f) ops call later listed = flush_snaps_on f

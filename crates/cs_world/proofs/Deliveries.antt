@@ -10,6 +10,7 @@ use Rattle.cs_snapctx.specs.Context.{Context}
 use Rattle.cs_snapctx.specs.Records.{with_records}
 use Rattle.cs_tree.specs.Directories.{path_of}
 use Rattle.cs_refs.specs.Table.{begun_of}
+use Rattle.cs_inode.specs.Calls.{count_needed, needs_snap_at, with_caps, with_context_at}
 use Rattle.cs_inode.specs.Inodes.{FileInode, after_ack}
 use Rattle.cs_laws.specs.declared.events.Event.{Event}
 use Rattle.cs_laws.specs.declared.events.Event.TheVariants as events
@@ -30,9 +31,9 @@ use Rattle.cs_laws.specs.Standing.{fresh_then, greatest_tid}
 use Rattle.cs_laws.specs.Tree.{client_file_path, client_home}
 use Rattle.cs_client.specs.declared.file.ClientFile.{ClientFile}
 use Rattle.cs_client.specs.Messages as client
-use Rattle.cs_client.specs.Messages.{Accepts, Delivered, delivered_row, with_caps}
+use Rattle.cs_client.specs.Messages.{Accepts, Delivered, delivered_row}
 use Rattle.cs_client.specs.Rows.{at_file}
-use Rattle.cs_client.specs.Told.{count_changed, needs_at, needs_snap_at, told_row, with_context_at}
+use Rattle.cs_client.specs.Told.{count_changed, needs_at, told_row}
 use Rattle.cs_client.specs.Views.{ClientView, Files}
 use Rattle.cs_mds.specs.Answers as server_side
 use Rattle.cs_mds.specs.Answers.{flush_sent}
@@ -40,7 +41,6 @@ use Rattle.cs_mds.specs.Served.{Served}
 use Rattle.cs_mds.specs.Views.{ServerView}
 use Rattle.cs_files.specs.Laws.{TellsNext}
 use Rattle.cs_files.specs.Rows.{inode}
-use Rattle.cs_files.specs.Steps.{count_needed}
 use Rattle.cs_files.proofs.Told.{context_told, count_is}
 use Rattle.cs_world.specs.Parts.{After, ClientAt, LinksAt, ServerAt, client_row}
 use Rattle.cs_world.proofs.Client.{TreeAt}
@@ -83,14 +83,10 @@ module _ (p : ℕ) (h : List Entry) (run : IsRun p h) (v : ClientView) (i : Clie
     needs_is : (f : ℕ) → client_knows h f ≡ true → needs f ≡ needs_snap_at (told_of f) (inode h f)
     needs_is f known = rw (i.rows f, known) (ap (λ c. needs_snap_at c (inode h f)) (context_is f))
 
-    count_alike : (fs : List ℕ) → count_changed (path_of v.tree) (with_records now v.realms) v.files fs ≡ count_needed needs fs
-    count_alike [] = refl
-    count_alike (f ∷ fs) = ap (λ n. cond (needs f) 1 0 + n) (count_alike fs)
-
     count_told : count_changed (path_of v.tree) (with_records now v.realms) v.files v.made ≡ count_made h told_of (client_files h)
     count_told =
         ap (λ fs. count_changed (path_of v.tree) (with_records now v.realms) v.files fs) i.made
-        ∙ (count_alike (reverse (client_files h)) ∙ sym (count_is p h run told_of needs needs_is))
+        ∙ sym (count_is p h run told_of needs needs_is)
 
     rows_told : (made f : ℕ) → option_map (told_row (path_of v.tree) (with_records now v.realms)) (get nat_cmp v.files f)
         ≡ row_by h events.ToClient (answers.SnapTold number realm made) f

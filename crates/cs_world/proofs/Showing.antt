@@ -7,6 +7,7 @@ use Rattle.std.specs.Option.{option_map_or}
 use Rattle.std.specs.Ordering.{nat_cmp}
 use Rattle.cs_ids.specs.declared.objects.FileMeta.{FileMeta}
 use Rattle.cs_inode.specs.Inodes as inodes
+use Rattle.cs_inode.specs.Said.{shown_count}
 use Rattle.cs_tree.specs.Directories.{path_of}
 use Rattle.cs_objstore.specs.Files.{file_byte}
 use Rattle.cs_laws.specs.declared.events.Event.TheVariants as events
@@ -29,7 +30,6 @@ use Rattle.cs_laws.specs.Runs.{IsRun}
 use Rattle.cs_laws.specs.Shown.{writes_at}
 use Rattle.cs_laws.specs.Standing.{dir_of, is_removed}
 use Rattle.cs_laws.specs.Tree.{server_file_path, server_home}
-use Rattle.cs_client.specs.Answers.{shown_count}
 use Rattle.cs_client.specs.Calls.{has_some}
 use Rattle.cs_client.specs.Views.{ClientView}
 use Rattle.cs_mds.specs.declared.shown.Shown.{Shown}
@@ -37,7 +37,7 @@ use Rattle.cs_mds.specs.declared.shown.Shown.TheVariants as states
 use Rattle.cs_mds.specs.Answers.{shown_at, shown_in, shown_of, shown_of_home}
 use Rattle.cs_mds.specs.Views.{ServerView}
 use Rattle.cs_mds.specs.Views as views
-use Rattle.cs_files.specs.Said.{snapshot_of}
+use Rattle.cs_files.specs.Laws.{snapshot_of}
 use Rattle.cs_files.proofs.Owes.{owed_is}
 use Rattle.cs_theorems.proofs.Agreeing.{states_hold}
 use Rattle.cs_theorems.proofs.Covering.{covers_by, stands_dir}

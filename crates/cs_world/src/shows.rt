@@ -1,10 +1,10 @@
 // What the server's records and the store hold of a file.
-ghost use Rattle.std.specs.Prelude.{◌≡◌, ◌-◌, true, min, IfOk, OnErr, IsErrOf};
+ghost use Rattle.std.specs.Prelude.{◌≡◌, true, IfOk, IsErrOf};
 ghost use Rattle.cs_laws.specs.declared.events.Event.TheVariants as events;
 ghost use Rattle.cs_laws.specs.Fits.{fits};
 ghost use Rattle.cs_laws.specs.Operations.{applied};
-ghost use Rattle.cs_client.specs.Answers.{shown_count};
-ghost use Rattle.cs_files.specs.Said.{snapshot_of};
+ghost use Rattle.cs_files.specs.Laws.{snapshot_of};
+ghost use Rattle.cs_inode.specs.Said.{shown_count};
 ghost use Rattle.cs_world.specs.Devices.{StoreOf};
 ghost use Rattle.cs_world.specs.Tables.{IsReady, Steps, past};
 
