@@ -1,9 +1,7 @@
 -- The rows of files that the client keeps follow the history.
 use Rattle.std.proofs.Common.{◌≡◌, ◌∙◌, refl, sym, ap, subst, ℕ, ◌+◌, ◌==◌, Bool, true, false, cond, List, ◌∷◌, length, Option, Some, None, is_some}
 use Rattle.std.proofs.lemmas.Bool.{eqb-true}
-use Rattle.std.specs.BTreeMap.{get}
 use Rattle.std.specs.Option.{option_map}
-use Rattle.std.specs.Ordering.{nat_cmp}
 use Rattle.cs_parts.specs.declared.references.Live.{Live}
 use Rattle.cs_inode.specs.Calls.{acked, started, stopped}
 use Rattle.cs_inode.specs.Inodes.{FileInode, after_flush, after_flush_snaps, new_inode, with_mode, written}

@@ -1,11 +1,10 @@
 -- The client answers a call as the history says.
-use Rattle.std.proofs.Common.{◌≡◌, ◌∙◌, refl, sym, ap, ℕ, ◌+◌, ◌-◌, ◌==◌, min, Bool, true, false, cond, List, length, Option, Some, None}
+use Rattle.std.proofs.Common.{◌≡◌, ◌∙◌, refl, sym, ap, ℕ, ◌+◌, Bool, true, false, cond, List, length, Option, Some, None}
 use Rattle.std.specs.BTreeMap.{get}
 use Rattle.std.specs.Ordering.{nat_cmp}
 use Rattle.cs_bits.specs.declared.Caps.{Caps}
 use Rattle.cs_parts.specs.declared.references.Live.{Live}
 use Rattle.cs_parts.specs.References.{used_in}
-use Rattle.cs_inode.specs.declared.answers.Allow.{Allow}
 use Rattle.cs_inode.specs.Answers.{allowance, check_answer, chmod_answer, flush_answer, flush_snaps_answer}
 use Rattle.cs_inode.specs.Inodes.{FileInode}
 use Rattle.cs_inode.specs.Said.{begun_said, check_said, chmod_said, flush_said, shown_count, snap_said}
@@ -17,8 +16,8 @@ use Rattle.cs_laws.specs.declared.answers.Answer.TheVariants as answers
 use Rattle.cs_laws.specs.declared.answers.Entry.{Entry}
 use Rattle.cs_laws.specs.declared.objects.ObjOp.{ObjOp}
 use Rattle.cs_laws.specs.Answers.{answer, answer_begin, answer_check, answer_chmod, answer_flush, answer_flush_snaps, answer_read, answer_write_on, bytes_from, may_change_mode, may_read}
-use Rattle.cs_laws.specs.Events.{begun, client_knows, is_setup}
-use Rattle.cs_laws.specs.History.{live, sent}
+use Rattle.cs_laws.specs.Events.{client_knows, is_setup}
+use Rattle.cs_laws.specs.History.{live}
 use Rattle.cs_laws.specs.Operations.{applied}
 use Rattle.cs_laws.specs.References.{can_end, named}
 use Rattle.cs_laws.specs.Runs.{IsRun}

@@ -1,5 +1,5 @@
 -- The parts after a delivery.
-use Rattle.std.proofs.Common.{◌≡◌, ◌∙◌, refl, sym, ap, subst, ℕ, ◌+◌, ◌==◌, Bool, true, false, cond, List, [], ◌∷◌, ◌++◌, drop, length, nat_lt, reverse, Option, Some, None}
+use Rattle.std.proofs.Common.{◌≡◌, ◌∙◌, refl, sym, ap, subst, ℕ, ◌==◌, Bool, true, false, cond, List, [], ◌∷◌, ◌++◌, drop, nat_lt, Some, None}
 use Rattle.std.proofs.lemmas.Bool.{true≢false}
 use Rattle.std.proofs.lemmas.List.{append-nil}
 use Rattle.std.specs.BTreeMap.{get}
@@ -10,22 +10,20 @@ use Rattle.cs_snapctx.specs.Context.{Context}
 use Rattle.cs_snapctx.specs.Records.{with_records}
 use Rattle.cs_tree.specs.Directories.{path_of}
 use Rattle.cs_refs.specs.Table.{begun_of}
-use Rattle.cs_inode.specs.Calls.{count_needed, needs_snap_at, with_caps, with_context_at}
-use Rattle.cs_inode.specs.Inodes.{FileInode, after_ack}
-use Rattle.cs_laws.specs.declared.events.Event.{Event}
+use Rattle.cs_inode.specs.Calls.{needs_snap_at, with_caps, with_context_at}
+use Rattle.cs_inode.specs.Inodes.{after_ack}
 use Rattle.cs_laws.specs.declared.events.Event.TheVariants as events
 use Rattle.cs_laws.specs.declared.answers.Answer.{Answer}
 use Rattle.cs_laws.specs.declared.answers.Answer.TheVariants as answers
 use Rattle.cs_laws.specs.declared.answers.Entry.{Entry}
 use Rattle.cs_laws.specs.declared.messages.Message.{Message}
 use Rattle.cs_laws.specs.declared.messages.Message.TheVariants as messages
-use Rattle.cs_laws.specs.declared.records.Record.{Record}
-use Rattle.cs_laws.specs.Answers.{answer, answer_flushed, answer_received, answer_told, answer_to_client_of, answer_to_mds_of, count_made, held_after}
+use Rattle.cs_laws.specs.Answers.{answer, answer_flushed, answer_received, answer_to_client_of, answer_to_mds_of, count_made, held_after}
 use Rattle.cs_laws.specs.Carried.{is_for_client, realms_of}
 use Rattle.cs_laws.specs.Context.{path_context, with_first}
 use Rattle.cs_laws.specs.Events.{client_files, client_knows}
-use Rattle.cs_laws.specs.Flight.{to_client_then, to_server_then}
-use Rattle.cs_laws.specs.History.{context, durable, fresh, present, realms, server, snap, stand, to_client, to_server}
+use Rattle.cs_laws.specs.Flight.{to_client_then}
+use Rattle.cs_laws.specs.History.{context, durable, fresh, realms, server, stand, to_client, to_server}
 use Rattle.cs_laws.specs.Runs.{IsRun}
 use Rattle.cs_laws.specs.Standing.{fresh_then, greatest_tid}
 use Rattle.cs_laws.specs.Tree.{client_file_path, client_home}
@@ -34,18 +32,17 @@ use Rattle.cs_client.specs.Messages as client
 use Rattle.cs_client.specs.Messages.{Accepts, Delivered, delivered_row}
 use Rattle.cs_client.specs.Rows.{at_file}
 use Rattle.cs_client.specs.Told.{count_changed, needs_at, told_row}
-use Rattle.cs_client.specs.Views.{ClientView, Files}
+use Rattle.cs_client.specs.Views.{ClientView}
 use Rattle.cs_mds.specs.Answers as server_side
 use Rattle.cs_mds.specs.Answers.{flush_sent}
 use Rattle.cs_mds.specs.Served.{Served}
 use Rattle.cs_mds.specs.Views.{ServerView}
-use Rattle.cs_files.specs.Laws.{TellsNext}
 use Rattle.cs_files.specs.Rows.{inode}
 use Rattle.cs_files.proofs.Told.{context_told, count_is}
-use Rattle.cs_world.specs.Parts.{After, ClientAt, LinksAt, ServerAt, client_row}
+use Rattle.cs_world.specs.Parts.{After, ClientAt, ServerAt}
 use Rattle.cs_world.proofs.Client.{TreeAt}
-use Rattle.cs_world.proofs.Rows.{all_known, at_known, row_by, row_is_by}
-use Rattle.cs_world.proofs.Server.{server_after, stands}
+use Rattle.cs_world.proofs.Rows.{at_known, row_by, row_is_by}
+use Rattle.cs_world.proofs.Serves.{server_after, stands}
 
 abbrev delivered : Answer → List Entry → List Entry
 delivered a h = record { event = events.ToClient; answer = a } ∷ h

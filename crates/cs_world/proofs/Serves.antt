@@ -1,10 +1,9 @@
 -- The server answers as the history says, and stands for it afterwards.
-use Rattle.std.proofs.Common.{◌≡◌, ◌∙◌, refl, sym, ap, ℕ, ◌+◌, ◌<◌, ◌==◌, ◌||◌, Bool, true, false, cond, List, [], ◌∷◌, ◌++◌, length, Option, Some, None, is_some, arith}
+use Rattle.std.proofs.Common.{◌≡◌, ◌∙◌, refl, ap, ℕ, ◌+◌, ◌<◌, ◌==◌, ◌||◌, Bool, true, false, cond, List, [], ◌∷◌, ◌++◌, length, Some, None, is_some, arith}
 use Rattle.std.specs.BTreeMap.{get}
 use Rattle.std.specs.Ordering.{nat_cmp}
-use Rattle.cs_bits.specs.declared.Caps.{Caps}
 use Rattle.cs_parts.specs.Capabilities.{granted, revoked}
-use Rattle.cs_tree.specs.Directories.{has_directory, path_of}
+use Rattle.cs_tree.specs.Directories.{path_of}
 use Rattle.cs_laws.specs.declared.events.Event.{Event}
 use Rattle.cs_laws.specs.declared.events.Event.TheVariants as events
 use Rattle.cs_laws.specs.declared.answers.Answer.{Answer}
@@ -15,17 +14,17 @@ use Rattle.cs_laws.specs.declared.records.Record.{Record}
 use Rattle.cs_laws.specs.Answers.{answer, sent_cap}
 use Rattle.cs_laws.specs.Capabilities.{server_then}
 use Rattle.cs_laws.specs.Events.{server_knows, setup_file, setup_file_then}
-use Rattle.cs_laws.specs.History.{durable, fresh, server, stand, to_server}
+use Rattle.cs_laws.specs.History.{fresh, stand, to_server}
 use Rattle.cs_laws.specs.Runs.{IsRun}
-use Rattle.cs_laws.specs.Standing.{durable_then, fresh_then, greatest_number, has_snap, has_snap_named, is_removed}
-use Rattle.cs_laws.specs.Tree.{directories_then, home, home_then, path, path_then, server_dir, setup_dir, setup_dir_then}
-use Rattle.cs_mds.specs.Answers.{is_in_use, made_answer, remove_answer, served_answer, snap_answer}
+use Rattle.cs_laws.specs.Standing.{durable_then, fresh_then, greatest_number, has_snap_named}
+use Rattle.cs_laws.specs.Tree.{directories_then, home, home_then, path, path_then, setup_dir, setup_dir_then}
+use Rattle.cs_mds.specs.Answers.{made_answer, remove_answer, served_answer}
 use Rattle.cs_mds.specs.Served.{Served, home_after}
 use Rattle.cs_mds.specs.Views.{ServerView}
 use Rattle.cs_mds.specs.Views as views
 use Rattle.cs_theorems.proofs.Counts.{fresh_few, snaps_few}
 use Rattle.cs_theorems.proofs.Growth.{server_seq_small}
-use Rattle.cs_world.specs.Parts.{ServerAt, server_home_of}
+use Rattle.cs_world.specs.Parts.{ServerAt}
 use Rattle.cs_world.specs.Serving.{HasNumber, is_served}
 
 some_home : (b : Bool) (d : ℕ) → is_some (cond b (Some d) None) ≡ b
@@ -102,4 +101,10 @@ server_after h s t e a q news i c = record {
 -- an event of the server's own records no message
 pub no_message : (e : Event) (a : Answer) (q : List Message) (rs : List Record) → is_served e ≡ true → fresh_then e a [] rs ≡ fresh_then e a q rs
 no_message events.ToMds a q rs is = absurd (cc)
-no_message _ _ q rs is = refl
+no_message (events.Snap d name) (answers.Snap number) q rs is = refl
+no_message (events.Snap d name) _ q rs is = refl
+no_message (events.RmSnap s) (answers.Removed t number) q rs is = refl
+no_message (events.RmSnap s) _ q rs is = refl
+no_message events.Commit (answers.Commit count) q rs is = refl
+no_message events.Commit _ q rs is = refl
+no_message _ a q rs is = refl
