@@ -7,6 +7,7 @@ use Rattle.std.specs.Cmp.Lexicographic.{pointwise}
 use Rattle.std.specs.Option.{option_map}
 use Rattle.std.specs.Ordering.{nat_cmp}
 use mir.Val.{bool_byte}
+use Rattle.cs_inode.specs.Calls.{with_context_at}
 use Rattle.cs_inode.specs.Inodes.{FileInode, with_context}
 use Rattle.cs_laws.specs.Context.{differs}
 use Rattle.cs_realms.proofs.Renewing.{equal_contexts}
@@ -15,7 +16,7 @@ use Rattle.cs_snapctx.specs.declared.realm.RealmRecord.{RealmRecord}
 use Rattle.cs_tree.specs.declared.directories.Directory.{Directory}
 use Rattle.cs_tree.specs.Directories.{path_of}
 use Rattle.cs_client.specs.declared.file.ClientFile.{ClientFile}
-use Rattle.cs_client.specs.Told.{ChangesAll, ChangesRow, ContextsRise, FilesStay, RisesIn, StaysIn, count_changed, needs_at, told_context, told_row, with_context_at}
+use Rattle.cs_client.specs.Told.{ChangesAll, ChangesRow, ContextsRise, FilesStay, RisesIn, StaysIn, count_changed, needs_at, told_context, told_row}
 use Rattle.cs_client.specs.Views.{ContextsFollow, Files, is_among, is_kept}
 
 -- of a file that isn't kept there is nothing to change

@@ -9,6 +9,7 @@ use Rattle.std.specs.Ordering.{nat_cmp}
 use Rattle.cs_bits.specs.declared.Caps.{Caps}
 use Rattle.cs_capsnap.proofs.Changes.{greatest_finished}
 use Rattle.cs_capsnap.specs.CapSnaps as snaps
+use Rattle.cs_inode.specs.Calls.{started, stopped}
 use Rattle.cs_inode.specs.Inodes.{FileInode, with_writer, without_writer}
 use Rattle.cs_laws.specs.declared.events.RefName.{RefName}
 use Rattle.cs_laws.specs.declared.events.RefName.TheVariants as names
@@ -17,7 +18,6 @@ use Rattle.cs_laws.specs.References.{named}
 use Rattle.cs_parts.specs.declared.references.Live.{Live}
 use Rattle.cs_parts.specs.References.{has_ref, is_ref, is_writer_of, ref_named, without_ref}
 use Rattle.cs_refs.specs.Table.{writers_of}
-use Rattle.cs_client.specs.Rows.{started, stopped}
 use Rattle.cs_client.specs.Views.{Files, HaveTables, IsRow, is_kept, is_used}
 
 pub writers_few : (g : ℕ) (rs : List Live) → writers_of g rs ≤ length rs

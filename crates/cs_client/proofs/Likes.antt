@@ -8,12 +8,12 @@ use Rattle.cs_flush.proofs.Rising.{greatest_acked, greatest_started}
 use Rattle.cs_flush.specs.Flushes as flushes
 use Rattle.cs_inode.specs.declared.answers.ChmodStep.TheVariants as chmod
 use Rattle.cs_inode.specs.Answers.{chmod_answer}
+use Rattle.cs_inode.specs.Calls.{with_context_at}
 use Rattle.cs_inode.specs.Inodes.{FileInode, after_ack, after_chmod, after_flush, after_flush_snaps, is_dirty, needs_snap, with_context, with_mode, written}
 use Rattle.cs_laws.specs.Context.{differs}
 use Rattle.cs_laws.specs.Fits.{greatest_end}
 use Rattle.cs_parts.specs.declared.references.Live.{Live}
 use Rattle.cs_snapctx.specs.Context.{Context}
-use Rattle.cs_client.specs.Told.{with_context_at}
 use Rattle.cs_client.specs.Views.{IsLike, IsRow}
 
 pub like_self : (i : FileInode) → IsLike i i

@@ -15,9 +15,10 @@ use Rattle.cs_inode.specs.declared.answers.FlushStep.TheVariants as flush
 use Rattle.cs_inode.specs.declared.answers.SnapStep.{SnapStep}
 use Rattle.cs_inode.specs.declared.answers.SnapStep.TheVariants as snap
 use Rattle.cs_inode.specs.Answers.{flush_answer, flush_snaps_answer, flush_snaps_answer_of}
+use Rattle.cs_inode.specs.Calls.{acked}
 use Rattle.cs_inode.specs.Inodes.{FileInode, after_flush, after_flush_snaps, is_dirty}
 use Rattle.cs_client.specs.declared.file.ClientFile.{ClientFile}
-use Rattle.cs_client.specs.Rows.{acked, done_row, flush_row, snap_row}
+use Rattle.cs_client.specs.Rows.{done_row, flush_row, snap_row}
 use Rattle.cs_client.specs.Views.{Files}
 use Rattle.cs_client.proofs.Puts.{Puts, put_at, put_same}
 

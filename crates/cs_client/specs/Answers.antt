@@ -1,29 +1,21 @@
 -- What the client answers to a call, by tests in the order in which they are made.
-use Rattle.std.specs.Prelude.{ℕ, ◌+◌, ◌-◌, min, Bool, false, List, Option, Some, None, length, nat_le, nat_lt, if◌then◌else◌}
+use Rattle.std.specs.Prelude.{ℕ, ◌+◌, Bool, List, Option, Some, None, length, nat_lt, if◌then◌else◌}
 use Rattle.std.specs.BTreeMap.{get}
-use Rattle.std.specs.Option.{option_map_or}
 use Rattle.std.specs.Ordering.{nat_cmp}
 use Rattle.cs_bits.specs.declared.Caps.{Caps}
 use Rattle.cs_parts.specs.declared.references.Live.{Live}
 use Rattle.cs_parts.specs.References.{used_in}
-use Rattle.cs_capsnap.specs.CapSnaps.{is_writing}
 use Rattle.cs_refs.specs.Table.{RefTable, begun_of}
-use Rattle.cs_inode.specs.declared.answers.Allow.{Allow}
-use Rattle.cs_inode.specs.declared.answers.Allow.TheVariants as allow
-use Rattle.cs_inode.specs.declared.answers.FlushStep.{FlushStep}
-use Rattle.cs_inode.specs.declared.answers.FlushStep.TheVariants as flush
-use Rattle.cs_inode.specs.declared.answers.SnapStep.{SnapStep}
-use Rattle.cs_inode.specs.declared.answers.SnapStep.TheVariants as snap
-use Rattle.cs_inode.specs.Answers.{allowance, flush_answer, flush_snaps_answer}
-use Rattle.cs_inode.specs.Inodes.{FileInode, used}
+use Rattle.cs_inode.specs.Answers.{allowance, check_answer, chmod_answer, flush_answer, flush_snaps_answer}
+use Rattle.cs_inode.specs.Inodes.{FileInode}
+use Rattle.cs_inode.specs.Said.{begun_said, check_said, chmod_said, flush_said, shown_count, snap_said}
 use Rattle.cs_laws.specs.declared.events.Event.{Event}
 use Rattle.cs_laws.specs.declared.events.Event.TheVariants as events
 use Rattle.cs_laws.specs.declared.answers.Answer.{Answer}
 use Rattle.cs_laws.specs.declared.answers.Answer.TheVariants as answers
-use Rattle.cs_laws.specs.declared.answers.Why.TheVariants as why
 use Rattle.cs_laws.specs.declared.objects.At.TheVariants as at
 use Rattle.cs_laws.specs.declared.objects.ObjOp.{ObjOp}
-use Rattle.cs_laws.specs.Answers.{answer_check_of, answer_chmod_on, answer_write_on, bytes_from, may_read}
+use Rattle.cs_laws.specs.Answers.{answer_write_on, bytes_from, may_change_mode, may_read}
 use Rattle.cs_laws.specs.References.{can_end, named}
 use Rattle.cs_objstore.specs.Files.{file_byte}
 use Rattle.cs_client.specs.declared.file.ClientFile.{ClientFile}
@@ -37,22 +29,11 @@ of_file say (Some r) = say r.inode
 abbrev pub clock_answer : ℕ → ℕ → Answer
 clock_answer t clock = if nat_lt t clock then answers.Back else answers.Now t
 
--- by what the file allows, and then by whether the table has room
-abbrev pub begun_answer : ℕ → RefTable → Allow → Answer
-begun_answer caller t allow.NoCaps = answers.Again why.Caps
-begun_answer caller t allow.Snap = answers.Again why.Snap
-begun_answer caller t allow.Max = answers.Again why.Max
-begun_answer caller t (allow.Yes tag) = if nat_le 256 (length t.live) then answers.Full else answers.Ref (begun_of caller t + 1)
-
 abbrev pub begin_answer : ℕ → Caps → ℕ → RefTable → Option ClientFile → Answer
-begin_answer caller bits end t row = of_file (λ i. begun_answer caller t (allowance bits end i)) row
+begin_answer caller bits end t row = of_file (λ i. begun_said (length t.live) (begun_of caller t) (allowance bits end i)) row
 
 abbrev pub end_answer : Bool → Answer
 end_answer can = if can then answers.Ended else answers.Unknown
-
--- how many bytes from an offset on, and no more than asked for, a file of this size has
-abbrev pub shown_count : ℕ → ℕ → ℕ → ℕ
-shown_count size off len = min len (size - off)
 
 -- the byte at place i of file f, by the head of a store to which these operations were applied
 abbrev pub head_byte : List ObjOp → ℕ → ℕ → ℕ
@@ -66,29 +47,20 @@ read_answer (Some r) head off len files =
     of_file (λ i. answers.Bytes (bytes_from (head r.file) off (shown_count i.meta.size off len))) (get nat_cmp files r.file)
     else answers.NoBit
 
--- a cap snap of the file is writing
-abbrev pub has_writing : Files → ℕ → Bool
-has_writing files f = option_map_or (λ r. is_writing r.inode.snaps) (get nat_cmp files f) false
+abbrev pub chmod_call_answer : Option Live → Files → Answer
+chmod_call_answer None files = answers.Unknown
+chmod_call_answer (Some r) files =
+    if may_change_mode r.bits then of_file (λ i. chmod_said (chmod_answer i)) (get nat_cmp files r.file) else answers.NoBit
 
 abbrev pub check_call_answer : ℕ → List Live → Option ClientFile → Answer
-check_call_answer f rs row = of_file (λ i. answer_check_of i.caps (used (used_in f rs) i)) row
-
-abbrev pub flushed_answer : FlushStep → Answer
-flushed_answer flush.Snap = answers.Again why.Snap
-flushed_answer flush.Clean = answers.Clean
-flushed_answer (flush.Sent x) = answers.Flush x.tid
+check_call_answer f rs row = of_file (λ i. check_said (check_answer (used_in f rs) i)) row
 
 -- count: how many numbers of flushes were drawn
 abbrev pub flush_call_answer : ℕ → Option ClientFile → Answer
-flush_call_answer count row = of_file (λ i. flushed_answer (flush_answer (count + 1) i)) row
-
-abbrev pub snap_flushed_answer : SnapStep → Answer
-snap_flushed_answer snap.None = answers.NoneQueued
-snap_flushed_answer snap.Writing = answers.Writing
-snap_flushed_answer (snap.Sent x) = answers.FlushSnap x.tid x.follows
+flush_call_answer count row = of_file (λ i. flush_said (flush_answer (count + 1) i)) row
 
 abbrev pub flush_snaps_call_answer : ℕ → Option ClientFile → Answer
-flush_snaps_call_answer count row = of_file (λ i. snap_flushed_answer (flush_snaps_answer (count + 1) i)) row
+flush_snaps_call_answer count row = of_file (λ i. snap_said (flush_snaps_answer (count + 1) i)) row
 
 -- The answer to a call, whether the session is active or not: it always is yet. A directory or a file of which the client is
 -- told is new to it.
@@ -100,7 +72,7 @@ call_answer v active head (events.Begin caller f bits end) = begin_answer caller
 call_answer v active head (events.End caller name) = end_answer (can_end caller name v.refs.live)
 call_answer v active head (events.Write caller name off bytes) = answer_write_on (named caller name v.refs.live) off (length bytes)
 call_answer v active head (events.Read caller name off len) = read_answer (named caller name v.refs.live) head off len v.files
-call_answer v active head (events.Chmod caller name mode) = answer_chmod_on (has_writing v.files) (named caller name v.refs.live)
+call_answer v active head (events.Chmod caller name mode) = chmod_call_answer (named caller name v.refs.live) v.files
 call_answer v active head (events.Check f) = check_call_answer f v.refs.live (get nat_cmp v.files f)
 call_answer v active head (events.Flush f) = flush_call_answer v.flushes (get nat_cmp v.files f)
 call_answer v active head (events.FlushSnaps f) = flush_snaps_call_answer v.flushes (get nat_cmp v.files f)

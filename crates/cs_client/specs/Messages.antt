@@ -3,12 +3,11 @@ use Rattle.std.specs.Prelude.{◌≡◌, ℕ, ◌≤◌, true, List, [], ◌∷�
 use Rattle.std.specs.BTreeMap.{get}
 use Rattle.std.specs.Option.{option_map}
 use Rattle.std.specs.Ordering.{nat_cmp}
-use Rattle.cs_parts.specs.Capabilities.{delivered}
 use Rattle.cs_snapctx.specs.declared.realm.RealmRecord.{RealmRecord}
 use Rattle.cs_snapctx.specs.Records.{missing_parent, with_record, with_records}
 use Rattle.cs_tree.specs.Directories.{path_of}
-use Rattle.cs_inode.specs.Inodes.{FileInode, after_ack}
-use Rattle.cs_bits.specs.declared.Caps.{Caps}
+use Rattle.cs_inode.specs.Calls.{with_caps}
+use Rattle.cs_inode.specs.Inodes.{after_ack}
 use Rattle.cs_laws.specs.declared.answers.Answer.{Answer}
 use Rattle.cs_laws.specs.declared.answers.Answer.TheVariants as answers
 use Rattle.cs_laws.specs.declared.messages.Message.{Message}
@@ -53,9 +52,6 @@ message_answer v (messages.Snap number realm told) =
 message_answer v _ = answers.Idle
 
 -- What it leaves
-
-abbrev pub with_caps : Caps → ℕ → ℕ → FileInode → FileInode
-with_caps bits seq end i = record i { caps = delivered i.caps bits seq end }
 
 -- the row of f; v: the client before the delivery
 abbrev pub delivered_row : Message → ClientView → ℕ → Option ClientFile

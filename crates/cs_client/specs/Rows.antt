@@ -5,7 +5,6 @@ use Rattle.std.specs.Option.{option_map}
 use Rattle.std.specs.Ordering.{nat_cmp}
 use Rattle.cs_bits.specs.declared.Caps.{Caps}
 use Rattle.cs_parts.specs.declared.references.Live.{Live}
-use Rattle.cs_parts.specs.Capabilities.{acknowledged}
 use Rattle.cs_snapctx.specs.Context.{Context}
 use Rattle.cs_caps.specs.declared.client.Done.{Done}
 use Rattle.cs_caps.specs.declared.client.Done.TheVariants as done
@@ -13,12 +12,12 @@ use Rattle.cs_inode.specs.declared.answers.FlushStep.{FlushStep}
 use Rattle.cs_inode.specs.declared.answers.FlushStep.TheVariants as flush
 use Rattle.cs_inode.specs.declared.answers.SnapStep.{SnapStep}
 use Rattle.cs_inode.specs.declared.answers.SnapStep.TheVariants as snap
-use Rattle.cs_inode.specs.Inodes.{FileInode, after_flush, after_flush_snaps, new_inode, with_mode, with_writer, without_writer, written}
+use Rattle.cs_inode.specs.Calls.{acked, started, stopped}
+use Rattle.cs_inode.specs.Inodes.{FileInode, after_flush, after_flush_snaps, new_inode, with_mode, written}
 use Rattle.cs_laws.specs.declared.events.Event.{Event}
 use Rattle.cs_laws.specs.declared.events.Event.TheVariants as events
 use Rattle.cs_laws.specs.declared.answers.Answer.{Answer}
 use Rattle.cs_laws.specs.declared.answers.Answer.TheVariants as answers
-use Rattle.cs_laws.specs.Answers.{may_write}
 use Rattle.cs_laws.specs.References.{named}
 use Rattle.cs_client.specs.declared.file.ClientFile.{ClientFile}
 use Rattle.cs_client.specs.Contexts.{home_context}
@@ -39,19 +38,6 @@ at_file g go f row = if g == f then option_map (with_inode go) row else row
 abbrev pub at_ref : Option Live → (Live → FileInode → FileInode) → ℕ → Option ClientFile → Option ClientFile
 at_ref None go f row = row
 at_ref (Some r) go f row = at_file r.file (go r) f row
-
--- The file
-
--- a reference with these bits begins, or ends
-abbrev pub started : Caps → FileInode → FileInode
-started bits i = if may_write bits then with_writer i else i
-
-abbrev pub stopped : Caps → FileInode → FileInode
-stopped bits i = if may_write bits then without_writer i else i
-
--- the client has only these bits from now on
-abbrev pub acked : ℕ → Caps → FileInode → FileInode
-acked seq bits i = record i { caps = acknowledged i.caps bits seq }
 
 -- The row of f, by what the file says
 

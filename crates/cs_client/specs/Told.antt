@@ -1,6 +1,6 @@
 -- The files' contexts follow the realms of which the client is told: up has the path of each directory, and ts are the realms'
 -- last records.
-use Rattle.std.specs.Prelude.{◌≡◌, ℕ, ◌+◌, ◌<◌, ◌==◌, ◌&&◌, Bool, true, false, List, [], ◌∷◌, Option, Some, None, if◌then◌else◌}
+use Rattle.std.specs.Prelude.{◌≡◌, ℕ, ◌<◌, ◌==◌, Bool, true, false, List, Option, Some, None, if◌then◌else◌}
 use Rattle.std.specs.BTreeMap.{get}
 use Rattle.std.specs.List.{list_any}
 use Rattle.std.specs.Option.{option_map, option_map_or}
@@ -8,21 +8,13 @@ use Rattle.std.specs.Ordering.{nat_cmp}
 use Rattle.cs_snapctx.specs.declared.realm.RealmRecord.{RealmRecord}
 use Rattle.cs_snapctx.specs.Context.{Context}
 use Rattle.cs_snapctx.specs.Contexts.{context}
-use Rattle.cs_inode.specs.Inodes.{FileInode, needs_snap, with_context}
+use Rattle.cs_inode.specs.Calls.{count_needed, needs_snap_at, with_context_at}
 use Rattle.cs_laws.specs.Context.{differs, path_context}
 use Rattle.cs_client.specs.declared.file.ClientFile.{ClientFile}
 use Rattle.cs_client.specs.Rows.{with_inode}
 use Rattle.cs_client.specs.Views.{Files, is_among}
 
 -- A file
-
--- whether a file gets a cap snap where its context becomes this one, or stays
-abbrev pub needs_snap_at : Context → FileInode → Bool
-needs_snap_at new i = differs i.context new && needs_snap i
-
--- and what is kept of it then
-abbrev pub with_context_at : Context → FileInode → FileInode
-with_context_at new i = if differs i.context new then with_context new i else i
 
 abbrev pub told_context : (ℕ → List ℕ) → List RealmRecord → ClientFile → Context
 told_context up ts r = path_context (up r.home) ts
@@ -48,8 +40,7 @@ needs_at up ts row = option_map_or (needs_told up ts) row false
 
 -- how many of these files get a cap snap
 abbrev pub count_changed : (ℕ → List ℕ) → List RealmRecord → Files → List ℕ → ℕ
-count_changed up ts old [] = 0
-count_changed up ts old (f ∷ fs) = (if needs_at up ts (get nat_cmp old f) then 1 else 0) + count_changed up ts old fs
+count_changed up ts old fs = count_needed (λ f. needs_at up ts (get nat_cmp old f)) fs
 
 -- one file's row is changed, if the table has it; needed: whether it got a cap snap
 pub record ChangesRow (up : ℕ → List ℕ) (ts : List RealmRecord) (old new : Files) (g : ℕ) (needed : Bool) : Type 0 where

@@ -7,12 +7,12 @@ ghost use Rattle.cs_inode.specs.Inodes.{owed};
 ghost use Rattle.cs_laws.specs.declared.answers.Answer.TheVariants as answers;
 ghost use Rattle.cs_laws.specs.declared.events.Event.TheVariants as events;
 ghost use Rattle.cs_laws.specs.declared.messages.Message.TheVariants as messages;
-ghost use Rattle.cs_laws.specs.Answers.{answer_chmod_on, answer_write_on};
+ghost use Rattle.cs_laws.specs.Answers.{answer_write_on};
 ghost use Rattle.cs_laws.specs.Devices.{FaultsOf};
 ghost use Rattle.cs_laws.specs.Fits.{fits, is_shown, is_write};
 ghost use Rattle.cs_laws.specs.References.{can_end, named};
 ghost use Rattle.cs_objstore.specs.Files.{AppliesNew, with_new};
-ghost use Rattle.cs_client.specs.Answers.{begin_answer, call_answer, check_call_answer, clock_answer, end_answer, flush_call_answer, flush_snaps_call_answer, has_writing, head_byte, read_answer};
+ghost use Rattle.cs_client.specs.Answers.{begin_answer, call_answer, check_call_answer, chmod_call_answer, clock_answer, end_answer, flush_call_answer, flush_snaps_call_answer, head_byte, read_answer};
 ghost use Rattle.cs_client.specs.Calls.{Called, HasNumbers, IsNewInode, IsNewTo, call_operations, call_sent, calls_store, check_sent, flush_sent, flush_snaps_sent, is_call, read_calls, write_calls};
 ghost use Rattle.cs_client.specs.Messages.{Accepts, Delivered, TellsRealms, message_answer};
 ghost use Rattle.cs_client.specs.Views.{IsBlank, is_kept};
@@ -347,8 +347,7 @@ impl Client {
     }
 
     fn chmod(&mut self, caller: Caller, name: RefName, mode: u16) -> Answer
-        ensures answer { result ≡ answer_chmod_on (has_writing self.old.files)
-            (named caller name self.old.refs.live) }
+        ensures answer { result ≡ chmod_call_answer (named caller name self.old.refs.live) self.old.files }
         ensures after { Called self.old self.new (events.Chmod caller name mode) result }
     {
         chmod(&mut self.files, &self.refs, caller, name, mode)

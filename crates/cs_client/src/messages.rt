@@ -3,10 +3,11 @@ ghost use Rattle.std.specs.Prelude.{◌≡◌, ◌<◌, ◌^◌, ℕ, true, fals
 ghost use Rattle.std.specs.BTreeMap.{get};
 ghost use Rattle.std.specs.Option.{option_map};
 ghost use Rattle.std.specs.Ordering.{nat_cmp};
+ghost use Rattle.cs_inode.specs.Calls.{with_caps};
 ghost use Rattle.cs_inode.specs.Inodes.{after_ack};
 ghost use Rattle.cs_snapctx.specs.Records.{with_records};
 ghost use Rattle.cs_tree.specs.Directories.{path_of};
-ghost use Rattle.cs_client.specs.Messages.{ParentsAreKnown, with_caps};
+ghost use Rattle.cs_client.specs.Messages.{ParentsAreKnown};
 ghost use Rattle.cs_client.specs.Rows.{at_file};
 ghost use Rattle.cs_client.specs.Told.{ContextsRise, count_changed, told_row};
 ghost use Rattle.cs_client.specs.Views.{ContextsFollow, IsEachOnce, KeepsTables, RowsAfter, SameHomes, SamePlaces, is_among, is_kept};

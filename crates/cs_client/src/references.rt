@@ -5,11 +5,12 @@ ghost use Rattle.std.specs.Ordering.{nat_cmp};
 ghost use Rattle.cs_capsnap.specs.CapSnaps.{is_writing};
 ghost use Rattle.cs_refs.specs.Table.{begun_of};
 ghost use Rattle.cs_laws.specs.declared.events.Event.TheVariants as events;
-ghost use Rattle.cs_laws.specs.Answers.{answer_chmod_on, may_write};
+ghost use Rattle.cs_inode.specs.Calls.{started, stopped};
+ghost use Rattle.cs_laws.specs.Answers.{may_write};
 ghost use Rattle.cs_laws.specs.References.{can_end, named};
-ghost use Rattle.cs_client.specs.Answers.{begin_answer, end_answer, has_writing};
+ghost use Rattle.cs_client.specs.Answers.{begin_answer, chmod_call_answer, end_answer};
 ghost use Rattle.cs_client.specs.Calls.{RefsAfter, seq_of};
-ghost use Rattle.cs_client.specs.Rows.{begun_row, ended_row, mode_row, started, stopped};
+ghost use Rattle.cs_client.specs.Rows.{begun_row, ended_row, mode_row};
 ghost use Rattle.cs_client.specs.Views.{AreTables, HaveTables, KeepsTables, RowsAfter, SamePlaces, SameRows};
 
 use crate::file::ClientFile;
@@ -131,7 +132,7 @@ pub fn chmod(
     mode: u16,
 ) -> Answer
     requires tables { HaveTables files.old refs.now.live }
-    ensures answer { result ≡ answer_chmod_on (has_writing files.old) (named caller name refs.now.live) }
+    ensures answer { result ≡ chmod_call_answer (named caller name refs.now.live) files.old }
     ensures rows { RowsAfter (mode_row (named caller name refs.now.live) mode result) files.old files.new }
     ensures tables { KeepsTables files.old files.new }
     ensures places { SamePlaces files.old files.new }

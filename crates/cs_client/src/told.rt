@@ -4,10 +4,11 @@ ghost use Rattle.std.specs.BTreeMap.{get};
 ghost use Rattle.std.specs.Ordering.{nat_cmp};
 ghost use Rattle.cs_snapctx.specs.Context.{Context, empty_context};
 ghost use Rattle.cs_snapctx.specs.Records.{missing_parent, with_record, with_records};
+ghost use Rattle.cs_inode.specs.Calls.{needs_snap_at, with_context_at};
 ghost use Rattle.cs_laws.specs.Context.{differs};
 ghost use Rattle.cs_tree.specs.Directories.{path_of};
 ghost use Rattle.cs_client.specs.Messages.{ParentsAreKnown};
-ghost use Rattle.cs_client.specs.Told.{ChangesAll, ChangesRow, ContextsRise, FilesStay, OthersStay, RisesIn, StaysIn, TouchesMore, count_changed, is_touched, needs_snap_at, with_context_at};
+ghost use Rattle.cs_client.specs.Told.{ChangesAll, ChangesRow, ContextsRise, FilesStay, OthersStay, RisesIn, StaysIn, TouchesMore, count_changed, is_touched};
 ghost use Rattle.cs_client.specs.Views.{IsEachOnce, IsLike, KeepsTables, SameHomes, is_among};
 
 use crate::contexts::home_context;

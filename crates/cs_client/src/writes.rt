@@ -2,12 +2,13 @@
 ghost use Rattle.std.specs.Prelude.{◌≡◌, ℕ, ◌+◌, ◌-◌, ◌<◌, ◌≤◌, true, false, length, min, nat_lt, take, IfOk, OnErr, IsErrOf};
 ghost use Rattle.std.specs.BTreeMap.{get};
 ghost use Rattle.std.specs.Ordering.{nat_cmp};
+ghost use Rattle.cs_inode.specs.Said.{shown_count};
 ghost use Rattle.cs_laws.specs.Answers.{answer_write_on, bytes_from};
 ghost use Rattle.cs_laws.specs.Devices.{FaultsOf};
 ghost use Rattle.cs_laws.specs.Fits.{greatest_end, is_shown, is_write};
 ghost use Rattle.cs_laws.specs.References.{named};
 ghost use Rattle.cs_objstore.specs.Files.{AppliesNew, with_new};
-ghost use Rattle.cs_client.specs.Answers.{head_byte, read_answer, shown_count};
+ghost use Rattle.cs_client.specs.Answers.{head_byte, read_answer};
 ghost use Rattle.cs_client.specs.Calls.{read_calls, write_calls, written_operations};
 ghost use Rattle.cs_client.specs.Rows.{written_row};
 ghost use Rattle.cs_client.specs.Views.{HaveTables, KeepsTables, RowsAfter, SamePlaces};

@@ -19,8 +19,8 @@ use Rattle.cs_laws.specs.History.{client, context, live, queued}
 use Rattle.cs_laws.specs.Runs.{IsRun}
 use Rattle.cs_theorems.proofs.QueueAnswers.{queue_writing}
 use Rattle.cs_files.specs.Rows.{inode, writers_of}
-use Rattle.cs_files.specs.Said.{begun_said}
-use Rattle.cs_files.specs.Steps.{started}
+use Rattle.cs_inode.specs.Said.{begun_said}
+use Rattle.cs_inode.specs.Calls.{started}
 use Rattle.cs_files.proofs.ByFile.{by_file}
 use Rattle.cs_files.proofs.Counting.{writers_begin}
 

@@ -13,8 +13,8 @@ use Rattle.cs_laws.specs.Answers.{answer_check, answer_check_of}
 use Rattle.cs_laws.specs.Events.{client_knows}
 use Rattle.cs_laws.specs.History.{client, live, used}
 use Rattle.cs_files.specs.Rows.{inode}
-use Rattle.cs_files.specs.Said.{check_said}
-use Rattle.cs_files.specs.Steps.{acked}
+use Rattle.cs_inode.specs.Said.{check_said}
+use Rattle.cs_inode.specs.Calls.{acked}
 
 -- b, d: whether nothing is left to acknowledge, and whether nothing that was taken back is in use
 same_tests : (b d : Bool) (seq : ℕ) (issued held : Caps)

@@ -17,7 +17,7 @@ use Rattle.cs_laws.specs.References.{named}
 use Rattle.cs_laws.specs.Runs.{IsRun}
 use Rattle.cs_theorems.proofs.QueueAnswers.{queue_writing}
 use Rattle.cs_files.specs.Rows.{inode}
-use Rattle.cs_files.specs.Said.{chmod_said}
+use Rattle.cs_inode.specs.Said.{chmod_said}
 use Rattle.cs_files.specs.Steps.{on_file}
 use Rattle.cs_files.proofs.ByFile.{by_file}
 

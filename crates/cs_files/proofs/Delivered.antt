@@ -12,7 +12,7 @@ use Rattle.cs_laws.specs.History.{client, dirty}
 use Rattle.cs_theorems.specs.Queues.{snaps}
 use Rattle.cs_theorems.specs.Unacked.{unacked}
 use Rattle.cs_files.specs.Rows.{inode}
-use Rattle.cs_files.specs.Steps.{with_caps}
+use Rattle.cs_inode.specs.Calls.{with_caps}
 
 pub cap_row : (h : List Entry) (g seq : ℕ) (bits : Caps) (end f : ℕ)
     → inode (record { event = events.ToClient; answer = answers.Cap g seq bits end } ∷ h) f ≡ cond (g == f) (with_caps bits seq end (inode h f)) (inode h f)

@@ -20,7 +20,8 @@ use Rattle.cs_laws.specs.Runs.{IsRun}
 use Rattle.cs_theorems.specs.Queues.{snaps}
 use Rattle.cs_theorems.proofs.QueueAnswers.{writing_has_writer}
 use Rattle.cs_files.specs.Rows.{inode, writers_of}
-use Rattle.cs_files.specs.Steps.{on_file, stopped}
+use Rattle.cs_files.specs.Steps.{on_file}
+use Rattle.cs_inode.specs.Calls.{stopped}
 use Rattle.cs_files.proofs.ByFile.{by_file}
 use Rattle.cs_files.proofs.Counting.{last_ends, writers_end, writers_stay}
 

@@ -29,7 +29,7 @@ use Rattle.cs_theorems.specs.Unacked.{sent_of}
 use Rattle.cs_theorems.proofs.QueueAnswers.{queue_answer, queue_ready, queue_tids, queue_writing}
 use Rattle.cs_theorems.proofs.UnackedSteps.{unacked_tids}
 use Rattle.cs_files.specs.Rows.{inode}
-use Rattle.cs_files.specs.Said.{flush_said, snap_said}
+use Rattle.cs_inode.specs.Said.{flush_said, snap_said}
 use Rattle.cs_files.proofs.ByFile.{by_file}
 
 -- what a flush of the file sends, and of a cap snap

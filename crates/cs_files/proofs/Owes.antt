@@ -13,8 +13,8 @@ use Rattle.cs_laws.specs.Runs.{IsRun}
 use Rattle.cs_theorems.specs.Queues.{snaps}
 use Rattle.cs_theorems.specs.Unacked.{unacked}
 use Rattle.cs_theorems.proofs.Owing.{owed_head, owed_snap, writer_counted}
+use Rattle.cs_files.specs.Laws.{snapshot_of}
 use Rattle.cs_files.specs.Rows.{inode}
-use Rattle.cs_files.specs.Said.{snapshot_of}
 
 any_is : {A : Type 0} (xs : List A) → list_any (λ (x : A). true) xs ≡ has_any xs
 any_is [] = refl

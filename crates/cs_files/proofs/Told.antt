@@ -38,7 +38,7 @@ use Rattle.cs_theorems.proofs.Owing.{writer_counted}
 use Rattle.cs_theorems.proofs.QueueAnswers.{queue_makes}
 use Rattle.cs_files.specs.Rows.{inode}
 use Rattle.cs_files.specs.Laws.{TellsNext, told_context}
-use Rattle.cs_files.specs.Steps.{count_needed, needs_snap_at, with_context_at}
+use Rattle.cs_inode.specs.Calls.{count_needed, needs_snap_at, with_context_at}
 
 -- Counted in the order in which the files were made
 

@@ -1,5 +1,5 @@
 -- What is proved of the files of a run: what the client keeps of them, by the calls of `Inode`, is what the history says.
-use Rattle.std.specs.Prelude.{◌≡◌, ℕ, ◌+◌, ◌-◌, ◌<◌, ◌≤◌, ◌/◌, ◌%◌, Bool, true, false, min, List, [], ◌∷◌, Some, length, reverse}
+use Rattle.std.specs.Prelude.{◌≡◌, ℕ, ◌+◌, ◌<◌, ◌≤◌, ◌/◌, ◌%◌, Bool, true, false, List, [], ◌∷◌, Option, Some, None, length, reverse}
 use Rattle.cs_bits.specs.declared.Caps.{Caps}
 use Rattle.cs_geom.specs.declared.places.TheConstants.{OBJECT_SIZE}
 use Rattle.cs_parts.specs.declared.references.Live.{Live}
@@ -11,7 +11,9 @@ use Rattle.cs_capsnap.specs.CapSnaps as kept
 use Rattle.cs_inode.specs.declared.answers.FlushStep.TheVariants as flush
 use Rattle.cs_inode.specs.declared.answers.SnapStep.TheVariants as snap
 use Rattle.cs_inode.specs.Answers.{allowance, check_answer, chmod_answer, flush_answer, flush_snaps_answer}
+use Rattle.cs_inode.specs.Calls.{count_needed, needs_snap_at}
 use Rattle.cs_inode.specs.Inodes.{greatest_tid, new_inode, owed, write_operations}
+use Rattle.cs_inode.specs.Said.{begun_said, check_said, chmod_said, flush_said, shown_count, snap_said}
 use Rattle.cs_laws.specs.declared.answers.Answer.TheVariants as answers
 use Rattle.cs_laws.specs.declared.answers.Entry.{Entry}
 use Rattle.cs_laws.specs.declared.events.RefName.{RefName}
@@ -34,8 +36,7 @@ use Rattle.cs_laws.specs.References.{named}
 use Rattle.cs_laws.specs.Tree.{client_file_path, client_path}
 use Rattle.cs_theorems.specs.Unacked.{sent_of}
 use Rattle.cs_files.specs.Rows.{inode}
-use Rattle.cs_files.specs.Said.{begun_said, check_said, chmod_said, flush_said, snap_said, snapshot_of}
-use Rattle.cs_files.specs.Steps.{count_needed, inode_then, needs_snap_at}
+use Rattle.cs_files.specs.Steps.{inode_then}
 
 -- At first each file is as a new one, and each entry makes of it what the call does that serves the event.
 abbrev pub RowsFollow : List Entry → Type 0
@@ -82,7 +83,7 @@ stored_byte h f i = object_byte at.Head (record { ino = f; index = i / OBJECT_SI
 -- A read gives the bytes that the file's objects have, as far as its size goes.
 abbrev pub FilesRead : List Entry → Type 0
 FilesRead h = (c : ℕ) (name : RefName) (off len : ℕ) (r : Live) → named c name (live h) ≡ Some r → may_read r.bits ≡ true
-    → answer_read h c name off len ≡ answers.Bytes (bytes_from (stored_byte h r.file) off (min len ((inode h r.file).meta.size - off)))
+    → answer_read h c name off len ≡ answers.Bytes (bytes_from (stored_byte h r.file) off (shown_count (inode h r.file).meta.size off len))
 
 -- the context of a file once the client has these realm records too
 abbrev pub told_context : List Entry → List RealmRecord → ℕ → Context
@@ -103,6 +104,11 @@ pub record FilesAreTold (h : List Entry) : Type 0 where
       → context (record { event = events.ToClient; answer = answers.SnapTold number realm made } ∷ h) f ≡ told_context h told f
   pub rises : (number realm : ℕ) (told : List RealmRecord) (f : ℕ) → TellsNext h number realm told
       → differs (context h f) (told_context h told f) ≡ true → (context h f).seq < (told_context h told f).seq
+
+-- the snapshot of a state, or None for the present one
+abbrev pub snapshot_of : At → Option ℕ
+snapshot_of at.Head = None
+snapshot_of (at.Snap s) = Some s
 
 -- The file knows what of it the server may not have.
 abbrev pub FilesOwe : List Entry → Type 0

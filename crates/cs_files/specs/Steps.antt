@@ -1,46 +1,15 @@
 -- What each event makes of what the client keeps of a file, by the functions that say what the calls of `Inode` do. Functions go
 -- by the event first, and then by its answer.
-use Rattle.std.specs.Prelude.{ℕ, ◌+◌, ◌==◌, ◌&&◌, Bool, List, [], ◌∷◌, Option, Some, None, length, if◌then◌else◌}
-use Rattle.cs_bits.specs.declared.Caps.{Caps}
+use Rattle.std.specs.Prelude.{ℕ, ◌+◌, ◌==◌, List, Option, Some, None, length, if◌then◌else◌}
 use Rattle.cs_parts.specs.declared.references.Live.{Live}
-use Rattle.cs_parts.specs.Capabilities.{acknowledged, delivered}
 use Rattle.cs_snapctx.specs.Context.{Context}
-use Rattle.cs_inode.specs.Inodes.{FileInode, after_ack, after_flush, after_flush_snaps, needs_snap}
-use Rattle.cs_inode.specs.Inodes.{new_inode, with_context, with_mode, with_writer, without_writer, written}
+use Rattle.cs_inode.specs.Calls.{acked, started, stopped, with_caps, with_context_at}
+use Rattle.cs_inode.specs.Inodes.{FileInode, after_ack, after_flush, after_flush_snaps, new_inode, with_mode, written}
 use Rattle.cs_laws.specs.declared.events.Event.{Event}
 use Rattle.cs_laws.specs.declared.events.Event.TheVariants as events
 use Rattle.cs_laws.specs.declared.answers.Answer.{Answer}
 use Rattle.cs_laws.specs.declared.answers.Answer.TheVariants as answers
-use Rattle.cs_laws.specs.Answers.{may_write}
-use Rattle.cs_laws.specs.Context.{differs}
 use Rattle.cs_laws.specs.References.{named}
-
--- a reference with these bits begins, or ends
-abbrev pub started : Caps → FileInode → FileInode
-started bits i = if may_write bits then with_writer i else i
-
-abbrev pub stopped : Caps → FileInode → FileInode
-stopped bits i = if may_write bits then without_writer i else i
-
--- the client has only these bits from now on
-abbrev pub acked : ℕ → Caps → FileInode → FileInode
-acked seq bits i = record i { caps = acknowledged i.caps bits seq }
-
--- a message of the server is delivered: it gives these bits
-abbrev pub with_caps : Caps → ℕ → ℕ → FileInode → FileInode
-with_caps bits seq end i = record i { caps = delivered i.caps bits seq end }
-
--- the context becomes this one, or stays: whether a cap snap is made, and what is kept of the file then
-abbrev pub needs_snap_at : Context → FileInode → Bool
-needs_snap_at new i = differs i.context new && needs_snap i
-
-abbrev pub with_context_at : Context → FileInode → FileInode
-with_context_at new i = if differs i.context new then with_context new i else i
-
--- how many of these files need a cap snap
-abbrev pub count_needed : (ℕ → Bool) → List ℕ → ℕ
-count_needed needs [] = 0
-count_needed needs (f ∷ fs) = (if needs f then 1 else 0) + count_needed needs fs
 
 -- what is done on a reference is done to its file
 abbrev pub on_file : Option Live → (Live → FileInode → FileInode) → ℕ → FileInode → FileInode

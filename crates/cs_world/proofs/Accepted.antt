@@ -1,9 +1,7 @@
 -- A side accepts the message that is delivered to it.
-use Rattle.std.proofs.Common.{◌≡◌, ◌∙◌, refl, sym, ap, subst, ℕ, ◌+◌, ◌<◌, ◌≤◌, ◌==◌, Bool, true, false, cond, List, [], ◌∷◌, ◌++◌, drop, length, Option, Some, None, is_some, arith}
+use Rattle.std.proofs.Common.{◌≡◌, refl, sym, subst, inl, inr, ℕ, ◌<◌, ◌≤◌, Bool, true, false, cond, List, [], ◌∷◌, ◌++◌, length, Option, Some, None, arith}
 use Rattle.std.proofs.lemmas.Bool.{true≢false}
-use Rattle.std.specs.BTreeMap.{get}
 use Rattle.std.specs.List.{All}
-use Rattle.std.specs.Ordering.{nat_cmp}
 use Rattle.cs_snapctx.specs.declared.realm.RealmRecord.{RealmRecord}
 use Rattle.cs_snapctx.specs.Records.{with_record, with_records}
 use Rattle.cs_tree.specs.Directories.{path_of}
@@ -23,13 +21,12 @@ use Rattle.cs_laws.specs.Events.{client_knows}
 use Rattle.cs_laws.specs.Flight.{acked_again, to_client_then}
 use Rattle.cs_laws.specs.Flushes.{Flush, flush_record}
 use Rattle.cs_laws.specs.History.{context, durable, fresh, last_sent, realms, sent, server, stand, to_client, to_server}
-use Rattle.cs_laws.specs.Laws.{tids}
 use Rattle.cs_laws.specs.Realms.{differing, realm_records}
 use Rattle.cs_laws.specs.Runs.{IsRun}
 use Rattle.cs_laws.specs.Spellings.{message_fits}
 use Rattle.cs_laws.specs.Standing.{durable_then, fresh_then, has_flush, news, news_of, news_on, recorded, recorded_of}
-use Rattle.cs_laws.specs.Tree.{client_home, client_path, server_dirs, server_path}
-use Rattle.cs_client.specs.Messages.{Accepts, ParentsAreKnown, TellsFlush, TellsRealms}
+use Rattle.cs_laws.specs.Tree.{client_home, server_dirs, server_path}
+use Rattle.cs_client.specs.Messages.{Accepts, ParentsAreKnown}
 use Rattle.cs_client.specs.Told.{ContextsRise, RisesIn}
 use Rattle.cs_client.specs.Views.{ClientView, is_kept}
 use Rattle.cs_files.specs.Laws.{TellsNext}
@@ -38,7 +35,7 @@ use Rattle.cs_files.proofs.Told.{context_rises}
 use Rattle.cs_theorems.specs.Realms as told
 use Rattle.cs_theorems.specs.Realms.{TellsKnownParents}
 use Rattle.cs_theorems.specs.Underway.{IsToldClient}
-use Rattle.cs_theorems.proofs.Acks.{AckStands, run_acked}
+use Rattle.cs_theorems.proofs.Acks.{run_acked}
 use Rattle.cs_theorems.proofs.Applying.{run_tells_known}
 use Rattle.cs_theorems.proofs.FlushReplays.{flushes_numbered}
 use Rattle.cs_theorems.proofs.Listed.{Each, Member, each_append, each_cons, each_drop, each_end, each_nil, member_first, member_left}
@@ -46,7 +43,7 @@ use Rattle.cs_theorems.proofs.Numbered.{run_numbered, upto_numbered}
 use Rattle.cs_theorems.proofs.Spelled.{messages_fit}
 use Rattle.cs_theorems.proofs.Standing.{HasTid, has_record, tid_has}
 use Rattle.cs_theorems.proofs.Underway.{received_known, told_known}
-use Rattle.cs_world.specs.Parts.{ClientAt, client_row}
+use Rattle.cs_world.specs.Parts.{ClientAt}
 
 -- No request was sent yet, so that none is recorded, and no reply to one is on its way
 
@@ -89,12 +86,12 @@ news_no_reply before ts (bodies.Snap number d name) i = tt
 news_no_reply before ts (bodies.Removal s number) i = tt
 
 no_replies : (up : ℕ → List ℕ) (ds : List ℕ) (sent : List RealmRecord) (before rs : List Record) → ArePlain rs → Each IsNoReply (news up ds sent before rs)
-no_replies up ds sent before [] i = each_nil IsNoReply
-no_replies up ds sent before (r ∷ rs) i =
-    let m : Message = news_on up ds sent before r in
-    each_cons IsNoReply m (news up ds (with_records (realms_of m) sent) (before ++ r ∷ []) rs)
-    (news_no_reply before (differing sent (realm_records up ds (before ++ r ∷ []))) r.body (i r (inl refl)))
-    (no_replies up ds (with_records (realms_of m) sent) (before ++ r ∷ []) rs (λ x m. i x (inr m)))
+no_replies up ds last before [] i = each_nil IsNoReply
+no_replies up ds last before (r ∷ rs) i =
+    let m : Message = news_on up ds last before r in
+    each_cons IsNoReply m (news up ds (with_records (realms_of m) last) (before ++ r ∷ []) rs)
+    (news_no_reply before (differing last (realm_records up ds (before ++ r ∷ []))) r.body (i r (inl refl)))
+    (no_replies up ds (with_records (realms_of m) last) (before ++ r ∷ []) rs (λ x m. i x (inr m)))
 
 again_no_reply : (f tid : ℕ) (ds : List Record) → Each IsNoReply (acked_again f tid ds)
 again_no_reply f tid ds = at (has_flush f tid ds)

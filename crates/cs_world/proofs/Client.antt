@@ -1,12 +1,10 @@
 -- The client after a call: each part but the rows is a function of the history by itself, whatever the event and its answer.
-use Rattle.std.proofs.Common.{◌≡◌, ◌∙◌, refl, sym, ap, ℕ, ◌+◌, ◌==◌, ◌||◌, Bool, true, false, cond, List, [], ◌∷◌, ◌++◌, length, reverse, Option, Some, None}
+use Rattle.std.proofs.Common.{◌≡◌, ◌∙◌, refl, sym, ap, subst, ℕ, ◌+◌, ◌==◌, ◌||◌, Bool, true, false, cond, List, [], ◌∷◌, ◌++◌, length, reverse}
 use Rattle.std.proofs.lemmas.List.{reverse-append}
-use Rattle.std.specs.BTreeMap.{get}
-use Rattle.std.specs.Ordering.{nat_cmp}
-use Rattle.cs_bits.specs.declared.Caps.{Caps}
 use Rattle.cs_parts.specs.declared.references.Live.{Live}
 use Rattle.cs_snapctx.specs.declared.realm.RealmRecord.{RealmRecord}
 use Rattle.cs_tree.specs.declared.directories.Directory.{Directory}
+use Rattle.cs_tree.specs.Directories.{path_of}
 use Rattle.cs_laws.specs.declared.events.Event.{Event}
 use Rattle.cs_laws.specs.declared.events.Event.TheVariants as events
 use Rattle.cs_laws.specs.declared.answers.Answer.{Answer}
@@ -15,18 +13,17 @@ use Rattle.cs_laws.specs.declared.answers.Entry.{Entry}
 use Rattle.cs_laws.specs.declared.messages.Message.{Message}
 use Rattle.cs_laws.specs.Answers.{answer}
 use Rattle.cs_laws.specs.Context.{realms_then}
-use Rattle.cs_laws.specs.Events.{begun_then, client_files, client_knows, clock_then, files, files_then}
+use Rattle.cs_laws.specs.Events.{begun_then, client_files, client_knows, clock_then, files_then}
 use Rattle.cs_laws.specs.History.{context, live, realms, to_client}
+use Rattle.cs_laws.specs.Operations.{brought, operations_drawn}
 use Rattle.cs_laws.specs.References.{live_then}
 use Rattle.cs_laws.specs.Runs.{IsRun}
-use Rattle.cs_laws.specs.Tree.{directories, is_directory, path, setup_dir}
-use Rattle.cs_client.specs.declared.file.ClientFile.{ClientFile}
+use Rattle.cs_laws.specs.Tree.{directories, is_directory, path, setup_dir, with_directory}
 use Rattle.cs_client.specs.Calls.{AddsDirectory, Called, TreeAfter, flushes_after, is_call, made_after, seq_of}
 use Rattle.cs_client.specs.Views.{ClientView}
-use Rattle.cs_files.specs.Rows.{inode}
-use Rattle.cs_world.specs.Parts.{ClientAt, TreeIs, client_row}
+use Rattle.cs_world.specs.Parts.{ClientAt, TreeIs}
 use Rattle.cs_world.proofs.Numbers.{drawn_is, flushes_then, operations_are}
-use Rattle.cs_world.proofs.Rows.{row_is, row_is_by, rows_then}
+use Rattle.cs_world.proofs.Rows.{row_is_by, rows_then}
 
 abbrev pub TreeAt : List Entry → List Directory → Type 0
 TreeAt h tree = TreeIs (λ d. is_directory h d) (λ d. path h d) (directories h) tree
@@ -50,10 +47,7 @@ added h d p old new t c = record {
 
 tree_then : (e : Event) (a : Answer) (h : List Entry) (old new : List Directory) → TreeAt h old → TreeAfter e a old new → TreeAt (record { event = e; answer = a } ∷ h) new
 tree_then (events.Dir d p) answers.Made h old new t c = added h d p old new t c
-tree_then _ _ h old new t c = same (sym c) t
-  where
-    same : {h : List Entry} {old new : List Directory} → old ≡ new → TreeAt h old → TreeAt h new
-    same is t = subst (λ tree. TreeAt _ tree) is t
+tree_then _ _ h old new t c = subst (λ tree. TreeAt h tree) (sym c) t
 
 realms_stay : (e : Event) (a : Answer) (q : List Message) (ts : List RealmRecord) → is_call e ≡ true → realms_then e a q ts ≡ ts
 realms_stay events.ToClient a q ts call = absurd (cc)
@@ -76,6 +70,8 @@ module _ (p : ℕ) (h : List Entry) (run : IsRun p h) (v w : ClientView) (i : Cl
   lives_then (events.Begin c f bits end) (answers.Ref n) is =
       ap (λ t. live h ++ (let r : Live = record { caller = c; number = n; file = f; bits = bits; end = end; tag = t } in r) ∷ [])
       (seq_is f (begun_known (client_knows h f) _ n is))
+  lives_then (events.End c name) answers.Ended is = refl
+  lives_then (events.End c name) _ is = refl
   lives_then _ _ is = refl
 
   -- the client after a call

@@ -1,5 +1,5 @@
 -- The log after an event, and which events call which device.
-use Rattle.std.proofs.Common.{◌≡◌, ◌∙◌, refl, ap, subst, inl, inr, ℕ, Bool, true, false, List, [], ◌∷◌}
+use Rattle.std.proofs.Common.{◌≡◌, refl, sym, subst, inl, inr, ℕ, List, ◌∷◌, Result, IsErrOf}
 use Rattle.cs_laws.specs.declared.events.Event.{Event}
 use Rattle.cs_laws.specs.declared.events.Event.TheVariants as events
 use Rattle.cs_laws.specs.declared.answers.Answer.{Answer}
@@ -7,13 +7,17 @@ use Rattle.cs_laws.specs.declared.answers.Answer.TheVariants as answers
 use Rattle.cs_laws.specs.declared.answers.Entry.{Entry}
 use Rattle.cs_laws.specs.declared.messages.Message.{Message}
 use Rattle.cs_laws.specs.declared.records.Record.{Record}
+use Rattle.cs_laws.specs.declared.faults.StepFault.{StepFault}
+use Rattle.cs_laws.specs.declared.faults.StepFault.TheVariants as faults
 use Rattle.cs_laws.specs.Answers.{answer}
 use Rattle.cs_laws.specs.History.{durable, fresh, to_server}
 use Rattle.cs_laws.specs.Logged.{LogHalts, LogIs}
 use Rattle.cs_laws.specs.Standing.{durable_then, fresh_then}
 use Rattle.cs_mds.specs.Served.{HaltsIn, LogHolds, records_of}
 use Rattle.cs_mds.specs.Views.{ServerView}
-use Rattle.cs_world.specs.Devices.{HaltsAt, NoDevice, NothingCalls, OneDevice, calls_store}
+use Rattle.cs_mds.specs.Answers.{calls_log}
+use Rattle.cs_world.specs.Devices.{HaltsAt, LogOf, NothingCalls, OneDevice}
+use Rattle.cs_world.proofs.Stored.{any_err, no_fault}
 use Rattle.cs_world.specs.Parts.{LogAt, ServerAt}
 
 -- the log holds what the server has, and so what the history says
@@ -41,6 +45,17 @@ pub halts_logged : (p : ℕ) (h : List Entry) (e : Event) (a : Answer) (rs : Lis
     → HaltsAt p h e rs n
 halts_logged p h e a rs n is l =
     subst (λ b. LogHalts rs n (durable h) (fresh h) (durable_then e b (fresh h) (durable h)) (fresh_then e b (to_server h) (fresh h))) is (inr l)
+
+-- The clause on the log is of another outcome too, where want of memory came behind the call
+pub log_after : {S T U : Type 0} (records : S → List (List ℕ)) (count failed : S → ℕ) (p : ℕ) (h : List Entry) (e : Event) (old new : S) (r : Result T StepFault) (q : Result U StepFault)
+    → (IsErrOf q faults.Log → ⊥) → HaltsAt p h e (records new) (count new) → LogOf records count failed p h e old new r → LogOf records count failed p h e old new q
+log_after records count failed p h e old new r q none halted l = record {
+  halted = any_err q halted;
+  quiet = l.quiet;
+  faults = no_fault faults.Log (calls_log e (answer p h e)) (failed old) (failed new) r q none l.faults;
+}
+
+-- Which events call which device
 
 pub one_device : OneDevice
 one_device (events.Write c name off bytes) a calls = refl

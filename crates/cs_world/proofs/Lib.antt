@@ -1,9 +1,9 @@
 -- What each side answers, keeps and sends is what the history says
 pub mod Rows
-pub mod Calls
+pub mod Answered
 pub mod Numbers
 pub mod Client
-pub mod Server
+pub mod Serves
 pub mod News
 pub mod Sent
 -- Parts that an event leaves as they are
@@ -11,11 +11,9 @@ pub mod Stays
 pub mod Made
 -- Deliveries
 pub mod Accepted
-pub mod Deliveries
+pub mod Delivered
 -- Shows
 pub mod Showing
 -- The devices
 pub mod Stored
 pub mod Halts
--- The entry
-pub mod Kept

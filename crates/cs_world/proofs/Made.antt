@@ -1,8 +1,6 @@
 -- A line that makes a directory or a file.
-use Rattle.std.proofs.Common.{◌≡◌, ◌∙◌, refl, sym, ap, subst, ℕ, ◌==◌, ◌||◌, ◌&&◌, Bool, true, false, cond, List, [], ◌∷◌, Option, Some, None, is_some}
+use Rattle.std.proofs.Common.{◌≡◌, ◌∙◌, refl, sym, ap, subst, ℕ, ◌||◌, Bool, true, false, cond, List, [], ◌∷◌, is_some}
 use Rattle.std.proofs.lemmas.Bool.{and_parts}
-use Rattle.std.specs.BTreeMap.{get}
-use Rattle.std.specs.Ordering.{nat_cmp}
 use Rattle.cs_tree.specs.Directories.{has_directory}
 use Rattle.cs_laws.specs.declared.events.Event.{Event}
 use Rattle.cs_laws.specs.declared.events.Event.TheVariants as events
@@ -13,13 +11,12 @@ use Rattle.cs_laws.specs.declared.messages.Message.{Message}
 use Rattle.cs_laws.specs.declared.records.Record.{Record}
 use Rattle.cs_laws.specs.Answers.{answer}
 use Rattle.cs_laws.specs.Events.{client_knows, is_setup}
-use Rattle.cs_laws.specs.History.{durable, fresh, to_client, to_server}
+use Rattle.cs_laws.specs.History.{durable, fresh, to_server}
 use Rattle.cs_laws.specs.Runs.{IsRun, all_setup}
 use Rattle.cs_laws.specs.Standing.{durable_then, fresh_then}
-use Rattle.cs_laws.specs.Tree.{is_directory}
 use Rattle.cs_client.specs.Answers.{call_answer}
-use Rattle.cs_client.specs.Calls.{Called, IsNewInode, IsNewTo, call_operations, is_call}
-use Rattle.cs_client.specs.Views.{ClientView, is_kept}
+use Rattle.cs_client.specs.Calls.{Called, IsNewInode, IsNewTo, is_call}
+use Rattle.cs_client.specs.Views.{ClientView}
 use Rattle.cs_mds.specs.Answers.{is_in_use, made_answer, served_answer}
 use Rattle.cs_mds.specs.Served.{Served}
 use Rattle.cs_mds.specs.Views.{ServerView}
@@ -27,7 +24,7 @@ use Rattle.cs_mds.specs.Views as views
 use Rattle.cs_world.specs.Parts.{After, ClientAt, LinksAt, ServerAt}
 use Rattle.cs_world.proofs.Client.{client_after}
 use Rattle.cs_world.proofs.Rows.{is_known}
-use Rattle.cs_world.proofs.Server.{knows, made_is, server_after}
+use Rattle.cs_world.proofs.Serves.{knows, made_is, server_after}
 
 -- before all other events no record stands
 

@@ -1,28 +1,22 @@
 -- What is drawn: there are numbers left, and the operations of a call are those that its entry brings.
-use Rattle.std.proofs.Common.{◌≡◌, ◌∙◌, refl, sym, ap, ℕ, ◌+◌, ◌<◌, Bool, true, false, cond, List, [], ◌∷◌, ◌++◌, length, Option, Some, None, arith}
-use Rattle.std.specs.BTreeMap.{get}
-use Rattle.std.specs.Option.{option_map_or}
-use Rattle.std.specs.Ordering.{nat_cmp}
+use Rattle.std.proofs.Common.{◌≡◌, ◌∙◌, refl, sym, ap, ℕ, ◌+◌, ◌<◌, Bool, true, false, cond, List, [], ◌∷◌, length, Option, Some, None, arith}
 use Rattle.std.proofs.lemmas.List.{length-append}
 use Rattle.cs_parts.specs.declared.references.Live.{Live}
-use Rattle.cs_inode.specs.Inodes.{write_operations}
 use Rattle.cs_laws.specs.declared.events.Event.{Event}
 use Rattle.cs_laws.specs.declared.events.Event.TheVariants as events
 use Rattle.cs_laws.specs.declared.events.RefName.{RefName}
 use Rattle.cs_laws.specs.declared.answers.Answer.{Answer}
 use Rattle.cs_laws.specs.declared.answers.Answer.TheVariants as answers
 use Rattle.cs_laws.specs.declared.answers.Entry.{Entry}
-use Rattle.cs_laws.specs.declared.objects.ObjOp.{ObjOp}
 use Rattle.cs_laws.specs.Answers.{answer, answer_write_on, may_write}
-use Rattle.cs_laws.specs.Events.{begun, is_setup}
+use Rattle.cs_laws.specs.Events.{is_setup}
 use Rattle.cs_laws.specs.Flushes.{sent_then}
 use Rattle.cs_laws.specs.History.{live, present, sent, snap}
 use Rattle.cs_laws.specs.Operations.{brought, drawn_then, operations_drawn}
 use Rattle.cs_laws.specs.References.{named}
 use Rattle.cs_laws.specs.Runs.{IsRun}
-use Rattle.cs_client.specs.Calls.{Called, HasNumbers, IsNewTo, call_operations, flushes_after, is_call, written_operations}
+use Rattle.cs_client.specs.Calls.{HasNumbers, IsNewTo, call_operations, flushes_after, is_call, written_operations}
 use Rattle.cs_client.specs.Views.{ClientView}
-use Rattle.cs_files.specs.Rows.{inode}
 use Rattle.cs_files.proofs.Made.{named_known}
 use Rattle.cs_files.proofs.Writes.{brought_is}
 use Rattle.cs_theorems.proofs.Counts.{sent_few}

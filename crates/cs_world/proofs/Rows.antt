@@ -1,10 +1,9 @@
 -- The rows of files that the client keeps follow the history.
 use Rattle.std.proofs.Common.{◌≡◌, ◌∙◌, refl, sym, ap, subst, ℕ, ◌+◌, ◌==◌, Bool, true, false, cond, List, ◌∷◌, length, Option, Some, None, is_some}
 use Rattle.std.proofs.lemmas.Bool.{eqb-true}
-use Rattle.std.specs.BTreeMap.{get}
 use Rattle.std.specs.Option.{option_map}
-use Rattle.std.specs.Ordering.{nat_cmp}
 use Rattle.cs_parts.specs.declared.references.Live.{Live}
+use Rattle.cs_inode.specs.Calls.{acked, started, stopped}
 use Rattle.cs_inode.specs.Inodes.{FileInode, after_flush, after_flush_snaps, new_inode, with_mode, written}
 use Rattle.cs_laws.specs.declared.events.Event.{Event}
 use Rattle.cs_laws.specs.declared.events.Event.TheVariants as events
@@ -20,7 +19,7 @@ use Rattle.cs_laws.specs.Runs.{IsRun}
 use Rattle.cs_laws.specs.Tree.{client_home, client_path}
 use Rattle.cs_client.specs.declared.file.ClientFile.{ClientFile}
 use Rattle.cs_client.specs.Calls.{is_call}
-use Rattle.cs_client.specs.Rows.{acked, at_file, at_ref, row_after, started, stopped, with_inode}
+use Rattle.cs_client.specs.Rows.{at_file, at_ref, row_after, with_inode}
 use Rattle.cs_client.specs.Views.{ClientView}
 use Rattle.cs_files.specs.Rows.{inode}
 use Rattle.cs_files.specs.Steps.{inode_then, on_file}

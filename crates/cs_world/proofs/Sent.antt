@@ -1,19 +1,15 @@
 -- The links after an event.
-use Rattle.std.proofs.Common.{◌≡◌, ◌∙◌, refl, sym, ap, ℕ, ◌+◌, Bool, true, false, cond, List, [], ◌∷◌, ◌++◌, length, Option, Some, None}
+use Rattle.std.proofs.Common.{◌≡◌, ◌∙◌, refl, sym, ap, ℕ, Bool, true, false, cond, List, [], ◌∷◌, ◌++◌}
 use Rattle.std.proofs.lemmas.List.{append-nil}
 use Rattle.std.specs.BTreeMap.{get}
-use Rattle.std.specs.Option.{option_map_or}
 use Rattle.std.specs.Ordering.{nat_cmp}
-use Rattle.cs_bits.specs.declared.Caps.{Caps}
 use Rattle.cs_parts.specs.Capabilities.{granted, revoked}
-use Rattle.cs_inode.specs.Answers.{flush_answer, flush_snaps_answer}
 use Rattle.cs_laws.specs.declared.events.Event.{Event}
 use Rattle.cs_laws.specs.declared.events.Event.TheVariants as events
 use Rattle.cs_laws.specs.declared.answers.Answer.{Answer}
 use Rattle.cs_laws.specs.declared.answers.Answer.TheVariants as answers
 use Rattle.cs_laws.specs.declared.answers.Entry.{Entry}
 use Rattle.cs_laws.specs.declared.messages.Message.{Message}
-use Rattle.cs_laws.specs.declared.messages.Message.TheVariants as messages
 use Rattle.cs_laws.specs.Answers.{answer, answer_flush, answer_flush_snaps}
 use Rattle.cs_laws.specs.Events.{client_knows}
 use Rattle.cs_laws.specs.Flight.{cap_message, to_client_then, to_server_then}
@@ -23,16 +19,15 @@ use Rattle.cs_laws.specs.Runs.{IsRun}
 use Rattle.cs_laws.specs.Standing.{news}
 use Rattle.cs_laws.specs.Tree.{server_dirs, server_path}
 use Rattle.cs_records.specs.CommitNews.{commit_news}
+use Rattle.cs_tree.specs.Directories.{inos, path_of}
 use Rattle.cs_client.specs.Calls as calls
 use Rattle.cs_client.specs.Calls.{call_sent, flush_sent, flush_snaps_sent, is_call, snap_message}
 use Rattle.cs_client.specs.Views.{ClientView}
 use Rattle.cs_mds.specs.Views.{ServerView}
-use Rattle.cs_files.specs.Rows.{inode}
 use Rattle.cs_files.proofs.Flushes.{flush_sends, flush_snaps_sends}
 use Rattle.cs_world.specs.Parts.{ClientAt, LinksAt, ServerAt}
 use Rattle.cs_world.specs.Serving.{event_sent, is_served}
 use Rattle.cs_world.proofs.News.{news_told}
-use Rattle.cs_world.proofs.Rows.{row_is}
 
 -- To the server
 

@@ -1,13 +1,13 @@
 -- What is shown of a file, by the sides and by the store.
-use Rattle.std.proofs.Common.{◌≡◌, ◌∙◌, refl, sym, ap, ℕ, zero, suc, ◌+◌, ◌-◌, ◌<◌, ◌≤◌, ◌&&◌, ◌==◌, ◌++◌, min, Bool, true, false, cond, List, [], ◌∷◌, nat_lt, nat_le, Option, Some, None, is_some, arith}
-use Rattle.std.proofs.lemmas.Bool.{and_parts, cond-false, cond-true, cond_both, leb-true, ltb-true}
+use Rattle.std.proofs.Common.{◌≡◌, ◌∙◌, refl, sym, ap, ℕ, zero, suc, ◌+◌, ◌<◌, ◌≤◌, ◌&&◌, ◌==◌, ◌++◌, Bool, true, false, cond, List, ◌∷◌, nat_lt, nat_le, Option, Some, None, is_some, arith}
+use Rattle.std.proofs.lemmas.Bool.{and_parts, cond-false, cond-true, leb-true, ltb-true}
 use Rattle.std.specs.BTreeMap.{get}
 use Rattle.std.specs.List.{list_any}
 use Rattle.std.specs.Option.{option_map_or}
 use Rattle.std.specs.Ordering.{nat_cmp}
 use Rattle.cs_ids.specs.declared.objects.FileMeta.{FileMeta}
 use Rattle.cs_inode.specs.Inodes as inodes
-use Rattle.cs_tree.specs.Directories.{path_of}
+use Rattle.cs_inode.specs.Said.{shown_count}
 use Rattle.cs_objstore.specs.Files.{file_byte}
 use Rattle.cs_laws.specs.declared.events.Event.TheVariants as events
 use Rattle.cs_laws.specs.declared.answers.Answer.{Answer}
@@ -16,7 +16,6 @@ use Rattle.cs_laws.specs.declared.answers.Entry.{Entry}
 use Rattle.cs_laws.specs.declared.objects.At.{At}
 use Rattle.cs_laws.specs.declared.objects.At.TheVariants as at
 use Rattle.cs_laws.specs.declared.objects.ObjOp.{ObjOp}
-use Rattle.cs_laws.specs.declared.records.Record.{Record}
 use Rattle.cs_laws.specs.Answers.{answer_show, bytes_from, covers_file, is_gone, shown, standing_context, stands}
 use Rattle.cs_laws.specs.Events.{client_knows, server_knows}
 use Rattle.cs_laws.specs.Fits.{greatest_end, is_shown, is_state, most_shown}
@@ -28,16 +27,16 @@ use Rattle.cs_laws.specs.Owed.{owed}
 use Rattle.cs_laws.specs.Runs.{IsRun}
 use Rattle.cs_laws.specs.Shown.{writes_at}
 use Rattle.cs_laws.specs.Standing.{dir_of, is_removed}
-use Rattle.cs_laws.specs.Tree.{server_file_path, server_home}
-use Rattle.cs_client.specs.Answers.{shown_count}
+use Rattle.cs_laws.specs.Tree.{client_home, server_file_path, server_home}
+use Rattle.cs_client.specs.declared.file.ClientFile.{ClientFile}
 use Rattle.cs_client.specs.Calls.{has_some}
 use Rattle.cs_client.specs.Views.{ClientView}
 use Rattle.cs_mds.specs.declared.shown.Shown.{Shown}
 use Rattle.cs_mds.specs.declared.shown.Shown.TheVariants as states
 use Rattle.cs_mds.specs.Answers.{shown_at, shown_in, shown_of, shown_of_home}
 use Rattle.cs_mds.specs.Views.{ServerView}
-use Rattle.cs_mds.specs.Views as views
-use Rattle.cs_files.specs.Said.{snapshot_of}
+use Rattle.cs_files.specs.Laws.{snapshot_of}
+use Rattle.cs_files.specs.Rows.{inode}
 use Rattle.cs_files.proofs.Owes.{owed_is}
 use Rattle.cs_theorems.proofs.Agreeing.{states_hold}
 use Rattle.cs_theorems.proofs.Covering.{covers_by, stands_dir}
@@ -111,13 +110,13 @@ show_is p h s f a off len x run i state is =
 
 -- Where it has metadata, the file is known, and it is that of the state
 
-record HasMeta (h : List Entry) (f : ℕ) (a : At) (meta : FileMeta) : Type 0 where
+record HasMeta (h : List Entry) (f : ℕ) (a : At) (m : FileMeta) : Type 0 where
   known : server_knows h f ≡ true
-  meta : meta ≡ meta_at f a (stand h)
+  meta : m ≡ meta_at f a (stand h)
 
 meta_in : (h : List Entry) (f : ℕ) (a : At) (meta : FileMeta) → states.Meta meta ≡ shown_at f (stand h) (server_file_path h f) a → meta ≡ meta_at f a (stand h)
 meta_in h f at.Head meta is = cc
-meta_in h f (at.Snap s) meta is = at (dir_of s (stand h)) is
+meta_in h f (at.Snap s) meta is = by (dir_of s (stand h)) is
   where
     by_place : (b : Bool) → states.Meta meta ≡ cond b (states.Meta (meta_at f (at.Snap s) (stand h))) states.Absent → meta ≡ meta_at f (at.Snap s) (stand h)
     by_place true is = cc
@@ -128,16 +127,16 @@ meta_in h f (at.Snap s) meta is = at (dir_of s (stand h)) is
     by_removal true e is = absurd (cc)
     by_removal false e is = by_place (list_any (λ d. d == e) (server_file_path h f)) is
 
-    at : (o : Option ℕ) → states.Meta meta ≡ shown_in f (stand h) (server_file_path h f) s o → meta ≡ meta_at f (at.Snap s) (stand h)
-    at None is = absurd (cc)
-    at (Some e) is = by_removal (is_removed s (stand h)) e is
+    by : (o : Option ℕ) → states.Meta meta ≡ shown_in f (stand h) (server_file_path h f) s o → meta ≡ meta_at f (at.Snap s) (stand h)
+    by None is = absurd (cc)
+    by (Some e) is = by_removal (is_removed s (stand h)) e is
 
 has_meta : (h : List Entry) (s : ServerView) (f : ℕ) (a : At) (meta : FileMeta) → ServerAt h s → states.Meta meta ≡ shown_of s f a → HasMeta h f a meta
-has_meta h s f a meta i is = at (server_knows h f) refl (is ∙ shown_is h s f a i)
+has_meta h s f a meta i is = by (server_knows h f) refl (is ∙ shown_is h s f a i)
   where
-    at : (b : Bool) → server_knows h f ≡ b → states.Meta meta ≡ cond b (shown_at f (stand h) (server_file_path h f) a) states.Unknown → HasMeta h f a meta
-    at true known is = record { known = known; meta = meta_in h f a meta is }
-    at false none is = absurd (cc)
+    by : (b : Bool) → server_knows h f ≡ b → states.Meta meta ≡ cond b (shown_at f (stand h) (server_file_path h f) a) states.Unknown → HasMeta h f a meta
+    by true known is = record { known = known; meta = meta_in h f a meta is }
+    by false none is = absurd (cc)
 
 -- The client knows what is owed
 
@@ -145,7 +144,9 @@ pub owes : (p : ℕ) (h : List Entry) (v : ClientView) (s : ServerView) (f : ℕ
     → states.Meta meta ≡ shown_of s f a → option_map_or (λ r. inodes.owed (snapshot_of a) r.inode) (get nat_cmp v.files f) true ≡ owed h f a
 owes p h v s f a meta run i j is =
     let known : client_knows h f ≡ true = (has_meta h s f a meta j is).known in
-    rw (i.rows f, known) (sym (owed_is p h run f a known))
+    ap (λ o. option_map_or (λ r. inodes.owed (snapshot_of a) r.inode) o true) (i.rows f)
+    ∙ (ap (λ b. option_map_or (λ (r : ClientFile). inodes.owed (snapshot_of a) r.inode) (cond b (Some (record { inode = inode h f; home = client_home h f })) None) true) known
+    ∙ sym (owed_is p h run f a known))
 
 -- What is asked of the store lies in the file
 

@@ -1,5 +1,5 @@
 -- The store after an event: the operations of an entry have numbers of their own, so that all of them are applied.
-use Rattle.std.proofs.Common.{◌≡◌, ◌∙◌, refl, sym, ap, subst, inl, ℕ, ◌+◌, ◌<◌, ◌≤◌, ◌==◌, ◌||◌, Bool, true, false, List, [], ◌∷◌, ◌++◌, append_assoc, length, reverse, Option, Some, None, Result, Ok, Err, OnErr, arith}
+use Rattle.std.proofs.Common.{◌≡◌, ◌∙◌, refl, sym, ap, subst, inl, ℕ, ◌+◌, ◌<◌, ◌≤◌, ◌==◌, Bool, true, false, List, [], ◌∷◌, ◌++◌, append_assoc, length, reverse, Option, Some, None, Result, Ok, Err, OnErr, IsErrOf, arith}
 use Rattle.std.proofs.lemmas.Bool.Decides.{nat_tests}
 use Rattle.std.proofs.lemmas.List.{append-nil, reverse-append}
 use Rattle.cs_geom.specs.declared.places.Piece.{Piece}
@@ -7,6 +7,8 @@ use Rattle.cs_geom.specs.declared.places.TheConstants.{OBJECT_SIZE}
 use Rattle.cs_geom.specs.Cuts.{pieces_of}
 use Rattle.cs_parts.specs.declared.references.Live.{Live}
 use Rattle.cs_snapctx.specs.Context.{Context}
+use Rattle.cs_client.specs.Calls as calls
+use Rattle.cs_client.specs.Calls.{is_call}
 use Rattle.cs_objstore.specs.Files.{AppliesNew, with_new}
 use Rattle.cs_objstore.specs.Stores.{has_tid}
 use Rattle.cs_laws.specs.declared.events.Event.{Event}
@@ -17,6 +19,9 @@ use Rattle.cs_laws.specs.declared.answers.Entry.{Entry}
 use Rattle.cs_laws.specs.declared.objects.ObjOp.{ObjOp}
 use Rattle.cs_laws.specs.Agreement.{Agrees, StatesReadBack}
 use Rattle.cs_laws.specs.Answers.{answer}
+use Rattle.cs_laws.specs.Devices.{FaultsOf}
+use Rattle.cs_laws.specs.declared.faults.StepFault.{StepFault}
+use Rattle.cs_laws.specs.declared.faults.StepFault.TheVariants as faults
 use Rattle.cs_laws.specs.History.{live}
 use Rattle.cs_laws.specs.Operations.{applied, begun_under, brought, operation, operations, operations_drawn, written_on}
 use Rattle.cs_laws.specs.References.{named}
@@ -24,7 +29,7 @@ use Rattle.cs_laws.specs.Runs.{IsRun}
 use Rattle.cs_theorems.proofs.Agreeing.{reads_back}
 use Rattle.cs_theorems.proofs.Listed.{Each, each_cons, each_tail}
 use Rattle.cs_theorems.proofs.Operations.{applied_up_to}
-use Rattle.cs_world.specs.Devices.{AppliesFront, brings}
+use Rattle.cs_world.specs.Devices.{AppliesFront, StoreOf, brings, calls_store}
 use Rattle.cs_world.specs.Parts.{LogAt}
 
 -- what holds anyway holds after a fault
@@ -52,9 +57,10 @@ AreNew (o ∷ ops) old = (has_tid o.tid old ≡ false) × AreNew ops (o ∷ old)
 operations_new : (n f off : ℕ) (bytes : List ℕ) (ctx : Context) (ps : List Piece) (old : List ObjOp) → UpTo n old → AreNew (operations (n + 1) f off bytes ctx ps) old
 operations_new n f off bytes ctx [] old low = tt
 operations_new n f off bytes ctx (p ∷ ps) old low =
-    let o : ObjOp = operation (n + 1) f off bytes ctx p in
-    (absent n old low (n + 1) (omega arith),
-    operations_new (n + 1) f off bytes ctx ps (o ∷ old) (each_cons (λ (q : ObjOp). q.tid ≤ n + 1) o old (omega arith) (λ q m. let small : q.tid ≤ n = low q m in omega (arith, small))))
+    let o : ObjOp = operation (n + 1) f off bytes ctx p in (
+      absent n old low (n + 1) (omega arith),
+      operations_new (n + 1) f off bytes ctx ps (o ∷ old) (each_cons (λ (q : ObjOp). q.tid ≤ n + 1) o old (omega arith) (λ q m. let small : q.tid ≤ n = low q m in omega (arith, small))),
+    )
 
 written_new : (found : Option Live) (under : Live → Context) (n off : ℕ) (bytes : List ℕ) (old : List ObjOp) → UpTo n old → AreNew (written_on found under n off bytes) old
 written_new None under n off bytes old low = tt
@@ -113,4 +119,38 @@ agrees_of p h ops rs n run is log = record {
   operations = is;
   log = log;
   states = let P : List ObjOp → Type 0 = λ os. StatesReadBack os h in subst P (sym is) (reads_back p h run);
+}
+
+-- The clause on the store
+
+-- an event of the client's own calls the store where the client does
+calls_alike : (e : Event) (a : Answer) → is_call e ≡ true → calls.calls_store e a ≡ calls_store e a
+calls_alike (events.Show f at off len) a call = absurd (cc)
+calls_alike _ a call = refl
+
+-- after want of memory no device failed in the step
+pub no_fault : {T U : Type 0} (kind : StepFault) (b : Bool) (before now : ℕ) (r : Result T StepFault) (q : Result U StepFault) → (IsErrOf q kind → ⊥) → FaultsOf kind b before now r
+    → FaultsOf kind b before now q
+no_fault kind b before now r q none f = record { later = f.later; cause = λ e. absurd (none e); called = λ e. absurd (none e) }
+
+module _ {S : Type 0} (ops : S → List ObjOp) (failed : S → ℕ) (p : ℕ) (h : List Entry) (e : Event) (old new : S) (r : Result Answer StepFault) (b : Answer)
+    (call : is_call e ≡ true) (is : b ≡ answer p h e) where
+  same_calls : calls.calls_store e b ≡ calls_store e (answer p h e)
+  same_calls = calls_alike e b call ∙ ap (λ y. calls_store e y) is
+
+  pub store_of : OnErr r (AppliesFront (brings p h e) (applied h) (ops new)) → (calls.calls_store e b ≡ false → new ≡ old)
+      → FaultsOf faults.Store (calls.calls_store e b) (failed old) (failed new) r → StoreOf ops failed p h e old new r
+  store_of front quiet count = record {
+    front = front;
+    quiet = λ none. quiet (same_calls ∙ none);
+    faults = subst (λ c. FaultsOf faults.Store c (failed old) (failed new) r) same_calls count;
+  }
+
+-- so it is of another outcome, where want of memory came behind the call
+pub store_after : {S T U : Type 0} (ops : S → List ObjOp) (failed : S → ℕ) (p : ℕ) (h : List Entry) (e : Event) (old new : S) (r : Result T StepFault) (q : Result U StepFault)
+    → (IsErrOf q faults.Store → ⊥) → AppliesFront (brings p h e) (applied h) (ops new) → StoreOf ops failed p h e old new r → StoreOf ops failed p h e old new q
+store_after ops failed p h e old new r q none front s = record {
+  front = any_err q front;
+  quiet = s.quiet;
+  faults = no_fault faults.Store (calls_store e (answer p h e)) (failed old) (failed new) r q none s.faults;
 }

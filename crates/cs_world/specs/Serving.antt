@@ -1,5 +1,5 @@
 -- The server's own events.
-use Rattle.std.specs.Prelude.{ℕ, ◌<◌, Bool, true, false, List, length}
+use Rattle.std.specs.Prelude.{◌<◌, Bool, true, false, List, length}
 use Rattle.cs_laws.specs.declared.answers.Answer.{Answer}
 use Rattle.cs_laws.specs.declared.events.Event.{Event}
 use Rattle.cs_laws.specs.declared.events.Event.TheVariants as events

@@ -16,11 +16,7 @@ use cs_mds::Mds;
 use cs_mdslog::MdsLog;
 
 /// The server does the event, and what it sends goes to the client.
-pub fn serve<L: MdsLog>(
-    state: &mut State,
-    log: &mut L,
-    event: &Event,
-) -> Result<Answer, StepFault>
+pub fn serve<L: MdsLog>(state: &mut State, log: &mut L, event: &Event) -> Result<Answer, StepFault>
     requires ready { IsReady state.old }
     requires fits { fits event.now ≡ true }
     requires served { is_served event.now ≡ true }

@@ -1,10 +1,10 @@
 // What the server's records and the store hold of a file.
-ghost use Rattle.std.specs.Prelude.{◌≡◌, ◌-◌, true, min, IfOk, OnErr, IsErrOf};
+ghost use Rattle.std.specs.Prelude.{◌≡◌, true, IfOk, IsErrOf};
 ghost use Rattle.cs_laws.specs.declared.events.Event.TheVariants as events;
 ghost use Rattle.cs_laws.specs.Fits.{fits};
 ghost use Rattle.cs_laws.specs.Operations.{applied};
-ghost use Rattle.cs_client.specs.Answers.{shown_count};
-ghost use Rattle.cs_files.specs.Said.{snapshot_of};
+ghost use Rattle.cs_files.specs.Laws.{snapshot_of};
+ghost use Rattle.cs_inode.specs.Said.{shown_count};
 ghost use Rattle.cs_world.specs.Devices.{StoreOf};
 ghost use Rattle.cs_world.specs.Tables.{IsReady, Steps, past};
 
@@ -20,29 +20,29 @@ pub fn show<O: ObjStore>(
     state: &State,
     store: &mut O,
     file: Ino,
-    at: At,
+    at: &At,
     off: u32,
     len: u32,
 ) -> Result<Answer, StepFault>
     requires ready { IsReady state.now }
-    requires fits { fits (events.Show file at off len) ≡ true }
+    requires fits { fits (events.Show file at.now off len) ≡ true }
     requires listed { O.ops store.old ≡ applied (past state.now) }
-    ensures ok { IfOk result (λ a. Steps state.now state.now (events.Show file at off len) a) }
+    ensures ok { IfOk result (λ a. Steps state.now state.now (events.Show file at.now off len) a) }
     ensures listed { O.ops store.new ≡ O.ops store.old }
     ensures store { StoreOf (λ s. O.ops s) (λ s. O.faults s) state.now.pages (past state.now)
-        (events.Show file at off len) store.old store.new result }
+        (events.Show file at.now off len) store.old store.new result }
     ensures unlogged { IsErrOf result StepFault.Log → ⊥ }
 {
-    match state.server.shown(file, at) {
+    match state.server.shown(file, *at) {
         Shown::Unknown => Ok(Answer::Unknown),
         Shown::Absent => Ok(Answer::NoSnap),
         Shown::Gone => Ok(Answer::Gone),
         Shown::Meta(meta) => {
-            if state.client.owed(file, snapshot_of(at)) {
+            if state.client.owed(file, snapshot_of(*at)) {
                 return Ok(Answer::Pending);
             }
             let count = shown_count(meta.size, off, len);
-            let bytes = read_file(state.alloc, store, file, at, off, count)?;
+            let bytes = read_file(state.alloc, store, file, *at, off, count)?;
             Ok(Answer::Size { meta, bytes })
         }
     }

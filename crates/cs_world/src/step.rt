@@ -61,7 +61,7 @@ pub fn answer<O: ObjStore, L: MdsLog>(
         | Event::Commit => serve(state, log, event),
         Event::ToClient => Ok(to_client(state)?),
         Event::ToMds => to_server(state, log),
-        Event::Show { file, at, off, len } => show(state, store, *file, *at, *off, *len),
+        Event::Show { file, at, off, len } => show(state, store, *file, at, *off, *len),
     }
 }
 
