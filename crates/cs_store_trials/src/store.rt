@@ -13,33 +13,32 @@ fn object() -> Result<Obj, Fail> {
     Ok(Obj { ino, index: 0 })
 }
 
-fn context(alloc: Global, seq: u64) -> Result<SnapContext, Fail> {
-    let seq = Seq::new(seq).ok_or("seq")?;
-    let since = Snap::new(0).ok_or("snapshot")?;
+// A context of this number, without snapshots.
+fn context(alloc: Global, seq: Seq) -> Result<SnapContext, Fail> {
     let parent = SnapContext::empty(alloc);
-    Ok(SnapContext::merge(alloc, &[], &[], seq, &parent, since)?)
+    Ok(SnapContext::merge(alloc, &[], &[], seq, &parent, Snap::after(0))?)
 }
 
 // Two bytes from an offset on.
-fn operation(alloc: Global, tid: u64, seq: u64, off: u32, bytes: &[u8; 2]) -> Result<ObjOp, Fail>
-    ensures { IfOk result (λ op. (op.off ≡ off) × (op.bytes ≡ bytes.now)) }
+fn operation(alloc: Global, tid: Tid, seq: Seq, off: u32, bytes: &[u8; 2]) -> Result<ObjOp, Fail>
+    ensures off { IfOk result (λ op. op.off ≡ off) }
+    ensures bytes { IfOk result (λ op. op.bytes ≡ bytes.now) }
 {
-    let tid = Tid::new(tid).ok_or("tid")?;
-    let bytes = Bytes::from_slice(alloc, bytes)?;
+    let obj = object()?;
     let ctx = context(alloc, seq)?;
     Ok(ObjOp {
         tid,
-        obj: object()?,
+        obj,
         off,
-        bytes,
+        bytes: Bytes::from_slice(alloc, bytes)?,
         ctx,
     })
 }
 
 // Two operations through the bound, the second under a later context.
 fn write_both<S: ObjStore>(alloc: Global, store: &mut S) -> Result<(Applied, Applied), Fail> {
-    let first = store.apply(&operation(alloc, 1, 0, 10, b"ab")?)?;
-    let second = store.apply(&operation(alloc, 2, 2, 10, b"cd")?)?;
+    let first = store.apply(&operation(alloc, Tid::after(0), Seq::zero(), 10, b"ab")?)?;
+    let second = store.apply(&operation(alloc, Tid::after(1), Seq::after(1), 10, b"cd")?)?;
     Ok((first, second))
 }
 
@@ -54,7 +53,7 @@ fn read_four<S: ObjStore>(store: &mut S, at: At) -> Result<[u8; 4], Fail> {
 fn reads_the_head_and_a_snapshot(rt: HostRuntime) -> Result<(), Fail> {
     let mut store = MemStore::new(rt.alloc());
     let _ = write_both(rt.alloc(), &mut store)?;
-    let snap = Snap::new(1).ok_or("snapshot")?;
+    let snap = Snap::after(0);
     assert_eq!(rt; read_four(&mut store, At::Head)?, *b"\0cd\0");
     assert_eq!(rt; read_four(&mut store, At::Snap(snap))?, *b"\0ab\0");
     Ok(())
@@ -63,7 +62,7 @@ fn reads_the_head_and_a_snapshot(rt: HostRuntime) -> Result<(), Fail> {
 #[test]
 fn the_second_call_fails(rt: HostRuntime) -> Result<(), Fail> {
     let mut store = FaultyStore::new(rt.alloc(), &[2])?;
-    let op = operation(rt.alloc(), 1, 0, 10, b"ab")?;
+    let op = operation(rt.alloc(), Tid::after(0), Seq::zero(), 10, b"ab")?;
     let mut out = *b"....";
     assert_eq!(rt; store.apply(&op), Ok(Applied::New));
     assert_eq!(rt; store.read(object()?, At::Head, 9, &mut out), Err(Failed));
@@ -76,12 +75,12 @@ fn the_second_call_fails(rt: HostRuntime) -> Result<(), Fail> {
 #[test]
 fn an_object_is_cloned_before_a_later_context(rt: HostRuntime) -> Result<(), Fail> {
     let mut store = MemStore::new(rt.alloc());
-    let _ = store.apply(&operation(rt.alloc(), 1, 0, 0, b"aa")?)?;
-    let _ = store.apply(&operation(rt.alloc(), 2, 0, 2, b"bb")?)?;
+    let _ = store.apply(&operation(rt.alloc(), Tid::after(0), Seq::zero(), 0, b"aa")?)?;
+    let _ = store.apply(&operation(rt.alloc(), Tid::after(1), Seq::zero(), 2, b"bb")?)?;
     assert_eq!(rt; store.clones(object()?), 0);
-    let _ = store.apply(&operation(rt.alloc(), 3, 1, 0, b"zz")?)?;
+    let _ = store.apply(&operation(rt.alloc(), Tid::after(2), Seq::after(0), 0, b"zz")?)?;
     assert_eq!(rt; store.clones(object()?), 1);
-    let snap = Snap::new(1).ok_or("snapshot")?;
+    let snap = Snap::after(0);
     let mut out = *b"....";
     store.read(object()?, At::Snap(snap), 0, &mut out)?;
     assert_eq!(rt; out, *b"aabb");
