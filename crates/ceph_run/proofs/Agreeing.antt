@@ -1,5 +1,5 @@
 -- A store and a log that hold nothing agree with the journal of no event.
-use Rattle.std.proofs.Common.{◌≡◌, []}
+use Rattle.std.proofs.Common.{[]}
 use Rattle.ceph_run.specs.Held.{Held, AgreesAt, IsBlank}
 
 pub nothing_agrees : (held : Held) → IsBlank held → AgreesAt [] held

@@ -1,5 +1,5 @@
 -- How a run ends, from what was read and what was written.
-use Rattle.std.proofs.Common.{◌≡◌, ◌≢◌, ◌∙◌, ap, subst, refl, ℕ, ◌<◌, ◌⊎◌, inl, inr, List, [], Option, Some, None, IfSome, Result, Ok, Err, OnOk, IfErr, IsErrOf, arith}
+use Rattle.std.proofs.Common.{◌≡◌, ◌≢◌, ◌∙◌, ap, subst, refl, ℕ, ◌<◌, ◌⊎◌, inl, inr, List, Option, Some, None, IfSome, Result, Ok, Err, OnOk, IfErr, IsErrOf, arith}
 use Rattle.std.specs.Io.KnownBytes.{Appends, Keeps}
 use Rattle.cs_ids.specs.Devices.{Rose}
 use Rattle.cs_io.specs.Whole.{AppendsFront}

@@ -228,9 +228,7 @@ fn worlds_cross_threads<O: ObjStore, L: MdsLog>(world: &World<O, L>) {
 fn a_world_crosses_threads(rt: HostRuntime) -> Result<(), Fail> {
     let store = MemStore::new(rt.alloc());
     let log = MemLog::new(rt.alloc());
-    let world = World::make(rt.alloc(), 1, store, log)
-        .ok()
-        .ok_or("memory")?;
+    let world = World::make(rt.alloc(), 1, store, log).ok().ok_or("memory")?;
     worlds_cross_threads(&world);
     let (_, _) = world.finish();
     Ok(())

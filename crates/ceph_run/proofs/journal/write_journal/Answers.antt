@@ -1,6 +1,5 @@
-use Rattle.std.proofs.Common.{◌≡◌, ◌∙◌, suc, ◌+◌, ◌∷◌, sym, ap, refl, subst, length, add-one, arith, Result, Err}
+use Rattle.std.proofs.Common.{◌≡◌, ◌∙◌, suc, ◌+◌, ◌∷◌, sym, ap, refl, subst, length, add-one, arith}
 use Rattle.std.proofs.lemmas.List.{length-reverse}
-use Rattle.cs_laws.specs.declared.answers.Answer.{Answer}
 use Rattle.cs_laws.specs.declared.answers.Entry.{Entry}
 use Rattle.cs_laws.specs.declared.faults.StepFault.{StepFault}
 use Rattle.std.specs.Io.KnownBytes.{Appends}
