@@ -29,8 +29,8 @@ abbrev pub failed : StepFault → Result Answer StepFault
 failed f = Err f
 
 -- s, t: the store before the step and after it, l, m: the log
-pub step_holds : {S L : Type 0} (ops : S → List ObjOp) (store_failed : S → ℕ) (records : L → List (List ℕ)) (count log_failed : L → ℕ) (pages : ℕ) (h : List Entry)
-    (e : Event) (s t : S) (l m : L) (f : StepFault) → AgreesAt h (record { ops = ops s; records = records l; durable = count l })
+pub step_holds : {S L : Type 0} (ops : S → List ObjOp) (store_failed : S → ℕ) (records : L → List (List ℕ)) (count log_failed : L → ℕ)
+    (pages : ℕ) (h : List Entry) (e : Event) (s t : S) (l m : L) (f : StepFault) → AgreesAt h (record { ops = ops s; records = records l; durable = count l })
     → StoreOf ops store_failed pages h e s t (failed f) → LogOf records count log_failed pages h e l m (failed f)
     → HoldsIn f pages h e (record { ops = ops t; records = records m; durable = count m })
 step_holds ops store_failed records count log_failed pages h e s t l m f agreed store log =

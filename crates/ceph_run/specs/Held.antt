@@ -24,7 +24,7 @@ pub record IsBlank (held : Held) : Type 0 where
 abbrev pub LogsJournal : List Entry → Held → Type 0
 LogsJournal h held = LogIs held.records held.durable (history.durable h) (history.fresh h)
 
--- both agree with a journal, in three parts: the store lists exactly the operations that it implies, the log has its records, and from the two
--- each state of a file that isn't owed reads back as its writes
+-- both agree with a journal, in three parts: the store lists exactly the operations that it implies, the log has its records, and from the
+-- two each state of a file that isn't owed reads back as its writes
 abbrev pub AgreesAt : List Entry → Held → Type 0
 AgreesAt h held = Agrees held.ops held.records held.durable h

@@ -55,7 +55,9 @@ pub record Ends (pages : ℕ) (input : Input) (status : ℕ) (taken_old taken_ne
 -- what the call of a run did
 pub record Served (pages status : ℕ) (before after : Devices) : Type 0 where
   -- 0: the source was read to its end, all laws hold of the journal, and store and log agree with it
-  pub done : status ≡ 0 → IsAtEnd after.left × IfSome before.left (λ b. IsLawfulRun pages (judged b) × AgreesWith pages (judged b) after.held)
+  pub done : status ≡ 0
+      → IsAtEnd after.left
+      × IfSome before.left (λ b. IsLawfulRun pages (judged b) × AgreesWith pages (judged b) after.held)
   -- 2: the source was read to its end
   pub refused : status ≡ 2 → IsAtEnd after.left
   -- 0, 2 and 3: this is what the input is, and the sink took the journal, the fault's line or the limit's line

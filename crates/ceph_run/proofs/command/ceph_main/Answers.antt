@@ -11,7 +11,8 @@ use Rattle.ceph_run.proofs.command.ceph_main.Goals as goal
 -- For want of memory nothing was read and nothing written.
 pub returns-in-Err-Memory-clause-served : goal.returns-in-Err-Memory-clause-served
 returns-in-Err-Memory-clause-served g c =
-    let held : Held = record { ops = g.O.ObjStore.ops c.args.store; records = g.L.MdsLog.records c.args.log; durable = g.L.MdsLog.durable c.args.log } in
+    let held : Held =
+    record { ops = g.O.ObjStore.ops c.args.store; records = g.L.MdsLog.records c.args.log; durable = g.L.MdsLog.durable c.args.log } in
     let blank : IsBlank held = record { store = c.requires.store; log = c.requires.log; durable = c.requires.durable } in
     λ pages _. unread pages reading.Memory _ _ _ _ _ _ held _ _ (λ is. cc) blank
 

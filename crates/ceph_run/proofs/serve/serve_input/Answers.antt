@@ -7,6 +7,7 @@ returns-in-Runs-clause-ends g c = rw c.in-Runs.is (rw c.events.ensures.events at
 
 pub returns-in-Refused-clause-ends : goal.returns-in-Refused-clause-ends
 returns-in-Refused-clause-ends g c =
-    let held : Held = record { ops = g.O.ObjStore.ops c.args.store; records = g.L.MdsLog.records c.args.log; durable = g.L.MdsLog.durable c.args.log } in
+    let held : Held =
+    record { ops = g.O.ObjStore.ops c.args.store; records = g.L.MdsLog.records c.args.log; durable = g.L.MdsLog.durable c.args.log } in
     let blank : IsBlank held = record { store = c.requires.store; log = c.requires.log; durable = c.requires.durable } in
     rw c.in-Refused.is (refused c.args.pages _ _ _ _ _ _ held _ _ _ _ blank c.refuse.ensures)
