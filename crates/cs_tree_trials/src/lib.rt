@@ -1,10 +1,5 @@
-//! Tests of the metadata server, its records and its directories: each call that takes memory, once with ample
-//! memory, and what a failing log leaves.
+//! Tests of the directories: each call that takes memory, once with ample memory.
 #![tactic(auto)]
 
-#[cfg(test)]
-mod mds;
-#[cfg(test)]
-mod records;
 #[cfg(test)]
 mod tree;
