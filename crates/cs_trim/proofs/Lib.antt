@@ -1,0 +1,7 @@
+pub mod Bytes
+pub mod Fitting
+pub mod Holding
+pub mod Reading
+pub mod Standing
+pub mod States
+pub mod Trimming

@@ -1,5 +1,5 @@
 -- Which clones of an object are kept, the oldest first.
-use Rattle.std.specs.Prelude.{ℕ, zero, suc, ◌+◌, ◌-◌, ◌==◌, ◌&&◌, ◌||◌, max, Bool, true, false, not, nat_lt, nat_le, List, [], ◌∷◌, ◌++◌, filter, count_by, if◌then◌else◌}
+use Rattle.std.specs.Prelude.{ℕ, zero, suc, ◌+◌, ◌-◌, ◌==◌, ◌&&◌, ◌||◌, max, Bool, true, false, not, nat_lt, nat_le, List, [], ◌∷◌, ◌++◌, filter, length, if◌then◌else◌}
 use Rattle.cs_trim.specs.declared.numbers.SnapStatus.{SnapStatus}
 use Rattle.cs_trim.specs.declared.numbers.SnapStatus.TheVariants.{NoSnap, Gone, Standing}
 use Rattle.cs_trim.specs.declared.object.Span.{Span}
@@ -45,4 +45,4 @@ kept b (removed s ∷ h) = kept b h
 -- how many clones of the objects below a number a trim gives up
 abbrev pub given_up : ℕ → List Step → ℕ
 given_up zero h = 0
-given_up (suc b) h = given_up b h + count_by (λ k. not (serves h k)) (kept b h)
+given_up (suc b) h = given_up b h + length (filter (λ k. not (serves h k)) (kept b h))

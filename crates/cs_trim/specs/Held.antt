@@ -1,8 +1,9 @@
--- What a store holds, and how a write changes what it holds of an object.
-use Rattle.std.specs.Prelude.{◌≡◌, ℕ, zero, suc, ◌-◌, Bool, List, [], ◌∷◌, ◌++◌, Option, Some, None, nat_lt, slice_index_or, if◌then◌else◌}
+-- What a store holds, and how a write and a trim change what it holds of an object.
+use Rattle.std.specs.Prelude.{◌≡◌, ◌≢◌, ℕ, zero, suc, ◌+◌, ◌-◌, Bool, not, List, [], ◌∷◌, ◌++◌, length, filter, Option, Some, None, nat_lt, slice_index_or, if◌then◌else◌}
 use Rattle.std.specs.Borrow.{Bor}
 use Rattle.cs_laws.specs.declared.objects.At.{At}
 use Rattle.cs_laws.specs.declared.objects.At.TheVariants as at
+use Rattle.cs_trim.specs.Blocks.{Writes}
 use Rattle.cs_trim.specs.Clones.{any_standing, has}
 use Rattle.cs_trim.specs.declared.numbers.SnapStatus.{SnapStatus}
 use Rattle.cs_trim.specs.declared.numbers.SnapStatus.TheVariants.{NoSnap, Gone, Standing}
@@ -78,3 +79,37 @@ seq_after q (Some x) = if nat_lt x.seq q then q else x.seq
 abbrev pub clones_after : ℕ → Option Head → List KeptClone → List KeptClone
 clones_after q None cs = cs
 clones_after q (Some x) cs = if nat_lt x.seq q then cs ++ record { span = record { above = x.seq; upto = q }; image = x.image } ∷ [] else cs
+
+-- bytes are written to an object from an offset on, under the seq q
+pub record IsWritten (q off : ℕ) (bytes : List ℕ) (old new : ObjectState) : Type 0 where
+  pub written : Writes off bytes (head_image old.head) (head_image new.head)
+  pub head : new.head ≡ Some (record { seq = seq_after q old.head; image = head_image new.head })
+  pub clones : new.clones ≡ clones_after q old.head old.clones
+
+-- an object after a trim, and the clones that it gives up
+abbrev pub trimmed_object : List SnapStatus → ObjectState → ObjectState
+trimmed_object numbers o = record { head = o.head; clones = filter (λ c. serves_in numbers c.span) o.clones }
+
+abbrev pub dropped : List SnapStatus → ObjectState → ℕ
+dropped numbers o = length (filter (λ c. not (serves_in numbers c.span)) o.clones)
+
+-- those of the objects below a number
+abbrev pub dropped_below : List SnapStatus → List ObjectState → ℕ → ℕ
+dropped_below numbers objects zero = 0
+dropped_below numbers objects (suc b) = dropped_below numbers objects b + dropped numbers (object_at objects b)
+
+-- the stores have the same numbers, and each object is as before
+pub record SameObjects (old new : StoreState) : Type 0 where
+  pub numbers : new.numbers ≡ old.numbers
+  pub objects : (b : ℕ) → object_at new.objects b ≡ object_at old.objects b
+
+-- bytes are written to one object, under the last number that was drawn
+pub record WritesObject (b off : ℕ) (bytes : List ℕ) (old new : StoreState) : Type 0 where
+  pub numbers : new.numbers ≡ old.numbers
+  pub object : IsWritten (length old.numbers) off bytes (object_at old.objects b) (object_at new.objects b)
+  pub others : (c : ℕ) → c ≢ b → object_at new.objects c ≡ object_at old.objects c
+
+-- all objects are trimmed
+pub record TrimsObjects (old new : StoreState) : Type 0 where
+  pub numbers : new.numbers ≡ old.numbers
+  pub objects : (b : ℕ) → object_at new.objects b ≡ trimmed_object old.numbers (object_at old.objects b)

@@ -9,6 +9,7 @@ use Rattle.cs_trim.specs.declared.numbers.SnapStatus.{SnapStatus}
 use Rattle.cs_trim.specs.declared.numbers.SnapStatus.TheVariants.{NoSnap, Gone, Standing}
 use Rattle.cs_trim.specs.declared.object.Head.{Head}
 use Rattle.cs_trim.specs.declared.object.KeptClone.{KeptClone}
+use Rattle.cs_trim.specs.declared.object.Span.{Span}
 use Rattle.cs_trim.specs.Blocks.{byte_in}
 use Rattle.cs_trim.specs.Clones.{greatest, kept}
 use Rattle.cs_trim.specs.Held.{ObjectState, StoreState, object_at, serves_in, status_in, status_of}
@@ -24,17 +25,17 @@ IsHead ws (Some x) = (0 < length ws) × (x.seq ≡ greatest ws) × ((i : ℕ) �
 abbrev pub HasState : List Write → KeptClone → Type 0
 HasState ws c = (i : ℕ) → byte_in c.image i ≡ byte_of (before c.span.upto ws) i
 
--- of an object there are the head and one image for each kept clone, and no other image
-pub record Holds (b : ℕ) (h : List Step) (o : ObjectState) : Type 0 where
-  pub head : IsHead (writes b h) o.head
-  pub clones : map (λ c. c.span) o.clones ≡ kept b h
-  pub bytes : All (HasState (writes b h)) o.clones
+-- of an object with these writes and kept clones there are the head and one image for each kept clone, and no other image
+pub record Holds (ws : List Write) (ks : List Span) (o : ObjectState) : Type 0 where
+  pub head : IsHead ws o.head
+  pub clones : map (λ c. c.span) o.clones ≡ ks
+  pub bytes : All (HasState ws) o.clones
 
 -- the store stands for the list of steps: it holds just this
 pub record StandsFor (h : List Step) (s : StoreState) : Type 0 where
   pub drawn : length s.numbers ≡ drawn h
   pub statuses : (n : ℕ) → status_in s.numbers n ≡ status h n
-  pub objects : (b : ℕ) → Holds b h (object_at s.objects b)
+  pub objects : (b : ℕ) → Holds (writes b h) (kept b h) (object_at s.objects b)
 
 -- after a step the store stands for each list that it stood for, with this step more
 abbrev pub Follows : Step → StoreState → StoreState → Type 0

@@ -1,6 +1,6 @@
 // The numbers that snapshots and removals drew from one counter.
 ghost use Rattle.std.specs.Prelude.{◌≡◌, ℕ, ◌+◌, ◌-◌, ◌==◌, ◌<◌, [], length, if◌then◌else◌, IfOk, OnOk, OnErr};
-ghost use Rattle.cs_trim.specs.Clones.{any_standing};
+ghost use Rattle.cs_trim.specs.Clones.{any_standing, is_standing};
 ghost use Rattle.cs_trim.specs.Held.{status_in};
 
 use crate::object::Span;
@@ -17,6 +17,14 @@ pub enum SnapStatus {
     Gone,
     /// Its snapshot stands.
     Standing,
+}
+
+impl SnapStatus {
+    fn is_standing(self) -> bool
+        ensures { result ≡ is_standing self }
+    {
+        matches!(self, SnapStatus::Standing)
+    }
 }
 
 /// The numbers drawn so far, from 1 on. Contracts see the status of each.
@@ -70,11 +78,13 @@ impl Numbers {
     }
 
     /// Whether a standing snapshot has a number in the span.
+    #[tactic(auto, using(crate::proofs::Standing::stands_here, crate::proofs::Standing::stands_later, crate::proofs::Standing::none_left))]
     pub fn any_standing(&self, span: &Span) -> bool
         ensures { result ≡ any_standing (status_in self.now) span.now.above (span.now.upto - span.now.above) }
     {
-        for number in span.above.get()..span.upto.get() {
-            if self.status(number + 1) == SnapStatus::Standing {
+        let last = span.upto.get();
+        for number in span.above.get()..last {
+            if self.status(number + 1).is_standing() {
                 return true;
             }
         }

@@ -1,13 +1,13 @@
 // An object: its head, and the clones that serve its snapshots.
-ghost use Rattle.std.specs.Prelude.{◌≡◌, ◌+◌, ◌-◌, ◌≤◌, length, filter, count_by, not, Some, slice_index, EachIndex, IfOk, OnOk, OnErr};
+ghost use Rattle.std.specs.Prelude.{◌≡◌, ◌+◌, ◌<◌, ◌≤◌, length, slice_index, vec_len, vec_capacity, EachIndex, IfOk, OnOk, OnErr};
 ghost use Rattle.cs_geom.specs.declared.places.TheConstants.{OBJECT_SIZE};
 ghost use Rattle.cs_trim.specs.Blocks.{byte_in, Writes};
 ghost use Rattle.cs_trim.specs.Clones.{has};
-ghost use Rattle.cs_trim.specs.Held.{clone_image, clones_after, head_image, image_at, image_in, last_seq, no_object, seq_after, serves_in};
+ghost use Rattle.cs_trim.specs.Held.{clone_image, clones_after, dropped, head_image, image_at, image_in, last_seq, no_object, seq_after, trimmed_object, IsWritten};
 
 use crate::image::Image;
 use crate::numbers::Numbers;
-use cs_ids::{Memory, Seq, Snap};
+use cs_ids::{Memory, Seq};
 use cs_laws::At;
 use std::alloc::Global;
 use std::marker::Model;
@@ -74,7 +74,8 @@ impl Object {
 
     /// How many clones it has.
     pub fn clones(&self) -> u32
-        ensures { result ≡ length self.now.clones }
+        ensures count { result ≡ length self.now.clones }
+        ensures few { result ≤ 99999 }
     {
         let Some(head) = &self.head else {
             return 0;
@@ -85,18 +86,6 @@ impl Object {
         count as u32
     }
 
-    // The clone of a snapshot.
-    fn clone_at(&self, number: u64) -> Option<&Image>
-        ensures { image_in result ≡ clone_image number self.now.clones }
-    {
-        for clone in &self.clones {
-            if clone.span.has(number) {
-                return Some(&clone.image);
-            }
-        }
-        None
-    }
-
     // What it has in a state, or had.
     fn image(&self, at: &At) -> Option<&Image>
         ensures { image_in result ≡ image_at at.now self.now }
@@ -105,7 +94,7 @@ impl Object {
         match at {
             At::Head => Some(&head.image),
             At::Snap(snap) if head.seq.get() < snap.get() => Some(&head.image),
-            At::Snap(snap) => self.clone_at(snap.get()),
+            At::Snap(snap) => clone_image(self.clones.as_slice(), snap.get()),
         }
     }
 
@@ -131,55 +120,71 @@ impl Object {
     }
 
     /// Writes bytes from `off` on. Where numbers were drawn since the last write the head becomes a clone.
+    #[tactic(auto, using(crate::proofs::Fitting::clones_fit))]
     pub fn write(&mut self, alloc: Global, seq: &Seq, off: u32, bytes: &[u8]) -> Result<(), Memory>
         requires { off + length bytes.now ≤ OBJECT_SIZE }
-        ensures written { OnOk result (Writes off bytes.now (head_image self.old.head) (head_image self.new.head)) }
-        ensures head { OnOk result (self.new.head ≡ Some (record { seq = seq_after seq.now self.old.head; image = head_image self.new.head })) }
-        ensures clones { OnOk result (self.new.clones ≡ clones_after seq.now self.old.head self.old.clones) }
+        ensures ok { OnOk result (IsWritten seq.now off bytes.now self.old self.new) }
         ensures err { OnErr result (self.new ≡ self.old) }
     {
         let image = self.written(alloc, off, bytes)?;
         self.clones.reserve(1)?;
-        self.put_head(seq, image)
-    }
-
-    // Makes the image the head.
-    fn put_head(&mut self, seq: &Seq, image: Image) -> Result<(), Memory> {
-        let head = match self.head.take() {
-            None => Head { seq: *seq, image },
-            Some(old) => {
-                if old.seq.get() < seq.get() {
-                    let span = Span {
-                        above: old.seq,
-                        upto: *seq,
-                    };
-                    self.clones.push(KeptClone {
-                        span,
-                        image: old.image,
-                    })?;
-                    Head { seq: *seq, image }
-                } else {
-                    Head {
-                        seq: old.seq,
-                        image,
-                    }
-                }
-            }
-        };
-        self.head = Some(head);
+        let old = self.head.take();
+        self.head = Some(next_head(&mut self.clones, old, seq, image));
         Ok(())
     }
 
     /// Drops the clones that serve no standing snapshot, and answers how many.
     pub fn trim(&mut self, numbers: &Numbers) -> u32
-        ensures head { self.new.head ≡ self.old.head }
-        ensures clones { self.new.clones ≡ filter (λ c. serves_in numbers.now c.span) self.old.clones }
-        ensures count { result ≡ count_by (λ c. not (serves_in numbers.now c.span)) self.old.clones }
+        ensures trimmed { self.new ≡ trimmed_object numbers.now self.old }
+        ensures count { result ≡ dropped numbers.now self.old }
         ensures few { result ≤ 99999 }
     {
         let before = self.clones();
         self.clones
             .retain(|clone| numbers.any_standing(&clone.span));
         before - self.clones()
+    }
+}
+
+// The image of the clone in whose span a number lies.
+fn clone_image(clones: &[KeptClone], number: u64) -> Option<&Image>
+    ensures { image_in result ≡ clone_image number clones.now }
+{
+    for clone in clones {
+        if clone.span.has(number) {
+            return Some(&clone.image);
+        }
+    }
+    None
+}
+
+// The head behind a write. The old one becomes a clone, for which there is room, where numbers were
+// drawn since its last write.
+fn next_head(clones: &mut Vec<KeptClone>, old: Option<Head>, seq: &Seq, image: Image) -> Head
+    requires { vec_len clones.old < vec_capacity clones.old }
+    ensures head { result ≡ record { seq = seq_after seq.now old; image = image } }
+    ensures clones { clones.new.items ≡ clones_after seq.now old clones.old.items }
+{
+    let Some(old) = old else {
+        return Head { seq: *seq, image };
+    };
+    if old.seq.get() < seq.get() {
+        let span = Span {
+            above: old.seq,
+            upto: *seq,
+        };
+        let clone = KeptClone {
+            span,
+            image: old.image,
+        };
+        let Ok(()) = clones.push(clone) else {
+            unreachable!()
+        };
+        Head { seq: *seq, image }
+    } else {
+        Head {
+            seq: old.seq,
+            image,
+        }
     }
 }

@@ -1,9 +1,9 @@
 // The store.
-ghost use Rattle.std.specs.Prelude.{◌≡◌, ◌+◌, ◌<◌, [], length, IfOk, OnOk, OnErr};
+ghost use Rattle.std.specs.Prelude.{◌≡◌, ◌+◌, ◌<◌, ◌≤◌, List, [], length, IfOk, OnOk, OnErr};
 ghost use Rattle.cs_geom.specs.declared.places.TheConstants.{OBJECT_SIZE};
 ghost use Rattle.cs_trim.specs.Clones.{kept, given_up};
 ghost use Rattle.cs_trim.specs.Steps.{Step, taken, removed, wrote, trimmed};
-ghost use Rattle.cs_trim.specs.Held.{status_of};
+ghost use Rattle.cs_trim.specs.Held.{dropped_below, status_of, SameObjects, TrimsObjects, WritesObject};
 ghost use Rattle.cs_trim.specs.Stands.{EachServes, Follows, Keeps, Reads, Removes, StandsFor};
 ghost use Rattle.cs_trim.specs.declared.store.TheConstants.{OBJECT_COUNT};
 
@@ -76,12 +76,27 @@ impl TrimStore {
         }
     }
 
-    // Sees to it that the object is there.
-    fn extend(&mut self, b: usize) -> Result<(), Memory> {
-        for _ in self.objects.len()..b + 1 {
+    // Sees to it that so many objects are there.
+    fn extend(&mut self, count: usize) -> Result<(), Memory>
+        requires { count ≤ 64 }
+        ensures same { SameObjects self.old self.new }
+        ensures count { OnOk result (count ≤ length self.new.objects) }
+    {
+        for _ in self.objects.len()..count {
             self.objects.push(Object::new(self.alloc))?;
         }
         Ok(())
+    }
+
+    // Writes bytes to an object that is there.
+    fn write_object(&mut self, b: usize, off: u32, bytes: &[u8]) -> Result<(), Memory>
+        requires object { b < length self.old.objects }
+        requires within { off + length bytes.now ≤ OBJECT_SIZE }
+        ensures ok { OnOk result (WritesObject b off bytes.now self.old self.new) }
+        ensures err { OnErr result (SameObjects self.old self.new) }
+    {
+        let seq = self.numbers.last();
+        self.objects[b].write(self.alloc, &seq, off, bytes)
     }
 
     /// Writes bytes to an object, from `off` on, under the last number that was drawn. They end within
@@ -93,9 +108,8 @@ impl TrimStore {
         ensures err { OnErr result (Keeps self.old self.new) }
     {
         let index = b as usize;
-        self.extend(index)?;
-        let seq = self.numbers.last();
-        self.objects[index].write(self.alloc, &seq, off, bytes)
+        self.extend(index + 1)?;
+        self.write_object(index, off, bytes)
     }
 
     /// Gives up each clone in whose span no standing snapshot lies, and answers how many. It takes no
@@ -105,11 +119,19 @@ impl TrimStore {
         ensures count { (h : List Step) → StandsFor h self.old → result ≡ given_up OBJECT_COUNT h }
         ensures serving { EachServes self.new }
     {
-        let mut given_up = 0u32;
+        self.trim_objects()
+    }
+
+    // Trims each object, and answers how many clones they dropped.
+    fn trim_objects(&mut self) -> u32
+        ensures trimmed { TrimsObjects self.old self.new }
+        ensures count { result ≡ dropped_below self.old.numbers self.old.objects OBJECT_COUNT }
+    {
+        let mut count = 0u32;
         for index in 0..self.objects.len() {
-            given_up += self.objects[index].trim(&self.numbers);
+            count += self.objects[index].trim(&self.numbers);
         }
-        given_up
+        count
     }
 
     /// How many clones of the object are kept. It takes no memory.
