@@ -1,5 +1,5 @@
 -- What a store holds after snapshots, removals and writes.
-use Rattle.std.proofs.Common.{◌≡◌, ◌≢◌, ◌∙◌, refl, sym, ap, subst, ℕ, ◌+◌, ◌<◌, ◌≤◌, ◌==◌, max, nat_lt, Bool, true, false, cond, List, [], ◌∷◌, ◌++◌, length, map, append-nil, All, Option, Some, None, arith}
+use Rattle.std.proofs.Common.{◌≡◌, ◌≢◌, ◌∙◌, refl, sym, ap, subst, ℕ, ◌+◌, ◌<◌, ◌≤◌, ◌==◌, max, nat_lt, Bool, true, false, cond, List, [], ◌∷◌, ◌++◌, length, map, append-nil, All, Option, Some, None, Result, Ok, Err, OnOk, arith}
 use Rattle.std.proofs.lemmas.Grind.{common_steps}
 use Rattle.std.proofs.lemmas.List.{map-append}
 use Rattle.std.proofs.lemmas.List.Elements.{All-cons, All-head, All-nil, All-push, All-tail}
@@ -108,13 +108,13 @@ states_written q w ws (Some x) cs is head ones states =
 
 holds_written : (q off : ℕ) (bytes : List ℕ) (ws : List Write) (ks : List Span) (old new : ObjectState) → greatest ws ≤ q → All (AsOne q ws) ks
     → Holds ws ks old → IsWritten q off bytes old new → Holds (record { seq = q; off = off; bytes = bytes } ∷ ws) (ks ++ made q ws) new
-holds_written q off bytes ws ks old new small ones holds wrote =
+holds_written q off bytes ws ks old new small ones holds done =
     let w : Write = record { seq = q; off = off; bytes = bytes } in
     let ones : All (AsOne q ws) (map (λ c. c.span) old.clones) = subst (All (AsOne q ws)) (sym holds.clones) ones in
     record {
-      head = subst (IsHead (w ∷ ws)) (sym wrote.head) (head_written q w ws old.head (head_image new.head) refl small holds.head wrote.written);
-      clones = ap (map (λ c. c.span)) wrote.clones ∙ spans_written q ws ks old.head old.clones holds.head holds.clones;
-      bytes = subst (All (HasState (w ∷ ws))) (sym wrote.clones) (states_written q w ws old.head old.clones refl holds.head ones holds.bytes);
+      head = subst (IsHead (w ∷ ws)) (sym done.head) (head_written q w ws old.head (head_image new.head) refl small holds.head done.written);
+      clones = ap (map (λ c. c.span)) done.clones ∙ spans_written q ws ks old.head old.clones holds.head holds.clones;
+      bytes = subst (All (HasState (w ∷ ws))) (sym done.clones) (states_written q w ws old.head old.clones refl holds.head ones holds.bytes);
     }
 
 -- the object that is written, and another one
@@ -141,3 +141,16 @@ follows_wrote b off bytes old mid new same written h before_it =
           (subst (λ q. IsWritten q off bytes (object_at mid.objects b) (object_at new.objects b)) s.drawn written.object))
           (written.others c);
     }
+
+-- ---- the same, where a call succeeded
+
+pub ok_taken : {T E : Type 0} (r : Result T E) (old now new : StoreState) → old ≡ now → OnOk r (length new.numbers ≡ length old.numbers + 1)
+    → OnOk r ((n : ℕ) → status_in new.numbers n ≡ cond (n == length old.numbers + 1) Standing (status_in old.numbers n))
+    → new.objects ≡ old.objects → OnOk r (Follows taken now new)
+ok_taken (Ok x) old now new same count statuses objects = subst (λ s. Follows taken s new) same (follows_taken old new count statuses objects)
+ok_taken (Err e) old now new same count statuses objects = tt
+
+pub ok_wrote : {T E : Type 0} (r : Result T E) (b off : ℕ) (bytes : List ℕ) (old mid new : StoreState) → SameObjects old mid
+    → OnOk r (WritesObject b off bytes mid new) → OnOk r (Follows (wrote b off bytes) old new)
+ok_wrote (Ok x) b off bytes old mid new same written = follows_wrote b off bytes old mid new same written
+ok_wrote (Err e) b off bytes old mid new same written = tt

@@ -4,4 +4,5 @@ pub mod Holding
 pub mod Reading
 pub mod Standing
 pub mod States
+pub mod Statuses
 pub mod Trimming

@@ -145,7 +145,7 @@ covers_by true s q w ws ks is small old least none =
       | inl above ↦ covers_made s q ws above upto (right_none (list_any (has s) ks) (list_any (has s) (made q ws)) both)
       | inr under ↦ old under (left_none (list_any (has s) ks) (list_any (has s) (made q ws)) both)
     ] in before_newest s w ws (omega (arith, is, upto)) ∙ before_it
-covers_by false s q w ws ks is small old = old
+covers_by false s q w ws ks is small old least none = old least none
 
 not_gone : (x : Bool) (st : SnapStatus) → is_standing (cond x Gone st) ≡ true → is_standing st ≡ true
 not_gone true st stands = absurd (cc)
@@ -157,7 +157,7 @@ covers b s (taken ∷ h) stands least none =
     let new : (s == drawn h + 1) ≡ false = less_not s (drawn h + 1) (omega (arith, least, greatest_drawn b h)) in
     covers b s h (sym (ap (λ x. is_standing (cond x Standing (status h s))) new) ∙ stands) least none
 covers b s (removed t ∷ h) stands least none = covers b s h (not_gone (s == t) (status h s) stands) least none
-covers b s (wrote c off bytes ∷ h) stands =
-    covers_by (c == b) s (drawn h) (record { seq = drawn h; off = off; bytes = bytes }) (writes b h) (kept b h) refl (greatest_drawn b h) (covers b s h stands)
+covers b s (wrote c off bytes ∷ h) stands least none =
+    covers_by (c == b) s (drawn h) (record { seq = drawn h; off = off; bytes = bytes }) (writes b h) (kept b h) refl (greatest_drawn b h) (covers b s h stands) least none
 covers b s (trimmed ∷ h) stands least none =
     covers b s h stands least (sym (any-filter_same (has s) (serves h) true (λ k. serves_has h s k stands) (kept b h)) ∙ none)

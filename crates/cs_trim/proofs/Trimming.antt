@@ -1,13 +1,16 @@
 -- What a store holds after a trim.
-use Rattle.std.proofs.Common.{◌≡◌, ◌∙◌, refl, sym, ap, subst, ℕ, zero, suc, ◌+◌, ◌-◌, ◌≤◌, not, Bool, true, false, cond, List, [], ◌∷◌, length, map, filter, All, arith}
+use Rattle.std.proofs.Common.{◌≡◌, ◌∙◌, refl, sym, ap, subst, ℕ, zero, suc, ◌+◌, ◌-◌, ◌≤◌, not, Bool, true, false, cond, List, [], ◌∷◌, ◌++◌, length, map, filter, All, Option, arith, inl, inr}
+use Rattle.std.proofs.lemmas.Bool.{cases_lt}
 use Rattle.std.proofs.lemmas.Grind.{common_steps}
 use Rattle.std.proofs.lemmas.List.{length-map}
 use Rattle.std.proofs.lemmas.List.Elements.{All-filter, filter_agree, filter_passes}
+use Rattle.std.proofs.lemmas.List.Filters.{length-filter_both}
 use Rattle.cs_trim.specs.declared.numbers.SnapStatus.{SnapStatus}
+use Rattle.cs_trim.specs.declared.object.Head.{Head}
 use Rattle.cs_trim.specs.declared.object.KeptClone.{KeptClone}
 use Rattle.cs_trim.specs.declared.object.Span.{Span}
 use Rattle.cs_trim.specs.Clones.{given_up, kept, serves}
-use Rattle.cs_trim.specs.Held.{ObjectState, StoreState, TrimsObjects, dropped, dropped_below, object_at, serves_in, status_in, trimmed_object}
+use Rattle.cs_trim.specs.Held.{ObjectState, StoreState, TrimsObjects, dropped, dropped_below, no_object, object_at, serves_in, status_in, trimmed_object}
 use Rattle.cs_trim.specs.Objects.{Write, writes}
 use Rattle.cs_trim.specs.Stands.{EachServes, Follows, HasState, Holds, StandsFor}
 use Rattle.cs_trim.specs.Steps.{Step, trimmed, status}
@@ -70,3 +73,35 @@ each_serves old new trims b =
     filter_passes (λ c. serves_in old.numbers c.span) (object_at old.objects b).clones in
     subst (λ ns. All (λ c. serves_in ns c.span ≡ true) (object_at new.objects b).clones) (sym trims.numbers)
     (subst (λ o. All (λ c. serves_in old.numbers c.span ≡ true) o.clones) (sym (trims.objects b)) passes)
+
+-- ---- one object, and all of them
+
+abbrev pub state_of : Option Head → List KeptClone → ObjectState
+state_of head cs = record { head = head; clones = cs }
+
+pub object_trimmed : (numbers : List SnapStatus) (head : Option Head) (old new : List KeptClone) (now : ObjectState)
+    → new ≡ filter (λ c. serves_in numbers c.span) old → state_of head old ≡ now → state_of head new ≡ trimmed_object numbers now
+object_trimmed numbers head old new now is same = ap (state_of head) is ∙ ap (trimmed_object numbers) same
+
+pub count_dropped : (numbers : List SnapStatus) (before after : ℕ) (old new : List KeptClone) (now : ObjectState)
+    → new ≡ filter (λ c. serves_in numbers c.span) old → old ≡ now.clones → before ≡ length now.clones → after ≡ length new
+    → before - after ≡ dropped numbers now
+count_dropped numbers before after old new now is same all left =
+    let both = length-filter_both (λ (c : KeptClone). serves_in numbers c.span) (λ c. not (serves_in numbers c.span)) (λ c. refl) now.clones in
+    let fewer : after ≡ length (filter (λ c. serves_in numbers c.span) now.clones) =
+    left ∙ ap length (is ∙ ap (filter (λ c. serves_in numbers c.span)) same) in omega (arith, both, fewer, all)
+
+behind : (objects : List ObjectState) (n : ℕ) → length objects ≤ n → object_at objects n ≡ no_object
+behind objects n past = grind (arith, common_steps, past)
+
+-- behind the last object nothing is dropped
+pub dropped_past : (numbers : List SnapStatus) (objects : List ObjectState) (i n : ℕ) → length objects ≤ i → i ≤ n
+    → dropped_below numbers objects i ≡ dropped_below numbers objects n
+dropped_past numbers objects i zero past small = let none : i ≡ 0 = omega (arith, small) in ap (dropped_below numbers objects) none
+dropped_past numbers objects i (suc n) past small = elim (cases_lt n i) [
+  | inl less ↦ let last : i ≡ suc n = omega (arith, less, small) in ap (dropped_below numbers objects) last
+  | inr under ↦
+      let none : dropped numbers (object_at objects n) ≡ 0 = ap (dropped numbers) (behind objects n (omega (arith, past, under))) in
+      let so_far = dropped_past numbers objects i n past under in
+      let sum : dropped_below numbers objects i ≡ dropped_below numbers objects n + dropped numbers (object_at objects n) = omega (arith, none, so_far) in sum
+]

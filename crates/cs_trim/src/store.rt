@@ -1,9 +1,10 @@
 // The store.
-ghost use Rattle.std.specs.Prelude.{◌≡◌, ◌+◌, ◌<◌, ◌≤◌, List, [], length, IfOk, OnOk, OnErr};
+ghost use Rattle.std.specs.Prelude.{◌≡◌, ◌+◌, ◌<◌, ◌≤◌, List, [], length, slice_index, EachIndex, IfOk, OnOk, OnErr};
 ghost use Rattle.cs_geom.specs.declared.places.TheConstants.{OBJECT_SIZE};
+ghost use Rattle.cs_trim.specs.Blocks.{byte_in};
 ghost use Rattle.cs_trim.specs.Clones.{kept, given_up};
 ghost use Rattle.cs_trim.specs.Steps.{Step, taken, removed, wrote, trimmed};
-ghost use Rattle.cs_trim.specs.Held.{dropped_below, status_of, SameObjects, TrimsObjects, WritesObject};
+ghost use Rattle.cs_trim.specs.Held.{dropped_below, image_at, object_at, status_of, SameObjects, TrimsObjects, WritesObject};
 ghost use Rattle.cs_trim.specs.Stands.{EachServes, Follows, Keeps, Reads, Removes, StandsFor};
 ghost use Rattle.cs_trim.specs.declared.store.TheConstants.{OBJECT_COUNT};
 
@@ -139,9 +140,26 @@ impl TrimStore {
         requires { b < OBJECT_COUNT }
         ensures { (h : List Step) → StandsFor h self.now → result ≡ length (kept b h) }
     {
-        match self.objects.get(b as usize) {
+        self.count(b as usize)
+    }
+
+    // How many clones it holds of an object.
+    fn count(&self, b: usize) -> u32
+        ensures { result ≡ length (object_at self.now.objects b).clones }
+    {
+        match self.objects.get(b) {
             Some(object) => object.clones(),
             None => 0,
+        }
+    }
+
+    // Fills `out` with the bytes that it holds of an object in a state, from `off` on.
+    fn read_object(&self, b: usize, at: &At, off: u32, out: &mut [u8])
+        ensures { EachIndex out.new (λ k. slice_index out.new k ≡ byte_in (image_at at.now (object_at self.now.objects b)) (off + k)) }
+    {
+        match self.objects.get(b) {
+            Some(object) => object.read(at, off, out),
+            None => out.fill(0),
         }
     }
 
@@ -156,10 +174,7 @@ impl TrimStore {
             SnapStatus::NoSnap => TrimRead::NoSnap,
             SnapStatus::Gone => TrimRead::Gone,
             SnapStatus::Standing => {
-                match self.objects.get(b as usize) {
-                    Some(object) => object.read(&at, off, out),
-                    None => out.fill(0),
-                }
+                self.read_object(b as usize, &at, off, out);
                 TrimRead::Read
             }
         }
