@@ -8,8 +8,6 @@ mod image;
 mod numbers;
 mod object;
 mod store;
-#[cfg(test)]
-mod tests;
 
 pub use answers::{Removed, TrimRead};
 pub use store::{OBJECT_COUNT, TrimStore};

@@ -12,8 +12,6 @@ mod printing;
 mod rows;
 mod run;
 mod script;
-#[cfg(test)]
-mod tests;
 
 pub use answers::Answer;
 pub use cs_script::ParseFault;

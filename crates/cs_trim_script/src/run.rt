@@ -134,7 +134,8 @@ pub fn journal_text(alloc: Global, script: &Script) -> Result<Bytes, Memory>
     let mut text = Bytes::from_slice(alloc, b"ceph-trim-journal 1\n")?;
     let mut run = TrimRun::new(alloc);
     let mut number = 0u32;
-    for event in script.events() {
+    let events = script.events();
+    for event in events {
         let answer = run.step(event)?;
         number += 1;
         print_entry(number, event, &answer, &mut text)?;

@@ -1,5 +1,5 @@
 // What no clause says: that calls succeed with ample memory.
-use crate::{journal_text, parse};
+use cs_trim_script::{journal_text, parse};
 use std::test::Fail;
 
 const TRIMMED_BETWEEN: &[u8] =

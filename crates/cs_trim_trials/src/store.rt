@@ -1,5 +1,5 @@
 // What no clause says: that calls succeed with ample memory.
-use crate::{Removed, TrimRead, TrimStore};
+use cs_trim::{Removed, TrimRead, TrimStore};
 use cs_ids::Snap;
 use cs_laws::At;
 use std::test::Fail;
