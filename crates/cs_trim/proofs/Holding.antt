@@ -4,8 +4,7 @@ use Rattle.std.proofs.lemmas.Grind.{common_steps}
 use Rattle.std.proofs.lemmas.List.{map-append}
 use Rattle.std.proofs.lemmas.List.Elements.{All-cons, All-head, All-nil, All-push, All-tail}
 use Rattle.cs_laws.specs.Image.{byte_over}
-use Rattle.cs_trim.specs.declared.numbers.SnapStatus.{SnapStatus}
-use Rattle.cs_trim.specs.declared.numbers.SnapStatus.TheVariants.{NoSnap, Gone, Standing}
+use Rattle.cs_trim.specs.declared.numbers.SnapStatus.TheVariants.{Gone, Standing}
 use Rattle.cs_trim.specs.declared.object.Head.{Head}
 use Rattle.cs_trim.specs.declared.object.KeptClone.{KeptClone}
 use Rattle.cs_trim.specs.declared.object.Span.{Span}
@@ -14,7 +13,7 @@ use Rattle.cs_trim.specs.Clones.{greatest, kept, made}
 use Rattle.cs_trim.specs.Held.{IsWritten, ObjectState, SameObjects, StoreState, WritesObject, clones_after, head_image, object_at, seq_after, status_in}
 use Rattle.cs_trim.specs.Objects.{Write, before, byte_of, writes}
 use Rattle.cs_trim.specs.Stands.{Follows, HasState, Holds, IsHead, Keeps, StandsFor}
-use Rattle.cs_trim.specs.Steps.{Step, taken, removed, wrote, trimmed, drawn, status}
+use Rattle.cs_trim.specs.Steps.{taken, removed, wrote, drawn}
 use Rattle.cs_trim.proofs.States.{AsOne, before_all, before_newest, greatest_drawn, kept_as_one, lt_from, not_from}
 
 -- ---- numbers

@@ -1,5 +1,5 @@
 -- What a store reads.
-use Rattle.std.proofs.Common.{◌≡◌, ◌∙◌, refl, sym, ap, ℕ, ◌+◌, ◌<◌, ◌≤◌, ◌||◌, nat_lt, Bool, true, false, cond, List, [], ◌∷◌, length, map, All, Option, Some, None, slice_index, EachIndex, subst, arith}
+use Rattle.std.proofs.Common.{◌≡◌, ◌∙◌, refl, sym, ap, ℕ, ◌≤◌, ◌||◌, nat_lt, Bool, true, false, cond, List, [], ◌∷◌, length, map, All, Option, Some, None, subst, arith}
 use Rattle.std.specs.List.{list_any}
 use Rattle.std.proofs.lemmas.List.{length-map}
 use Rattle.std.proofs.lemmas.List.Elements.{All-head, All-tail}
@@ -8,11 +8,10 @@ use Rattle.cs_laws.specs.declared.objects.At.TheVariants as at
 use Rattle.cs_trim.specs.declared.numbers.SnapStatus.TheVariants.{Standing}
 use Rattle.cs_trim.specs.declared.object.Head.{Head}
 use Rattle.cs_trim.specs.declared.object.KeptClone.{KeptClone}
-use Rattle.cs_trim.specs.declared.object.Span.{Span}
 use Rattle.cs_trim.specs.Blocks.{byte_in}
 use Rattle.cs_trim.specs.Clones.{greatest, has, is_standing, kept}
-use Rattle.cs_trim.specs.Held.{ObjectState, StoreState, clone_image, head_image, image_at, object_at, snap_image, status_in, status_of}
-use Rattle.cs_trim.specs.Objects.{Write, before, byte_of, object_byte, writes, writes_at}
+use Rattle.cs_trim.specs.Held.{StoreState, clone_image, head_image, image_at, object_at, snap_image, status_of}
+use Rattle.cs_trim.specs.Objects.{Write, before, byte_of, object_byte, writes}
 use Rattle.cs_trim.specs.Stands.{HasState, Holds, IsHead, StandsFor}
 use Rattle.cs_trim.specs.Steps.{Step, drawn, status}
 use Rattle.cs_trim.proofs.Standing.{above_of_has, upto_of_has}

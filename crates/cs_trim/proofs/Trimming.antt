@@ -1,5 +1,5 @@
 -- What a store holds after a trim.
-use Rattle.std.proofs.Common.{◌≡◌, ◌∙◌, refl, sym, ap, subst, ℕ, zero, suc, ◌+◌, ◌-◌, ◌≤◌, not, Bool, true, false, cond, List, [], ◌∷◌, ◌++◌, length, map, filter, All, Option, arith, inl, inr}
+use Rattle.std.proofs.Common.{◌≡◌, ◌∙◌, refl, sym, ap, subst, ℕ, zero, suc, ◌+◌, ◌-◌, ◌≤◌, not, Bool, true, false, cond, List, [], ◌∷◌, length, map, filter, All, Option, arith, inl, inr}
 use Rattle.std.proofs.lemmas.Bool.{cases_lt}
 use Rattle.std.proofs.lemmas.Grind.{common_steps}
 use Rattle.std.proofs.lemmas.List.{length-map}
@@ -11,7 +11,7 @@ use Rattle.cs_trim.specs.declared.object.KeptClone.{KeptClone}
 use Rattle.cs_trim.specs.declared.object.Span.{Span}
 use Rattle.cs_trim.specs.Clones.{given_up, kept, serves}
 use Rattle.cs_trim.specs.Held.{ObjectState, StoreState, TrimsObjects, dropped, dropped_below, no_object, object_at, serves_in, status_in, trimmed_object}
-use Rattle.cs_trim.specs.Objects.{Write, writes}
+use Rattle.cs_trim.specs.Objects.{writes}
 use Rattle.cs_trim.specs.Stands.{EachServes, Follows, HasState, Holds, StandsFor}
 use Rattle.cs_trim.specs.Steps.{Step, trimmed, status}
 use Rattle.cs_trim.proofs.Standing.{any_same}

@@ -6,7 +6,7 @@ use Rattle.cs_laws.specs.declared.objects.At.TheVariants as at
 use Rattle.cs_trim.specs.Blocks.{Writes}
 use Rattle.cs_trim.specs.Clones.{any_standing, has}
 use Rattle.cs_trim.specs.declared.numbers.SnapStatus.{SnapStatus}
-use Rattle.cs_trim.specs.declared.numbers.SnapStatus.TheVariants.{NoSnap, Gone, Standing}
+use Rattle.cs_trim.specs.declared.numbers.SnapStatus.TheVariants.{NoSnap, Standing}
 use Rattle.cs_trim.specs.declared.object.Span.{Span}
 use Rattle.cs_trim.specs.declared.object.Head.{Head}
 use Rattle.cs_trim.specs.declared.object.KeptClone.{KeptClone}

@@ -5,7 +5,6 @@ use Rattle.cs_trim.specs.declared.answers.Removed.{Removed}
 use Rattle.cs_trim.specs.declared.answers.Removed.TheVariants as removals
 use Rattle.cs_trim.specs.declared.answers.TrimRead.{TrimRead}
 use Rattle.cs_trim.specs.declared.answers.TrimRead.TheVariants as reads
-use Rattle.cs_trim.specs.declared.numbers.SnapStatus.{SnapStatus}
 use Rattle.cs_trim.specs.declared.numbers.SnapStatus.TheVariants.{NoSnap, Gone, Standing}
 use Rattle.cs_trim.specs.declared.object.Head.{Head}
 use Rattle.cs_trim.specs.declared.object.KeptClone.{KeptClone}

@@ -1,5 +1,5 @@
 -- The bytes that a read answers.
-use Rattle.std.proofs.Common.{◌≡◌, ◌∙◌, refl, sym, ap, ℕ, zero, suc, ◌+◌, ◌<◌, List, [], ◌∷◌, ◌++◌, length, take, drop, slice_index, EachIndex, arith}
+use Rattle.std.proofs.Common.{◌≡◌, ◌∙◌, refl, sym, ap, ℕ, suc, ◌+◌, List, [], ◌∷◌, ◌++◌, length, take, drop, slice_index, EachIndex, arith}
 use Rattle.std.proofs.Math.Seq.{take-append_seam}
 use Rattle.cs_laws.specs.declared.objects.At.{At}
 use Rattle.cs_laws.specs.declared.objects.At.TheVariants as at

@@ -1,7 +1,7 @@
 -- A run, as far as it has come.
-use Rattle.std.proofs.Common.{◌≡◌, ◌∙◌, refl, sym, ap, ℕ, suc, ◌+◌, ◌<◌, ◌≤◌, Bool, true, false, cond, List, [], ◌∷◌, ◌++◌, length, append_assoc, append-nil, arith}
+use Rattle.std.proofs.Common.{◌≡◌, ◌∙◌, refl, sym, ap, ℕ, suc, ◌+◌, ◌≤◌, Bool, true, false, cond, List, [], ◌∷◌, ◌++◌, length, append_assoc, append-nil, arith}
 use Rattle.cs_trim.specs.Clones.{is_standing}
-use Rattle.cs_trim.specs.Steps.{Step, taken, removed, wrote, trimmed, drawn, status}
+use Rattle.cs_trim.specs.Steps.{Step, removed, drawn, status}
 use Rattle.cs_trim_script.specs.declared.answers.Answer.{Answer}
 use Rattle.cs_trim_script.specs.declared.events.Event.{Event}
 use Rattle.cs_trim_script.specs.declared.events.Event.TheVariants as events

@@ -1,5 +1,5 @@
 -- Which events a line of a script spells.
-use Rattle.std.specs.Prelude.{◌≡◌, ℕ, ◌+◌, ◌&&◌, Bool, true, List, length, nat_lt, nat_le, All}
+use Rattle.std.specs.Prelude.{◌≡◌, ℕ, ◌+◌, ◌&&◌, Bool, true, List, length, nat_le, All}
 use Rattle.cs_geom.specs.declared.places.TheConstants.{OBJECT_SIZE}
 use Rattle.cs_laws.specs.Fits.{is_state, most_shown, most_written}
 use Rattle.cs_trim_script.specs.declared.events.Event.{Event}

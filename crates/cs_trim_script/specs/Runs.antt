@@ -1,5 +1,5 @@
 -- A store to which events are done, and how often it was written to.
-use Rattle.std.specs.Prelude.{◌≡◌, ℕ, List, ◌∷◌}
+use Rattle.std.specs.Prelude.{◌≡◌, List}
 use Rattle.cs_trim.specs.Stands.{StandsFor}
 use Rattle.cs_trim.specs.Steps.{Step}
 use Rattle.cs_trim_script.specs.declared.answers.Answer.{Answer}

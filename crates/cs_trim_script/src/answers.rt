@@ -5,32 +5,19 @@ use cs_ids::{Bytes, Snap};
 #[derive(Drop)]
 pub enum Answer {
     /// A snapshot was taken, and has this number.
-    Snap {
-        snap: Snap,
-    },
+    Snap { snap: Snap },
     /// No snapshot has the number.
     NoSnap,
     /// The snapshot was removed before.
     Gone,
     /// The snapshot was removed, and the removal has this number.
-    Removed {
-        snap: Snap,
-        number: Snap,
-    },
+    Removed { snap: Snap, number: Snap },
     /// Bytes were written, by the write of this number, from 1 on over all objects.
-    Wrote {
-        number: u32,
-    },
+    Wrote { number: u32 },
     /// So many clones were given up.
-    Trimmed {
-        count: u32,
-    },
+    Trimmed { count: u32 },
     /// So many clones of the object are kept.
-    Clones {
-        count: u32,
-    },
+    Clones { count: u32 },
     /// The bytes that were read.
-    Bytes {
-        bytes: Bytes,
-    },
+    Bytes { bytes: Bytes },
 }

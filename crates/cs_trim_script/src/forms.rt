@@ -6,9 +6,7 @@ ghost use Rattle.cs_trim_script.specs.Grammar.{clones_of, event_by, event_of, re
 ghost use Rattle.cs_trim_script.specs.Reading.{Spells};
 
 use crate::Event;
-use crate::fields::{
-    at_field, bytes_at, ends_in_object, len_at, object_at, off_at, only, snap_at,
-};
+use crate::fields::{at_field, bytes_at, ends_in_object, len_at, object_at, off_at, only, snap_at};
 use crate::line_fault::LineFault;
 use cs_laws::{At, Kind};
 use std::alloc::Global;

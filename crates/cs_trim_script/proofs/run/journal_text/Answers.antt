@@ -1,6 +1,5 @@
-use Rattle.std.proofs.Common.{◌≡◌, ◌∙◌, ap, sym, subst, ◌+◌, List, [], ◌∷◌, length, drop, arith, rules}
+use Rattle.std.proofs.Common.{◌≡◌, ◌∙◌, ap, sym, subst, ◌+◌, [], ◌∷◌, length, drop, arith}
 use Rattle.std.proofs.lemmas.Grind.{common_steps}
-use Rattle.cs_trim_script.specs.declared.events.Event.{Event}
 use Rattle.cs_trim_script.specs.Journal.{end_line, text, trim_journal}
 use Rattle.cs_trim_script.proofs.Running.{SoFar, ends, goes_on}
 use Rattle.cs_trim_script.proofs.run.journal_text.Goals as goal

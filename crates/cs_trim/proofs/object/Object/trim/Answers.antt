@@ -1,4 +1,4 @@
-use Rattle.std.proofs.Common.{◌∙◌, ap, length, rules}
+use Rattle.std.proofs.Common.{ap, rules}
 use Rattle.std.proofs.lemmas.Fn.{filter_same}
 use Rattle.cs_trim.specs.declared.object.KeptClone.{KeptClone}
 use Rattle.cs_trim.specs.Held.{ObjectState, serves_in}
