@@ -1,14 +1,10 @@
--- A store that lists what a journal implies agrees with it.
-use Rattle.std.proofs.Common.{◌≡◌, sym, subst, ℕ, List}
-use Rattle.cs_laws.specs.declared.answers.Entry.{Entry}
-use Rattle.cs_laws.specs.declared.objects.ObjOp.{ObjOp}
-use Rattle.cs_laws.specs.Agreement.{Agrees, StatesReadBack}
-use Rattle.cs_laws.specs.Operations.{applied}
-use Rattle.cs_laws.specs.Runs.{IsRun}
-use Rattle.cs_theorems.proofs.Agreeing.{reads_back}
+-- A store and a log that hold nothing agree with the journal of no event.
+use Rattle.std.proofs.Common.{[]}
+use Rattle.ceph_run.specs.Held.{Held, AgreesAt, IsBlank}
 
-pub agrees : (pages : ℕ) (h : List Entry) (ops : List ObjOp) → IsRun pages h → ops ≡ applied h → Agrees ops h
-agrees pages h ops run is = record {
-  operations = is;
-  states = subst (λ os. StatesReadBack os h) (sym is) (reads_back pages h run);
+pub nothing_agrees : (held : Held) → IsBlank held → AgreesAt [] held
+nothing_agrees held blank = record {
+  operations = blank.store;
+  log = record { spelled = blank.log; durable = blank.durable };
+  states = λ f a known stands gone covers owes. absurd (cc);
 }

@@ -1,4 +1,5 @@
 pub mod Agreeing
+pub mod Halting
 pub mod Journals
 pub mod Runs
 pub mod Serving

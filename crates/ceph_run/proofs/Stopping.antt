@@ -14,18 +14,15 @@ use Rattle.cs_laws.specs.declared.answers.Entry.{Entry}
 use Rattle.cs_laws.specs.Journal.{journal, entry, header, lines, line, text, end_line}
 use Rattle.cs_laws.specs.declared.faults.StepFault.{StepFault}
 use Rattle.cs_laws.specs.declared.faults.StepFault.TheVariants as stepping
-use Rattle.cs_laws.specs.declared.objects.ObjOp.{ObjOp}
-use Rattle.cs_laws.specs.Operations.{applied}
-use Rattle.cs_laws.specs.Runs.{IsRun}
-use Rattle.cs_world.specs.Storing.{AppliesFront, brings}
 use Rattle.ceph_run.specs.declared.run_fault.RunFault.{RunFault}
 use Rattle.ceph_run.specs.declared.run_fault.RunFault.TheVariants as faults
 use Rattle.ceph_run.specs.declared.write_fault.WriteFault.{WriteFault}
 use Rattle.ceph_run.specs.declared.write_fault.WriteFault.TheVariants as writing
+use Rattle.ceph_run.specs.Held.{Held, AgreesAt, IsBlank}
 use Rattle.ceph_run.specs.Statuses.{of_write, of_step}
-use Rattle.ceph_run.specs.Stopped.{written_before, written_by, StopsAfter, StopsIn, Stops}
-use Rattle.ceph_run.proofs.Agreeing.{agrees}
-use Rattle.ceph_run.proofs.Runs.{history-append, journal_front, front_run}
+use Rattle.ceph_run.specs.Stopped.{written_before, written_by, HoldsIn, StopsAfter, StopsIn, Stops}
+use Rattle.ceph_run.proofs.Agreeing.{nothing_agrees}
+use Rattle.ceph_run.proofs.Runs.{history-append, journal_front}
 use Rattle.ceph_run.proofs.Journals.{longer, behind_whole, front_whole, took_nothing, text_history}
 
 -- The journal of the events so far
@@ -88,26 +85,27 @@ text_begins : (pages : ℕ) (es : List Event) (n : ℕ) → (behind : List ℕ) 
 text_begins pages es n = text_begins_if pages es n (n == length es) refl
 
 -- a front of what is written by then is a front of the text
-pub front_of_text : (pages : ℕ) (es : List Event) (old new : Option (List ℕ)) (ops : List ObjOp) → StopsAfter pages es old new ops → AppendsFront old new (text (journal pages es))
-front_of_text pages es old new ops s =
+pub front_of_text : (pages : ℕ) (es : List Event) (old new : Option (List ℕ)) (held : Held) → StopsAfter pages es old new held → AppendsFront old new (text (journal pages es))
+front_of_text pages es old new held s =
     let rest = text_begins pages es s.done in
     longer old new (written_by pages es s.done) rest.0 (text (journal pages es)) rest.1 s.no_more
 
 -- the lines before an event are a front of the text
-front_in_text : (pages : ℕ) (es : List Event) (old new : Option (List ℕ)) (ops : List ObjOp) → StopsIn pages es old new ops → AppendsFront old new (text (journal pages es))
-front_in_text pages es old new ops s =
+front_in_text : (f : StepFault) (pages : ℕ) (es : List Event) (old new : Option (List ℕ)) (held : Held) → StopsIn f pages es old new held
+    → AppendsFront old new (text (journal pages es))
+front_in_text f pages es old new held s =
     let h : List Entry = journal pages (take s.done es) in
     let rest = text_history pages h (drop s.done es) (journal pages es) (journal_front pages s.done es) in
     rw rest.1 (front_whole old new (header ++ lines h) rest.0 s.lines)
 
 -- whatever stops it
-pub front_of_stop : (f : RunFault) (pages : ℕ) (es : List Event) (old new : Option (List ℕ)) (ops : List ObjOp) → Stops f pages es old new ops
+pub front_of_stop : (f : RunFault) (pages : ℕ) (es : List Event) (old new : Option (List ℕ)) (held : Held) → Stops f pages es old new held
     → AppendsFront old new (text (journal pages es))
-front_of_stop faults.Sink pages es old new ops s = front_of_text pages es old new ops s
-front_of_stop faults.Store pages es old new ops s = front_in_text pages es old new ops s
-front_of_stop faults.Log pages es old new ops s = absurd s
-front_of_stop faults.Memory pages es old new ops (inl s) = front_of_text pages es old new ops s
-front_of_stop faults.Memory pages es old new ops (inr s) = front_in_text pages es old new ops s
+front_of_stop faults.Sink pages es old new held s = front_of_text pages es old new held s
+front_of_stop faults.Store pages es old new held s = front_in_text stepping.Store pages es old new held s
+front_of_stop faults.Log pages es old new held s = front_in_text stepping.Log pages es old new held s
+front_of_stop faults.Memory pages es old new held (inl s) = front_of_text pages es old new held s
+front_of_stop faults.Memory pages es old new held (inr s) = front_in_text stepping.Memory pages es old new held s
 
 -- a result is a fault of which this holds
 pub if_err_is : (P : RunFault → Type 0) (r : Result (Unit {0}) RunFault) (x : RunFault) → IsErrAnd r (λ f. f ≡ x) → P x → IfErr r P
@@ -115,61 +113,60 @@ if_err_is P (Ok u) x is p = tt
 if_err_is P (Err f) x is p = subst P (sym is) p
 
 -- a writing that stops
-pub stops_of_write : (w : WriteFault) (pages : ℕ) (es : List Event) (old new : Option (List ℕ)) (ops : List ObjOp) → StopsAfter pages es old new ops
-    → Stops (of_write w) pages es old new ops
-stops_of_write writing.Sink pages es old new ops s = s
-stops_of_write writing.Memory pages es old new ops s = inl s
+pub stops_of_write : (w : WriteFault) (pages : ℕ) (es : List Event) (old new : Option (List ℕ)) (held : Held) → StopsAfter pages es old new held
+    → Stops (of_write w) pages es old new held
+stops_of_write writing.Sink pages es old new held s = s
+stops_of_write writing.Memory pages es old new held s = inl s
 
 -- a step that does
-pub stops_of_step : (f : StepFault) (pages : ℕ) (es : List Event) (old new : Option (List ℕ)) (ops : List ObjOp) → (f ≡ stepping.Log → ⊥) → StopsIn pages es old new ops
-    → Stops (of_step f) pages es old new ops
-stops_of_step stepping.Store pages es old new ops other s = s
-stops_of_step stepping.Log pages es old new ops other s = absurd (other refl)
-stops_of_step stepping.Memory pages es old new ops other s = inr s
+pub stops_of_step : (f : StepFault) (pages : ℕ) (es : List Event) (old new : Option (List ℕ)) (held : Held) → StopsIn f pages es old new held
+    → Stops (of_step f) pages es old new held
+stops_of_step stepping.Store pages es old new held s = s
+stops_of_step stepping.Log pages es old new held s = s
+stops_of_step stepping.Memory pages es old new held s = inr s
 
 -- Where it stops
 
 -- before anything was written
-pub stops_at_once : (pages : ℕ) (es : List Event) (a : Option (List ℕ)) (ops : List ObjOp) → ops ≡ [] → StopsAfter pages es a a ops
-stops_at_once pages es a ops none = record {
+pub stops_at_once : (pages : ℕ) (es : List Event) (a : Option (List ℕ)) (held : Held) → IsBlank held → StopsAfter pages es a a held
+stops_at_once pages es a held blank = record {
   done = 0;
   few = omega arith;
   lines = ([], appends_none a);
   no_more = took_nothing a (written_by pages es 0);
-  agrees = agrees pages [] ops tt none;
+  agrees = nothing_agrees held blank;
 }
 
 -- in the header
-pub stops_in_header : (pages : ℕ) (es : List Event) (old new : Option (List ℕ)) (ops : List ObjOp) → ops ≡ [] → AppendsFront old new header → StopsAfter pages es old new ops
-stops_in_header pages es old new ops none t =
+pub stops_in_header : (pages : ℕ) (es : List Event) (old new : Option (List ℕ)) (held : Held) → IsBlank held → AppendsFront old new header
+    → StopsAfter pages es old new held
+stops_in_header pages es old new held blank t =
     let upto = by_begins pages es 0 in
     record {
       done = 0;
       few = omega arith;
       lines = (t.1.front, t.1.taken);
       no_more = longer old new header (lines (journal pages (take 0 es)) ++ upto.0) (written_by pages es 0) (upto.1 ∙ append_assoc header (lines (journal pages (take 0 es))) upto.0) t;
-      agrees = agrees pages [] ops tt none;
+      agrees = nothing_agrees held blank;
     }
 
 -- in an event
-pub stops_in_event : (pages kept : ℕ) (es : List Event) (i : ℕ) (e : Event) (h : List Entry) (old new : Option (List ℕ)) (before ops : List ObjOp) → i < length es
-    → e ≡ get_or es i e → kept ≡ pages → h ≡ journal pages (take i es) → Appends old new (header ++ lines h) → before ≡ applied h
-    → AppliesFront (brings kept h e) before ops → StopsIn pages es old new ops
-stops_in_event pages kept es i e h old new before ops inside is same so_far taken listed front =
-    let P : List ObjOp → ℕ → List Entry → Type 0 = λ os k hs. AppliesFront (brings k hs e) os ops in
-    record {
-      done = i;
-      event = e;
-      next = slice_get-get_or es i e inside ∙ ap (λ x. let o : Option Event = Some x in o) (sym is);
-      lines = rw so_far at taken;
-      listed = rw (listed, same, so_far) at front;
-    }
+pub stops_in_event : (f : StepFault) (pages kept : ℕ) (es : List Event) (i : ℕ) (e : Event) (h : List Entry) (old new : Option (List ℕ)) (held : Held) → i < length es
+    → e ≡ get_or es i e → kept ≡ pages → h ≡ journal pages (take i es) → Appends old new (header ++ lines h) → HoldsIn f kept h e held
+    → StopsIn f pages es old new held
+stops_in_event f pages kept es i e h old new held inside is same so_far taken holds = record {
+  done = i;
+  event = e;
+  next = slice_get-get_or es i e inside ∙ ap (λ x. let o : Option Event = Some x in o) (sym is);
+  lines = rw so_far at taken;
+  holds = subst (λ hs. HoldsIn f pages hs e held) so_far (subst (λ k. HoldsIn f k h e held) same holds);
+}
 
 -- in the line of an event
-pub stops_in_line : (pages : ℕ) (es : List Event) (i : ℕ) (h more : List Entry) (x : Entry) (n : ℕ) (old mid new : Option (List ℕ)) (ops : List ObjOp) → i < length es
-    → IsRun pages (journal pages es) → ops ≡ applied more → h ≡ journal pages (take i es) → more ≡ x ∷ h → more ≡ journal pages (take (suc i) es)
-    → n ≡ length h + 1 → Appends old mid (header ++ lines h) → AppendsFront mid new (line n x) → StopsAfter pages es old new ops
-stops_in_line pages es i h more x n old mid new ops inside run listed so_far grown stepped count taken now =
+pub stops_in_line : (pages : ℕ) (es : List Event) (i : ℕ) (h more : List Entry) (x : Entry) (n : ℕ) (old mid new : Option (List ℕ)) (held : Held) → i < length es
+    → AgreesAt more held → h ≡ journal pages (take i es) → more ≡ x ∷ h → more ≡ journal pages (take (suc i) es)
+    → n ≡ length h + 1 → Appends old mid (header ++ lines h) → AppendsFront mid new (line n x) → StopsAfter pages es old new held
+stops_in_line pages es i h more x n old mid new held inside agreed so_far grown stepped count taken now =
     let upto = by_begins pages es (suc i) in
     let last : AppendsFront mid new (line (length h + 1) x) = rw count at now in
     let all : AppendsFront old new ((header ++ lines h) ++ line (length h + 1) x) = behind_whole old mid new (header ++ lines h) (line (length h + 1) x) taken last in
@@ -181,14 +178,14 @@ stops_in_line pages es i h more x n old mid new ops inside run listed so_far gro
       few = omega arith;
       lines = (last.1.front, subst P (ap (λ hs. header ++ lines hs) so_far) (appends_more old mid new (header ++ lines h) last.1.front taken last.1.taken));
       no_more = longer old new ((header ++ lines h) ++ line (length h + 1) x) upto.0 (written_by pages es (suc i)) (upto.1 ∙ ap (λ xs. xs ++ upto.0) (sym same)) all;
-      agrees = agrees pages (journal pages (take (suc i) es)) ops (front_run pages (suc i) es run) (listed ∙ ap (λ hs. applied hs) stepped);
+      agrees = subst (λ hs. AgreesAt hs held) stepped agreed;
     }
 
 -- in the end line
-pub stops_in_end : (pages : ℕ) (es : List Event) (n k : ℕ) (h : List Entry) (old mid new : Option (List ℕ)) (ops : List ObjOp) → n ≡ length es
-    → IsRun pages (journal pages es) → ops ≡ applied h → h ≡ journal pages (take n es) → k ≡ length h
-    → Appends old mid (header ++ lines h) → AppendsFront mid new (end_line k) → StopsAfter pages es old new ops
-stops_in_end pages es n k h old mid new ops all run listed so_far count taken now =
+pub stops_in_end : (pages : ℕ) (es : List Event) (n k : ℕ) (h : List Entry) (old mid new : Option (List ℕ)) (held : Held) → n ≡ length es
+    → AgreesAt h held → h ≡ journal pages (take n es) → k ≡ length h
+    → Appends old mid (header ++ lines h) → AppendsFront mid new (end_line k) → StopsAfter pages es old new held
+stops_in_end pages es n k h old mid new held all agreed so_far count taken now =
     let from = before_begins pages es n (omega arith) in
     let end : AppendsFront mid new (end_line (length h)) = rw count at now in
     let whole : h ≡ journal pages es = journal_all pages h es n (omega arith) so_far in
@@ -205,5 +202,5 @@ stops_in_end pages es n k h old mid new ops all run listed so_far count taken no
             (appends_more old mid new (header ++ lines h) end.1.front taken end.1.taken),
       );
       no_more = rw (by_all pages es n all) (subst P whole written);
-      agrees = agrees pages (journal pages (take n es)) ops (front_run pages n es run) (listed ∙ ap (λ hs. applied hs) so_far);
+      agrees = subst (λ hs. AgreesAt hs held) so_far agreed;
     }

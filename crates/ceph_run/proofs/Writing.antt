@@ -3,7 +3,6 @@ use Rattle.std.proofs.Common.{◌≡◌, ◌∙◌, sym, refl, ℕ, ◌<◌, ◌
 use Rattle.std.specs.Io.KnownBytes.{Appends}
 use Rattle.cs_ids.specs.Devices.{Rose}
 use Rattle.cs_io.specs.Whole.{AppendsFront}
-use Rattle.cs_io.proofs.Known.{took_none}
 use Rattle.ceph_run.specs.declared.write_fault.WriteFault.{WriteFault}
 use Rattle.ceph_run.specs.declared.write_fault.WriteFault.TheVariants as writing
 use Rattle.ceph_run.specs.Served.{Writes}

@@ -1,17 +1,16 @@
 -- What an input is, and what a run of it writes.
-use Rattle.std.specs.Prelude.{◌≡◌, ◌≢◌, ◌≤◌, ℕ, List, [], length, Option, Result, Ok, Err, IfSome, Bool, true, false, nat_lt, count_by, if◌then◌else◌}
+use Rattle.std.specs.Prelude.{◌≡◌, ◌≢◌, ◌≤◌, ℕ, List, length, Option, Result, Ok, Err, IfSome, Bool, true, false, nat_lt, count_by, if◌then◌else◌}
 use Rattle.std.specs.Io.KnownBytes.{IsAtEnd}
 use Rattle.cs_laws.specs.declared.events.Event.{Event}
 use Rattle.cs_laws.specs.declared.events.Event.TheVariants as events
 use Rattle.cs_laws.specs.declared.faults.ScriptFault.{ScriptFault}
-use Rattle.cs_laws.specs.declared.objects.ObjOp.{ObjOp}
-use Rattle.cs_laws.specs.Agreement.{Agrees}
 use Rattle.cs_laws.specs.Grammar.{script_of}
 use Rattle.cs_laws.specs.Journal.{journal, text}
 use Rattle.cs_laws.specs.Laws.{Laws}
 use Rattle.ceph_run.specs.declared.input.Input.{Input}
 use Rattle.ceph_run.specs.declared.input.Input.TheVariants.{Refused, Runs}
 use Rattle.ceph_run.specs.declared.input.Refusal.TheVariants as refusals
+use Rattle.ceph_run.specs.Held.{Held, AgreesAt, IsBlank}
 use Rattle.ceph_run.specs.Refusals.{refusal_line, refusal_status}
 
 abbrev pub is_file : Event → Bool
@@ -46,11 +45,10 @@ abbrev pub output : ℕ → Input → List ℕ
 output pages (Runs es) = text (journal pages es)
 output pages (Refused r) = refusal_line r
 
--- the store agrees with the journal that it writes: it lists exactly the operations that this implies, and with the server's records
--- each state of a file that isn't owed reads back as its writes
-abbrev pub AgreesWith : ℕ → Input → List ObjOp → Type 0
-AgreesWith pages (Runs es) ops = Agrees ops (journal pages es)
-AgreesWith pages (Refused r) ops = ops ≡ []
+-- store and log agree with the journal that it writes, if it writes one
+abbrev pub AgreesWith : ℕ → Input → Held → Type 0
+AgreesWith pages (Runs es) held = AgreesAt (journal pages es) held
+AgreesWith pages (Refused r) held = IsBlank held
 
 -- the laws hold of the journal that it writes
 abbrev pub IsLawfulRun : ℕ → Input → Type 0

@@ -1,3 +1,4 @@
+pub mod Held
 pub mod Inputs
 pub mod Refusals
 pub mod Served

@@ -14,6 +14,7 @@ mod write_fault;
 
 use command::ceph_main;
 use cs_io::{StdSink, StdSource};
+use cs_mdslog::MemLog;
 use cs_objstore::MemStore;
 use finished::Finished;
 use std::process::ExitCode;
@@ -45,7 +46,7 @@ fn main(rt: HostRuntime) -> ExitCode {
     let Finished {
         status,
         store: _,
-        log: (),
+        log: _,
     } = ceph_main(
         &rt,
         rt.alloc(),
@@ -53,7 +54,7 @@ fn main(rt: HostRuntime) -> ExitCode {
         &mut source,
         &mut sink,
         MemStore::new(rt.alloc()),
-        (),
+        MemLog::new(rt.alloc()),
     );
     ExitCode::from(status)
 }

@@ -7,6 +7,7 @@ use crate::finished::Finished;
 use crate::serve::serve_run;
 use cs_ids::Memory;
 use cs_io::{FaultySink, FaultySource, MemSink, MemSource, Sink, Source};
+use cs_mdslog::{FaultyLog, MdsLog, MemLog};
 use cs_objstore::{FaultyStore, MemStore, ObjStore};
 use cs_world::World;
 use std::alloc::Global;
@@ -32,43 +33,69 @@ const READS: &[u8] =
 const READ_FAILED: &[u8] =
     b"ceph-journal 1\n1 file 100 1 -> made\n2 grant 100 Frw 4096 -> sent 1 held Frw\n3 toclient -> cap 100 1 Frw 4096\n4 begin 1 100 Frw 8 -> ref 1\n5 write 1 1 0 6161 -> wrote\n";
 
-// The status of the program's call with the word `run` over a store, the store behind it, and what
-// the sink took.
-fn run_over<O: ObjStore>(alloc: Global, input: &[u8], store: O) -> Result<(u8, O, MemSink), Memory>
-    requires { O.ops store ≡ [] }
+// A cap snap lives while a writer does. The log is called first by the snapshot, and then by the commit.
+const SNAPSHOT: &[u8] =
+    b"ceph-script 1\nfile 100 1\ngrant 100 Frw 4096\ntoclient\nbegin 1 100 Fw 4\nwrite 1 1 0 6161\nsnap 1 a\ncommit\ntoclient\nbegin 2 100 Fw 4\nwrite 1 1 2 6262\nshow 100 1 0 4\nend 1 1\nflushsnaps 100\ntomds\ncommit\ntoclient\nshow 100 1 0 4\n";
+
+const BEFORE_SNAPSHOT: &[u8] =
+    b"ceph-journal 1\n1 file 100 1 -> made\n2 grant 100 Frw 4096 -> sent 1 held Frw\n3 toclient -> cap 100 1 Frw 4096\n4 begin 1 100 Fw 4 -> ref 1\n5 write 1 1 0 6161 -> wrote\n";
+
+const BEFORE_COMMIT: &[u8] =
+    b"ceph-journal 1\n1 file 100 1 -> made\n2 grant 100 Frw 4096 -> sent 1 held Frw\n3 toclient -> cap 100 1 Frw 4096\n4 begin 1 100 Fw 4 -> ref 1\n5 write 1 1 0 6161 -> wrote\n6 snap 1 a -> snap 1\n";
+
+// The status of the program's call with the word `run` over a store and a log, these, and what the sink
+// took.
+fn run_over<O: ObjStore, L: MdsLog>(
+    alloc: Global,
+    input: &[u8],
+    store: O,
+    log: L,
+) -> Result<(u8, O, L, MemSink), Memory>
+    requires store { O.ops store ≡ [] }
+    requires log { L.records log ≡ [] }
+    requires durable { L.durable log ≡ 0 }
 {
     let mut words = Vec::new(alloc);
     words.push(String::from_str(alloc, "run")?)?;
     let mut source = MemSource::new(alloc, input)?;
     let mut sink = MemSink::new(alloc);
-    let Finished {
-        status,
-        store,
-        log: (),
-    } = ceph_main(
+    let Finished { status, store, log } = ceph_main(
         &(),
         alloc,
         words.as_slice(),
         &mut source,
         &mut sink,
         store,
-        (),
+        log,
     );
-    Ok((status, store, sink))
+    Ok((status, store, log, sink))
 }
 
 fn status<S: Source, K: Sink>(alloc: Global, source: &mut S, sink: &mut K) -> u8 {
     let Finished {
         status,
         store: _,
-        log: (),
-    } = serve_run(alloc, 256, source, sink, MemStore::new(alloc), ());
+        log: _,
+    } = serve_run(
+        alloc,
+        256,
+        source,
+        sink,
+        MemStore::new(alloc),
+        MemLog::new(alloc),
+    );
     status
 }
 
 #[test]
 fn ample_memory_gives_answers(rt: HostRuntime) -> Result<(), Fail> {
-    let (status, _, sink) = run_over(rt.alloc(), HOLD_THEN_ACK, MemStore::new(rt.alloc()))?;
+    let alloc = rt.alloc();
+    let (status, _, _, sink) = run_over(
+        alloc,
+        HOLD_THEN_ACK,
+        MemStore::new(alloc),
+        MemLog::new(alloc),
+    )?;
     assert_eq!(rt; status, 0);
     assert_eq!(rt; sink.bytes(), HELD);
     Ok(())
@@ -81,7 +108,7 @@ fn faulty_words_are_told(rt: HostRuntime) -> Result<(), Fail> {
     let Finished {
         status,
         store: _,
-        log: (),
+        log: _,
     } = ceph_main(
         &rt,
         rt.alloc(),
@@ -89,7 +116,7 @@ fn faulty_words_are_told(rt: HostRuntime) -> Result<(), Fail> {
         &mut source,
         &mut sink,
         MemStore::new(rt.alloc()),
-        (),
+        MemLog::new(rt.alloc()),
     );
     assert_eq!(rt; status, 1);
     assert_eq!(rt; sink.bytes(), b"ceph-fault usage\n".as_slice());
@@ -136,7 +163,8 @@ fn a_fault_of_the_sink_leaves_whole_lines(rt: HostRuntime) -> Result<(), Fail> {
 fn a_store_that_fails_has_the_operations_before(rt: HostRuntime) -> Result<(), Fail> {
     for call in 1..6u32 {
         let failing = FaultyStore::new(rt.alloc(), &[call])?;
-        let (status, store, sink) = run_over(rt.alloc(), WRITES, failing)?;
+        let log = MemLog::new(rt.alloc());
+        let (status, store, _, sink) = run_over(rt.alloc(), WRITES, failing, log)?;
         let taken = sink.bytes();
         assert_eq!(rt; status, if call > 4 { 0 } else { 6 });
         assert!(rt; WROTE.starts_with(taken));
@@ -156,26 +184,52 @@ fn a_store_that_fails_has_the_operations_before(rt: HostRuntime) -> Result<(), F
 #[test]
 fn a_store_that_fails_to_read_has_all_operations(rt: HostRuntime) -> Result<(), Fail> {
     let failing = FaultyStore::new(rt.alloc(), &[2])?;
-    let (status, store, sink) = run_over(rt.alloc(), READS, failing)?;
+    let log = MemLog::new(rt.alloc());
+    let (status, store, _, sink) = run_over(rt.alloc(), READS, failing, log)?;
     assert_eq!(rt; status, 6);
     assert_eq!(rt; sink.bytes(), READ_FAILED);
     assert_eq!(rt; store.ops().len(), 1);
     Ok(())
 }
 
+#[test]
+fn a_log_that_fails_to_append_has_the_records_before(rt: HostRuntime) -> Result<(), Fail> {
+    let failing = FaultyLog::new(rt.alloc(), &[1])?;
+    let store = MemStore::new(rt.alloc());
+    let (status, store, log, sink) = run_over(rt.alloc(), SNAPSHOT, store, failing)?;
+    assert_eq!(rt; status, 7);
+    assert_eq!(rt; sink.bytes(), BEFORE_SNAPSHOT);
+    assert!(rt; log.records().is_empty());
+    assert_eq!(rt; store.ops().len(), 1);
+    Ok(())
+}
+
+#[test]
+fn a_log_that_fails_to_sync_has_its_records(rt: HostRuntime) -> Result<(), Fail> {
+    let failing = FaultyLog::new(rt.alloc(), &[2])?;
+    let store = MemStore::new(rt.alloc());
+    let (status, store, log, sink) = run_over(rt.alloc(), SNAPSHOT, store, failing)?;
+    assert_eq!(rt; status, 7);
+    assert_eq!(rt; sink.bytes(), BEFORE_COMMIT);
+    assert_eq!(rt; log.len(), 1);
+    assert_eq!(rt; log.durable(), 0);
+    assert_eq!(rt; store.ops().len(), 1);
+    Ok(())
+}
+
 fn crosses_threads<T: Send>(_: &T) {}
 
-// A world is `Send` where its store and its log are.
-fn worlds_cross_threads<O: ObjStore, L: Send>(world: &World<O, L>) {
+// A world is `Send`, as its store and its log are.
+fn worlds_cross_threads<O: ObjStore, L: MdsLog>(world: &World<O, L>) {
     crosses_threads(world)
 }
 
 #[test]
 fn a_world_crosses_threads(rt: HostRuntime) -> Result<(), Fail> {
-    let world = World::make(rt.alloc(), 1, MemStore::new(rt.alloc()), ())
-        .ok()
-        .ok_or("memory")?;
+    let store = MemStore::new(rt.alloc());
+    let log = MemLog::new(rt.alloc());
+    let world = World::make(rt.alloc(), 1, store, log).ok().ok_or("memory")?;
     worlds_cross_threads(&world);
-    let (_, ()) = world.finish();
+    let (_, _) = world.finish();
     Ok(())
 }

@@ -1,6 +1,7 @@
 // Fields written behind bytes.
-ghost use Rattle.std.specs.Prelude.{◌≡◌, ◌≤◌, ◌<◌, ◌^◌, ◌++◌, length, OnErr, OnOk};
-ghost use Rattle.cs_codec.specs.Fields.{flag_bytes, list_bytes, name_bytes, number_bytes, optional_bytes};
+ghost use Rattle.std.specs.Prelude.{◌≡◌, ◌≤◌, ◌<◌, ◌^◌, ◌++◌, length, true, OnErr, OnOk};
+ghost use Rattle.cs_ids.specs.Names.{is_name};
+ghost use Rattle.cs_codec.specs.Fields.{flag_bytes, is_in, list_bytes, name_bytes, number_bytes, optional_bytes};
 
 use crate::Field;
 use byteorder::{ByteOrder, LittleEndian};
@@ -25,6 +26,7 @@ pub fn put_number(out: &mut Bytes, width: usize, value: u64) -> Result<(), Memor
 pub fn put_ino(out: &mut Bytes, ino: Ino) -> Result<(), Memory>
     ensures ok { OnOk result (out.new ≡ out.old ++ number_bytes 8 ino) }
     ensures err { OnErr result (out.new ≡ out.old) }
+    ensures range { is_in 1 99999 ino ≡ true }
 {
     put_number(out, 8, ino.get())
 }
@@ -45,6 +47,7 @@ pub fn put_optional_ino(out: &mut Bytes, ino: Option<Ino>) -> Result<(), Memory>
 pub fn put_tid(out: &mut Bytes, tid: Tid) -> Result<(), Memory>
     ensures ok { OnOk result (out.new ≡ out.old ++ number_bytes 8 tid) }
     ensures err { OnErr result (out.new ≡ out.old) }
+    ensures range { is_in 1 99999 tid ≡ true }
 {
     put_number(out, 8, tid.get())
 }
@@ -54,6 +57,7 @@ pub fn put_tid(out: &mut Bytes, tid: Tid) -> Result<(), Memory>
 pub fn put_snap(out: &mut Bytes, snap: Snap) -> Result<(), Memory>
     ensures ok { OnOk result (out.new ≡ out.old ++ number_bytes 8 snap) }
     ensures err { OnErr result (out.new ≡ out.old) }
+    ensures range { is_in 0 99999 snap ≡ true }
 {
     put_number(out, 8, snap.get())
 }
@@ -62,6 +66,7 @@ pub fn put_snap(out: &mut Bytes, snap: Snap) -> Result<(), Memory>
 pub fn put_seq(out: &mut Bytes, seq: Seq) -> Result<(), Memory>
     ensures ok { OnOk result (out.new ≡ out.old ++ number_bytes 8 seq) }
     ensures err { OnErr result (out.new ≡ out.old) }
+    ensures range { is_in 0 99999 seq ≡ true }
 {
     put_number(out, 8, seq.get())
 }
@@ -78,6 +83,7 @@ pub fn put_flag(out: &mut Bytes, flag: bool) -> Result<(), Memory>
 pub fn put_name(out: &mut Bytes, name: &Name) -> Result<(), Memory>
     ensures ok { OnOk result (out.new ≡ out.old ++ name_bytes name.now) }
     ensures err { OnErr result (out.new ≡ out.old) }
+    ensures name { is_name name.now ≡ true }
 {
     let bytes = name.as_slice();
     let mut field = [0; 33];

@@ -1,3 +1,5 @@
 pub mod Answers
+pub mod Calls
 pub mod Inodes
 pub mod Reports
+pub mod Said

@@ -1,4 +1,4 @@
--- When the object store and the server's records hold what a history says.
+-- When the object store and the server's log hold what a history says.
 use Rattle.std.specs.Prelude.{◌≡◌, ℕ, ◌<◌, ◌/◌, ◌%◌, List, true, false}
 use Rattle.cs_geom.specs.declared.places.TheConstants.{OBJECT_SIZE}
 use Rattle.cs_ids.specs.declared.objects.FileMeta.{FileMeta}
@@ -7,9 +7,10 @@ use Rattle.cs_laws.specs.declared.objects.At.{At}
 use Rattle.cs_laws.specs.declared.objects.ObjOp.{ObjOp}
 use Rattle.cs_laws.specs.Answers.{covers_file, is_gone, standing_context, stands}
 use Rattle.cs_laws.specs.Events.{server_knows}
-use Rattle.cs_laws.specs.History.{stand, writes}
+use Rattle.cs_laws.specs.History.{durable, fresh, stand, writes}
 use Rattle.cs_laws.specs.Image.{Write, image}
 use Rattle.cs_laws.specs.Image as images
+use Rattle.cs_laws.specs.Logged.{LogIs}
 use Rattle.cs_laws.specs.Metadata.{meta_at}
 use Rattle.cs_laws.specs.Objects.{object_byte}
 use Rattle.cs_laws.specs.Operations.{applied}
@@ -31,7 +32,9 @@ StatesReadBack ops h =
     → covers_file a (standing_context h f) ≡ true → owed h f a ≡ false
     → ReadsBack f a ops (meta_at f a (stand h)) (writes_at a (writes h f)) (mode_at h f a)
 
--- the store lists exactly the operations that the history implies, and reads back with the records
-pub record Agrees (ops : List ObjOp) (h : List Entry) : Type 0 where
+-- the store lists exactly the operations that the history implies, the log its records, of which those are durable that the history
+-- says, and the two read back; rs, n: the log's records, and how many of them are durable
+pub record Agrees (ops : List ObjOp) (rs : List (List ℕ)) (n : ℕ) (h : List Entry) : Type 0 where
   pub operations : ops ≡ applied h
+  pub log : LogIs rs n (durable h) (fresh h)
   pub states : StatesReadBack ops h

@@ -33,7 +33,7 @@ use Rattle.cs_laws.specs.Image.{Write, image, size}
 use Rattle.cs_laws.specs.Metadata.{meta_at}
 use Rattle.cs_laws.specs.Owed.{owed}
 use Rattle.cs_laws.specs.Shown.{writes_at}
-use Rattle.cs_laws.specs.Standing.{greatest_number, has_snap, has_snap_named, is_removed}
+use Rattle.cs_laws.specs.Standing.{greatest_number, greatest_tid, has_snap, has_snap_named, is_removed}
 
 -- a directory or a file has the inode
 abbrev pub is_in_use : List Entry → ℕ → Bool
@@ -160,11 +160,15 @@ answer_to_client h = answer_to_client_of h (to_client h)
 abbrev pub held_after : ServerCaps → ℕ → Caps → Caps
 held_after s seq bits = if s.seq == seq then bits else s.held
 
+-- the line of a flush that is delivered to the server: it is applied where its number is above those of its file's that stand
+abbrev pub answer_flushed : List Record → ℕ → ℕ → Answer
+answer_flushed rs f tid = if nat_lt (greatest_tid f rs) tid then answers.Flushed f tid else answers.FlushDup f tid
+
 -- the line of a message that is delivered to the server
 abbrev pub answer_received : List Entry → Message → Answer
 answer_received h (messages.CapAck f seq bits) = answers.CapAck f seq (held_after (server h f) seq bits)
-answer_received h (messages.Flush f tid follows meta) = answers.Flushed f tid
-answer_received h (messages.FlushSnap f tid follows meta) = answers.Flushed f tid
+answer_received h (messages.Flush f tid follows meta) = answer_flushed (stand h) f tid
+answer_received h (messages.FlushSnap f tid follows meta) = answer_flushed (stand h) f tid
 answer_received h _ = answers.Idle
 
 abbrev pub answer_to_mds_of : List Entry → List Message → Answer

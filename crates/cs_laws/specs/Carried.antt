@@ -10,6 +10,7 @@ use Rattle.cs_laws.specs.Flushes.{Flush}
 -- the message goes to the client
 abbrev pub is_for_client : Message → Bool
 is_for_client (messages.Cap f seq bits end) = true
+is_for_client (messages.Safe tid) = true
 is_for_client (messages.FlushAck f tid) = true
 is_for_client (messages.Snap number realm realms) = true
 is_for_client _ = false

@@ -41,7 +41,7 @@ abbrev mutual
   pub to_client : List Entry → List Message
   to_client [] = []
   to_client (x ∷ h) =
-      to_client_then x.event x.answer (λ f. server h f) (news (λ d. server_path h d) (server_dirs h) (last_sent h) (durable h) (fresh h)) (to_client h)
+      to_client_then x.event x.answer (λ f. server h f) (durable h) (news (λ d. server_path h d) (server_dirs h) (last_sent h) (durable h) (fresh h)) (to_client h)
 
   -- the messages on their way to the server
   pub to_server : List Entry → List Message

@@ -1,8 +1,8 @@
 pub mod Agreement
 pub mod Answers
 pub mod CapSnaps
-pub mod Carried
 pub mod Capabilities
+pub mod Carried
 pub mod Context
 pub mod Devices
 pub mod Events
@@ -15,6 +15,7 @@ pub mod Image
 pub mod Journal
 pub mod Laws
 pub mod Lists
+pub mod Logged
 pub mod Metadata
 pub mod Objects
 pub mod Operations
@@ -25,6 +26,7 @@ pub mod Refusals
 pub mod Runs
 pub mod Sessions
 pub mod Shown
+pub mod Spellings
 pub mod Standing
 pub mod Texts
 pub mod Tree

@@ -26,6 +26,7 @@ abbrev pub has_snap : ℕ → Own → Bool
 has_snap s o = list_any (λ t. t == s) o.snaps
 
 abbrev pub own_then : ℕ → Own → RecordBody → Own
+own_then d o (bodies.Request tid op answer) = o
 own_then d o (bodies.Flush snap f tid follows meta) = o
 own_then d o (bodies.Snap number e name) = if e == d then record { seq = number; snaps = number ∷ o.snaps } else o
 own_then d o (bodies.Removal s number) =

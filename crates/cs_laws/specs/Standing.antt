@@ -13,7 +13,7 @@ use Rattle.cs_laws.specs.declared.records.Record.{Record}
 use Rattle.cs_laws.specs.declared.records.RecordBody.{RecordBody}
 use Rattle.cs_laws.specs.declared.records.RecordBody.TheVariants as bodies
 use Rattle.cs_snapctx.specs.Records.{with_records}
-use Rattle.cs_laws.specs.Carried.{flush_on, realms_of}
+use Rattle.cs_laws.specs.Carried.{flush_in, flush_on, realms_of}
 use Rattle.cs_laws.specs.Flushes.{Flush, flush_record}
 use Rattle.cs_laws.specs.Realms.{differing, realm_records}
 
@@ -54,6 +54,7 @@ dir_of s (r ∷ rs) = dir_in s r.body (dir_of s rs)
 
 -- The message on a record that became durable, by the records before it. A snapshot changes realms, and so does a removal.
 abbrev pub news_of : List Record → List RealmRecord → RecordBody → Message
+news_of before realms (bodies.Request tid op answer) = messages.Safe tid
 news_of before realms (bodies.Flush snap f tid follows meta) = messages.FlushAck f tid
 news_of before realms (bodies.Snap number d name) = messages.Snap number d realms
 news_of before realms (bodies.Removal s number) = messages.Snap number (unwrap_or (dir_of s before) 1) realms
@@ -79,6 +80,26 @@ sent_with (m ∷ q) sent = sent_with q (with_records (realms_of m) sent)
 abbrev pub last_sent_then : Event → Answer → List Message → List RealmRecord → List RealmRecord
 last_sent_then events.Commit (answers.Commit count) q sent = sent_with q sent
 last_sent_then _ _ q sent = sent
+
+-- Flushes among the records
+
+-- the number of a flush of the file, or 0 where it is none
+abbrev pub tid_if : ℕ → Option Flush → ℕ
+tid_if f None = 0
+tid_if f (Some x) = if x.file == f then x.tid else 0
+
+-- the greatest number of a file's flushes, or 0 where there is none
+abbrev pub greatest_tid : ℕ → List Record → ℕ
+greatest_tid f [] = 0
+greatest_tid f (r ∷ rs) = max (tid_if f (flush_in r.body)) (greatest_tid f rs)
+
+abbrev pub is_flush : ℕ → ℕ → Option Flush → Bool
+is_flush f tid None = false
+is_flush f tid (Some x) = (x.file == f) && (x.tid == tid)
+
+-- the flush of this number of a file stands
+abbrev pub has_flush : ℕ → ℕ → List Record → Bool
+has_flush f tid rs = list_any (λ r. is_flush f tid (flush_in r.body)) rs
 
 -- Snapshots among the records
 
@@ -109,6 +130,7 @@ has_snap_named d name rs = list_any (λ r. is_snap_named d name rs r.body) rs
 
 -- the number that a snapshot or a removal drew
 abbrev pub number_of : RecordBody → ℕ
+number_of (bodies.Request tid op answer) = 0
 number_of (bodies.Flush snap f tid follows meta) = 0
 number_of (bodies.Snap number d name) = number
 number_of (bodies.Removal s number) = number

@@ -88,6 +88,7 @@ answer_text (answers.FlushAck f tid) = codes "flushack " ++ decimal f ++ codes "
 answer_text (answers.SnapTold number realm made) = codes "snap " ++ decimal number ++ codes " " ++ decimal realm ++ codes " " ++ decimal made
 answer_text (answers.CapAck f seq held) = codes "capack " ++ decimal f ++ codes " " ++ decimal seq ++ codes " held " ++ caps_text held
 answer_text (answers.Flushed f tid) = codes "flushed " ++ decimal f ++ codes " " ++ decimal tid
+answer_text (answers.FlushDup f tid) = codes "flushdup " ++ decimal f ++ codes " " ++ decimal tid
 answer_text (answers.SentCap seq held) = codes "sent " ++ decimal seq ++ codes " held " ++ caps_text held
 answer_text (answers.Snap number) = codes "snap " ++ decimal number
 answer_text (answers.Removed s number) = codes "removed " ++ decimal s ++ codes " " ++ decimal number

@@ -114,6 +114,11 @@ pub enum Answer {
         file: Ino,
         tid: Tid,
     },
+    /// A flush was delivered again, whose record stands.
+    FlushDup {
+        file: Ino,
+        tid: Tid,
+    },
     /// A capability message was sent; the client may still be using the bits that are held.
     SentCap {
         seq: Seq,
@@ -217,6 +222,10 @@ impl Answer {
                 held: *held,
             },
             Answer::Flushed { file, tid } => Answer::Flushed {
+                file: *file,
+                tid: *tid,
+            },
+            Answer::FlushDup { file, tid } => Answer::FlushDup {
                 file: *file,
                 tid: *tid,
             },

@@ -12,11 +12,13 @@ mod messages;
 mod objects;
 mod printing;
 mod records;
+mod requests;
 
 pub use answers::{Answer, Entry, Why, not_yet};
 pub use events::{Event, RefName, is_built};
 pub use faults::{Kind, ScriptFault, StepFault};
 pub use laws::values_may_cross_threads;
-pub use messages::Message;
+pub use messages::{Message, MessageList};
 pub use objects::{At, ObjOp, ObjOps};
 pub use records::{RealmRecordList, Record, RecordBody};
+pub use requests::{OpAnswer, ReqOp};

@@ -1,9 +1,16 @@
 // The messages between client and server.
-use crate::RealmRecordList;
-use cs_bits::Caps;
-use cs_ids::{FileMeta, Ino, Seq, Snap, Tid};
+ghost use Rattle.std.specs.Prelude.{◌≡◌, IfOk};
+ghost use Rattle.std.specs.List.{list_all};
+ghost use Rattle.cs_laws.specs.Spellings.{descends, message_fits, realm_fits, realms_fit, snaps_fit};
 
-/// A message. `Cap`, `FlushAck` and `Snap` go to the client, `CapAck`, `Flush` and `FlushSnap` to the
+use crate::RealmRecordList;
+use crate::records::meta_fits;
+use cs_bits::Caps;
+use cs_ids::{FileMeta, Ino, Items, Memory, Seq, Snap, Tid};
+use cs_snapctx::RealmRecord;
+use std::alloc::Global;
+
+/// A message. `Cap`, `Safe`, `FlushAck` and `Snap` go to the client, `CapAck`, `Flush` and `FlushSnap` to the
 /// server.
 #[derive(Drop)]
 pub enum Message {
@@ -13,6 +20,10 @@ pub enum Message {
         seq: Seq,
         bits: Caps,
         max: u32,
+    },
+    /// The record of a request is durable.
+    Safe {
+        tid: Tid,
     },
     /// The record of a flush is durable.
     FlushAck {
@@ -46,4 +57,135 @@ pub enum Message {
         follows: Seq,
         meta: FileMeta,
     },
+}
+
+/// Messages in an order.
+pub type MessageList = Items<Message>;
+
+impl Message {
+    /// A copy, equal to the message.
+    pub fn copy(&self, alloc: Global) -> Result<Message, Memory>
+        ensures { IfOk result (λ m. m ≡ self.now) }
+    {
+        Ok(match self {
+            Message::Cap {
+                file,
+                seq,
+                bits,
+                max,
+            } => Message::Cap {
+                file: *file,
+                seq: *seq,
+                bits: *bits,
+                max: *max,
+            },
+            Message::Safe { tid } => Message::Safe { tid: *tid },
+            Message::FlushAck { file, tid } => Message::FlushAck {
+                file: *file,
+                tid: *tid,
+            },
+            Message::Snap {
+                number,
+                realm,
+                realms,
+            } => Message::Snap {
+                number: *number,
+                realm: *realm,
+                realms: copy_realms(alloc, realms)?,
+            },
+            Message::CapAck { file, seq, bits } => Message::CapAck {
+                file: *file,
+                seq: *seq,
+                bits: *bits,
+            },
+            Message::Flush {
+                file,
+                tid,
+                follows,
+                meta,
+            } => Message::Flush {
+                file: *file,
+                tid: *tid,
+                follows: *follows,
+                meta: *meta,
+            },
+            Message::FlushSnap {
+                file,
+                tid,
+                follows,
+                meta,
+            } => Message::FlushSnap {
+                file: *file,
+                tid: *tid,
+                follows: *follows,
+                meta: *meta,
+            },
+        })
+    }
+
+    /// Whether the message has a spelling in bytes. It takes no memory.
+    pub fn fits(&self) -> bool
+        ensures { result ≡ message_fits self.now }
+    {
+        match self {
+            Message::Cap { bits, max, .. } => bits.fits() && *max <= 1_048_576,
+            Message::Safe { .. } | Message::FlushAck { .. } => true,
+            Message::Snap { number, realms, .. } => number.get() >= 1 && realms_fit(realms),
+            Message::CapAck { bits, .. } => bits.fits(),
+            Message::Flush { meta, .. } | Message::FlushSnap { meta, .. } => meta_fits(meta),
+        }
+    }
+}
+
+// The same realm records once more.
+fn copy_realms(alloc: Global, realms: &RealmRecordList) -> Result<RealmRecordList, Memory>
+    ensures { IfOk result (λ list. list ≡ realms.now) }
+{
+    let mut list = RealmRecordList::new(alloc);
+    for realm in realms.as_slice() {
+        list.push(realm.copy()?)?;
+    }
+    Ok(list)
+}
+
+fn realms_fit(realms: &RealmRecordList) -> bool
+    ensures { result ≡ realms_fit realms.now }
+{
+    realms.len() <= 65_535 && each_fits(realms.as_slice())
+}
+
+fn each_fits(realms: &[RealmRecord]) -> bool
+    ensures { result ≡ list_all realm_fits realms.now }
+{
+    match realms {
+        [] => true,
+        [first, rest @ ..] => realm_fits(first) && each_fits(rest),
+    }
+}
+
+// The root alone has no parent.
+fn realm_fits(realm: &RealmRecord) -> bool
+    ensures { result ≡ realm_fits realm.now }
+{
+    realm.parent.is_none() == (realm.realm.get() == 1)
+        && realm.since.get() >= 1
+        && snaps_fit(realm.own.as_slice())
+        && snaps_fit(realm.prior.as_slice())
+}
+
+fn snaps_fit(snaps: &[Snap]) -> bool
+    ensures { result ≡ snaps_fit snaps.now }
+{
+    snaps.len() <= 65_535 && descends(snaps)
+}
+
+// Whether the numbers descend to 1 at least.
+fn descends(snaps: &[Snap]) -> bool
+    ensures { result ≡ descends snaps.now }
+{
+    match snaps {
+        [] => true,
+        [last] => last.get() >= 1,
+        [first, rest @ ..] => rest[0] < *first && descends(rest),
+    }
 }

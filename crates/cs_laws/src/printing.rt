@@ -199,6 +199,7 @@ impl fmt::Display for Answer {
                 write!(f, "capack {} {} held {held}", file.get(), seq.get())
             }
             Answer::Flushed { file, tid } => write!(f, "flushed {} {}", file.get(), tid.get()),
+            Answer::FlushDup { file, tid } => write!(f, "flushdup {} {}", file.get(), tid.get()),
             Answer::SentCap { seq, held } => write!(f, "sent {} held {held}", seq.get()),
             Answer::Snap { number } => write!(f, "snap {}", number.get()),
             Answer::Removed { snap, number } => {

@@ -1,8 +1,11 @@
-// Each call of a log that takes memory, with ample memory; and which calls of the faulty form fail.
+// Each call of a log that takes memory, with ample memory; which calls of the faulty form fail; and a record of each
+// kind, written and read.
 ghost use Rattle.std.specs.Prelude.{◌≡◌, ◌+◌, length, IfOk};
 
-use cs_ids::Failed;
-use cs_mdslog::{FaultyLog, LogFault, MdsLog, MemLog};
+use cs_ids::{Bytes, Failed, FileMeta, Ino, Name, Seq, Snap, Tid};
+use cs_laws::{OpAnswer, Record, RecordBody, ReqOp};
+use cs_mdslog::{FaultyLog, LogFault, MdsLog, MemLog, decode_record, encode_record};
+use std::alloc::Global;
 use std::test::Fail;
 
 // Two records through the bound, the first of them durable.
@@ -41,5 +44,85 @@ fn the_listed_calls_fail(rt: HostRuntime) -> Result<(), Fail> {
     assert_eq!(rt; log.append(b"second"), Ok(()));
     assert_eq!(rt; log.append(b"third"), Err(LogFault::Failed));
     assert_eq!(rt; (log.records().len(), log.durable()), (2, 1));
+    Ok(())
+}
+
+// The bytes of the record, which are read and written once more.
+fn written(alloc: Global, body: RecordBody) -> Result<Bytes, Fail> {
+    let mut bytes = Bytes::new(alloc);
+    encode_record(&Record { body }, &mut bytes)?;
+    let again = decode_record(alloc, bytes.as_slice())?.ok_or("no record")?;
+    bytes.clear();
+    encode_record(&again, &mut bytes)?;
+    Ok(bytes)
+}
+
+#[test]
+fn a_request_is_written_and_read(rt: HostRuntime) -> Result<(), Fail> {
+    let alloc = rt.alloc();
+    let bytes = written(
+        alloc,
+        RecordBody::Request {
+            tid: Tid::new(1).ok_or("no number")?,
+            op: ReqOp::Rename {
+                dir: Ino::new(258).ok_or("no inode")?,
+                name: Name::from_slice(alloc, b"a")?,
+                new_name: Name::from_slice(alloc, b"b-2")?,
+            },
+            answer: OpAnswer::Moved,
+        },
+    )?;
+    assert_eq!(rt;
+        bytes.as_slice(),
+        b"\x01\x01\x01\0\0\0\0\0\0\0\x04\x02\x01\0\0\0\0\0\0\x01a\x03b-2\x04\0\0\0\0\0\0\0\0".as_slice()
+    );
+    Ok(())
+}
+
+#[test]
+fn a_flush_is_written_and_read(rt: HostRuntime) -> Result<(), Fail> {
+    let bytes = written(
+        rt.alloc(),
+        RecordBody::Flush {
+            snap: true,
+            file: Ino::new(2).ok_or("no inode")?,
+            tid: Tid::new(3).ok_or("no number")?,
+            follows: Seq::new(4).ok_or("no number")?,
+            meta: FileMeta {
+                size: 5,
+                mtime: 256,
+                mode: 0o644,
+            },
+        },
+    )?;
+    assert_eq!(rt;
+        bytes.as_slice(),
+        b"\x01\x02\x01\x02\0\0\0\0\0\0\0\x03\0\0\0\0\0\0\0\x04\0\0\0\0\0\0\0\x05\0\0\0\0\0\0\0\0\x01\0\0\0\0\0\0\xa4\x01".as_slice()
+    );
+    Ok(())
+}
+
+#[test]
+fn a_snapshot_and_a_removal_are_written_and_read(rt: HostRuntime) -> Result<(), Fail> {
+    let alloc = rt.alloc();
+    let snap = Snap::new(1).ok_or("no snapshot")?;
+    let taken = written(
+        alloc,
+        RecordBody::Snap {
+            number: snap,
+            dir: Ino::new(1).ok_or("no inode")?,
+            name: Name::from_slice(alloc, b"monday")?,
+        },
+    )?;
+    assert_eq!(rt;
+        taken.as_slice(),
+        b"\x01\x03\x01\0\0\0\0\0\0\0\x01\0\0\0\0\0\0\0\x06monday".as_slice()
+    );
+    let number = Snap::new(2).ok_or("no snapshot")?;
+    let removed = written(alloc, RecordBody::Removal { snap, number })?;
+    assert_eq!(rt;
+        removed.as_slice(),
+        b"\x01\x04\x01\0\0\0\0\0\0\0\x02\0\0\0\0\0\0\0".as_slice()
+    );
     Ok(())
 }

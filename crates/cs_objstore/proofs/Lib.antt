@@ -1,7 +1,9 @@
+pub mod Applying
 pub mod Bytes
 pub mod Falling
 pub mod Found
 pub mod Kept
+pub mod Reading
 pub mod Same
 pub mod Spans
 pub mod Tids

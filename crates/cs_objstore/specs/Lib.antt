@@ -1,5 +1,6 @@
 pub mod Blocks
 pub mod Clones
+pub mod Files
 pub mod Found
 pub mod Kept
 pub mod Stores

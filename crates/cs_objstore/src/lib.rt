@@ -6,6 +6,7 @@
 mod answers;
 mod block;
 mod faulty;
+mod files;
 mod image;
 mod laws;
 mod memory;
@@ -14,6 +15,7 @@ mod traits;
 
 pub use answers::{Applied, StoreFault};
 pub use faulty::FaultyStore;
+pub use files::{apply_all, read_file, zeros};
 pub use laws::values_may_cross_threads;
 pub use memory::MemStore;
 pub use traits::ObjStore;

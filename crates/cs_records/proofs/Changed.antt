@@ -79,11 +79,13 @@ found_passes p d (x ∷ xs) fails = at (p x) refl (found_passes p d xs fails)
     at false e rest = rest
 
 -- the tests agree but at d, at which the second holds, and d isn't found
-same_found : (p q : ℕ → Bool) (d : ℕ) (xs : List ℕ) → ((x : ℕ) → (x == d) ≡ false → q x ≡ p x) → q d ≡ true → is_at d (find q xs) ≡ false → find p xs ≡ find q xs
+same_found : (p q : ℕ → Bool) (d : ℕ) (xs : List ℕ) → ((x : ℕ) → (x == d) ≡ false → q x ≡ p x) → q d ≡ true → is_at d (find q xs) ≡ false
+    → find p xs ≡ find q xs
 same_found p q d [] agree passes apart = refl
 same_found p q d (x ∷ xs) agree passes apart = at (x == d) refl (q x) refl apart (λ behind. same_found p q d xs agree passes behind)
   where
-    at : (a : Bool) → (x == d) ≡ a → (c : Bool) → q x ≡ c → is_at d (cond c (Some x) (find q xs)) ≡ false → (is_at d (find q xs) ≡ false → find p xs ≡ find q xs)
+    at : (a : Bool) → (x == d) ≡ a → (c : Bool) → q x ≡ c → is_at d (cond c (Some x) (find q xs)) ≡ false
+        → (is_at d (find q xs) ≡ false → find p xs ≡ find q xs)
         → cond (p x) (Some x) (find p xs) ≡ cond c (Some x) (find q xs)
     at true e true f apart rest = absurd cc
     at true e false f apart rest = absurd (let holds : q x ≡ true = ap q (eqb-true x d e) ∙ passes in cc)
@@ -117,21 +119,23 @@ other_seq x y less =
     rest : Bool
     rest = pointwise nat_eq x.own y.own && pointwise nat_eq x.prior y.prior
 
-    at : (a b c : Bool) → (x.own_seq == y.own_seq) ≡ false → (a && (b && (c && ((x.own_seq == y.own_seq) && (pointwise nat_eq x.own y.own && pointwise nat_eq x.prior y.prior))))) ≡ false
+    at : (a b c : Bool) → (x.own_seq == y.own_seq) ≡ false
+        → (a && (b && (c && ((x.own_seq == y.own_seq) && (pointwise nat_eq x.own y.own && pointwise nat_eq x.prior y.prior))))) ≡ false
     at true true true e = rw e refl
     at true true false e = refl
     at true false c e = refl
     at false b c e = refl
 
 other_above : (x y : RealmRecord) → is_same_parent x.parent y.parent ≡ false → is_same_record x y ≡ false
-other_above x y other = at (x.realm == y.realm)
+other_above x y other = at (x.realm == y.realm) _
   where
-    at : (a : Bool) → (a && (is_same_parent x.parent y.parent && ((x.since == y.since) && ((x.own_seq == y.own_seq) && (pointwise nat_eq x.own y.own && pointwise nat_eq x.prior y.prior))))) ≡ false
-    at true = rw other refl
-    at false = refl
+    at : (a c : Bool) → (a && (is_same_parent x.parent y.parent && c)) ≡ false
+    at true c = rw other refl
+    at false c = refl
 
 -- the nearest realm above isn't d, or d was a realm: it is the same as before
-unmoved : (d : ℕ) (is_new : Bool) (before after : List Record) (xs : List ℕ) → IsChange d is_new before after → (is_new && is_at d (find (is_realm after) xs)) ≡ false
+unmoved : (d : ℕ) (is_new : Bool) (before after : List Record) (xs : List ℕ) → IsChange d is_new before after
+    → (is_new && is_at d (find (is_realm after) xs)) ≡ false
     → find (is_realm before) xs ≡ find (is_realm after) xs
 unmoved d is_new before after xs change apart = at is_new refl apart
   where
@@ -172,7 +176,8 @@ changed_one d is_new before after up e change = at (e == d) refl (is_new && is_a
         (other_above old now (other_parent d (find (is_realm before) up') (find (is_realm after) up') (found_passes (is_realm before) d up' fails) parts.1))
     at false other false above =
         let same : realm_record up before e ≡ realm_record up after e =
-        (λ i. cond (sym (change.realms e other) i) (Some (record_with e (unmoved d is_new before after up' change above i) (sym (change.owns e other) i))) None) in
+        (λ i. cond (sym (change.realms e other) i)
+        (Some (record_with e (unmoved d is_new before after up' change above i) (sym (change.owns e other) i))) None) in
         ap (λ o. changed_record o (realm_record up after e)) same ∙ none_or (is_realm after e) now (realm_record up after e) refl
 
 -- A snapshot and a removal
@@ -180,7 +185,8 @@ changed_one d is_new before after up e change = at (e == d) refl (is_new && is_a
 flip : (m n : ℕ) → (m == n) ≡ false → (n == m) ≡ false
 flip m n e = grind (arith, nat_tests)
 
-pub change_by_snap : (rs : List Record) (n d : ℕ) (name : List ℕ) → greatest_number rs < n → IsChange d (not (is_realm rs d)) rs (rs ++ record { body = bodies.Snap n d name } ∷ [])
+pub change_by_snap : (rs : List Record) (n d : ℕ) (name : List ℕ) → greatest_number rs < n
+    → IsChange d (not (is_realm rs d)) rs (rs ++ record { body = bodies.Snap n d name } ∷ [])
 change_by_snap rs n d name new =
     let r : Record = record { body = bodies.Snap n d name } in
     let mine : own d (rs ++ r ∷ []) ≡ record { seq = n; snaps = n ∷ (own d rs).snaps } =
@@ -188,7 +194,8 @@ change_by_snap rs n d name new =
     record {
       realms = λ e other.
           ap (λ b. (e == 1) || b)
-          (had_one_append e rs r ∙ (ap (λ b. list_any (λ x. is_snap_of e x.body) rs || b) (flip e d other) ∙ or_false (list_any (λ x. is_snap_of e x.body) rs)));
+          (had_one_append e rs r
+          ∙ (ap (λ b. list_any (λ x. is_snap_of e x.body) rs || b) (flip e d other) ∙ or_false (list_any (λ x. is_snap_of e x.body) rs)));
       owns = λ e other. own_append e rs r ∙ ap (λ b. cond b (record { seq = n; snaps = n ∷ (own e rs).snaps }) (own e rs)) (flip e d other);
       stands =
           or_right (d == 1) (list_any (λ x. is_snap_of d x.body) (rs ++ r ∷ []))
@@ -210,6 +217,7 @@ dir_had s d (x ∷ rs) is = at x.body is (dir_had s d rs)
     at : (b : RecordBody) → dir_in s b (dir_of s rs) ≡ Some d → (dir_of s rs ≡ Some d → list_any (λ y. is_snap_of d y.body) rs ≡ true)
         → (is_snap_of d b || list_any (λ y. is_snap_of d y.body) rs) ≡ true
     at (bodies.Snap number e name) is rest = choice (number == s) e is rest
+    at (bodies.Request tid op answer) is rest = rest is
     at (bodies.Flush snap f tid follows meta) is rest = rest is
     at (bodies.Removal t number) is rest = rest is
 
@@ -246,13 +254,17 @@ pub snap_records : (path : ℕ → List ℕ) (ds : List ℕ) (before : List Reco
     → changed_records path ds before (before ++ record { body = bodies.Snap number d name } ∷ []) ≡ filter_map (snapped_record path before number d name) ds
 snap_records path ds before number d name new =
     ap (λ (f : ℕ → Option RealmRecord). filter_map f ds)
-    (λ i e. changed_one d (not (is_realm before d)) before (before ++ record { body = bodies.Snap number d name } ∷ []) (path e) e (change_by_snap before number d name new) i)
+    (λ i e. changed_one d (not (is_realm before d)) before (before ++ record { body = bodies.Snap number d name } ∷ []) (path e) e
+    (change_by_snap before number d name new) i)
 
-pub removal_records : (path : ℕ → List ℕ) (ds : List ℕ) (before : List Record) (s number d : ℕ) → IsLog before → IsNextRemoval before s number → dir_of s before ≡ Some d
+pub removal_records : (path : ℕ → List ℕ) (ds : List ℕ) (before : List Record) (s number d : ℕ) → IsLog before → IsNextRemoval before s number
+    → dir_of s before ≡ Some d
     → changed_records path ds before (before ++ record { body = bodies.Removal s number } ∷ []) ≡ filter_map (removed_record path before s number d) ds
 removal_records path ds before s number d log next is =
     ap (λ (f : ℕ → Option RealmRecord). filter_map f ds)
-    (λ i e. (changed_one d (not (is_realm before d)) before (before ++ record { body = bodies.Removal s number } ∷ []) (path e) e (change_by_removal before s number d log next is)
-    ∙ (ap (λ b. cond ((e == d) || (not b && is_at d (find (is_realm (before ++ record { body = bodies.Removal s number } ∷ [])) (drop 1 (path e))))) (realm_record (path e) (before ++ record { body = bodies.Removal s number } ∷ []) e) None)
+    (λ i e. (changed_one d (not (is_realm before d)) before (before ++ record { body = bodies.Removal s number } ∷ []) (path e) e
+    (change_by_removal before s number d log next is)
+    ∙ (ap (λ b. cond ((e == d) || (not b && is_at d (find (is_realm (before ++ record { body = bodies.Removal s number } ∷ [])) (drop 1 (path e)))))
+    (realm_record (path e) (before ++ record { body = bodies.Removal s number } ∷ []) e) None)
     (or_right (d == 1) (list_any (λ r. is_snap_of d r.body) before) (dir_had s d before is))
     ∙ ap (λ b. cond b (realm_record (path e) (before ++ record { body = bodies.Removal s number } ∷ []) e) None) (or_false (e == d)))) i)

@@ -1,22 +1,37 @@
 -- What is kept beside the records, after each step.
-use Rattle.std.proofs.Common.{◌≡◌, ℕ, ◌==◌, ◌+◌, ◌≤◌, ◌<◌, ◌||◌, ◌&&◌, Bool, true, false, cond, List, [], ◌∷◌, ◌++◌, Option, Some, None, length, take, drop, get_or, suc, add-one, refl, sym, ◌∙◌, ap, subst, arith}
+use Rattle.std.proofs.Common.{◌≡◌, ℕ, ◌==◌, ◌+◌, ◌<◌, ◌||◌, ◌&&◌, Bool, true, false, cond, List, [], ◌∷◌, ◌++◌, Option, Some, None, length, take, drop, get_or, suc, add-one, refl, sym, ◌∙◌, ap, subst, arith, append-nil, max, nat_eq}
 use Rattle.std.specs.Str.{bytes_eq}
 use Rattle.std.proofs.lemmas.Bool.{eqb-true}
-use Rattle.std.proofs.lemmas.List.{length-append, take-append-drop, take-append-le}
+use Rattle.std.proofs.lemmas.List.{length-append, length-drop, take-append-drop, take-append-le}
 use Rattle.std.proofs.Math.Seq.{drop-cons, take-suc}
 use Rattle.cs_laws.specs.declared.records.Record.{Record}
 use Rattle.cs_laws.specs.declared.records.RecordBody.TheVariants as bodies
-use Rattle.cs_laws.specs.Realms.{Own}
-use Rattle.cs_laws.specs.Standing.{dir_of, greatest_number, is_removal, is_removed, number_of}
+use Rattle.cs_laws.specs.Standing.{dir_in, dir_of, greatest_number, greatest_tid, is_removal, is_removed, number_of}
 use Rattle.cs_laws.specs.declared.messages.Message.{Message}
 use Rattle.cs_tree.specs.declared.directories.Directory.{Directory}
 use Rattle.cs_tree.specs.Directories.{AreDistinct, inos, path_of}
 use Rattle.cs_records.specs.CommitNews.{commit_news}
-use Rattle.cs_records.specs.Indexed.{IsIndexed}
+use Rattle.indexmap.specs.IndexMap.{get}
+use Rattle.indexmap.specs.IndexSet.{contains}
+use Rattle.cs_ids.specs.declared.objects.FileMeta.{FileMeta}
+use Rattle.cs_laws.specs.declared.requests.OpAnswer.{OpAnswer}
+use Rattle.cs_laws.specs.declared.requests.ReqOp.{ReqOp}
+use Rattle.cs_laws.specs.Carried.{flush_in}
+use Rattle.cs_laws.specs.Flushes.{Flush}
+use Rattle.cs_records.specs.declared.index.Index.{Index}
+use Rattle.cs_records.specs.declared.own_table.OwnTable.{OwnTable}
+use Rattle.cs_records.specs.Flushed.{Flushed, flushed, with_flushed}
+use Rattle.cs_records.specs.Flushes.{flushed_in}
+use Rattle.cs_records.specs.Indexed.{AreSettled, IsIndexed, IsKept}
 use Rattle.cs_records.specs.Log.{IsLog, IsNext, IsNextRemoval, IsNextSnap}
-use Rattle.cs_records.specs.Names.{last_named, named_then}
-use Rattle.cs_records.specs.OwnTable.{had}
+use Rattle.cs_records.specs.Names.{last_named, name_in, named_then}
+use Rattle.cs_records.specs.OwnTable.{had, own_in}
+use Rattle.cs_records.specs.Places.{places_from, with_place}
+use Rattle.cs_records.specs.Recorded.{recorded, recorded_then, with_recorded}
+use Rattle.cs_records.specs.Records.{Settles}
 use Rattle.cs_records.specs.NewsByTables.{IsKnown, changed_own, is_new_by, message_by}
+use Rattle.cs_records.proofs.FlushPlaces.{places_append}
+use Rattle.cs_records.proofs.RecordedSteps.{recorded_append}
 use Rattle.cs_records.proofs.Logs.{dir_append, dir_stays, either, either_none, greatest_append, log_append, log_front, log_next, named_append, or_false, removed_append}
 use Rattle.cs_records.proofs.Members.{new_dir}
 use Rattle.cs_records.proofs.Telling.{Knows, changed_had, known, message_told}
@@ -28,128 +43,174 @@ front_grows rs d r more is = one (take-suc rs d r more) (ap (λ x. take d rs ++ 
     one : take (suc d) rs ≡ take d rs ++ (get_or rs d r ∷ []) → take d rs ++ get_or rs d r ∷ [] ≡ take d rs ++ r ∷ [] → take (d + 1) rs ≡ take d rs ++ r ∷ []
     one a b = rw (add-one d) (a ∙ b)
 
-kept_front : (rs new : List Record) (d : ℕ) (r : Record) (of : ℕ → Option Own) → new ≡ rs ++ r ∷ [] → d ≤ length rs → ((e : ℕ) → of e ≡ had e (take d rs)) → (e : ℕ) → of e ≡ had e (take d new)
-kept_front rs new d r of grown within same e = same e ∙ ap (λ xs. had e xs) (sym (take-append-le d rs (r ∷ []) within) ∙ ap (λ xs. take d xs) (sym grown))
+-- the flush of a record, if it is one of the file, whose record stands at the place n
+abbrev pub flushed_then : ℕ → ℕ → Option Flush → Flushed → Flushed
+flushed_then f n None s = s
+flushed_then f n (Some x) s = cond (x.file == f) (with_flushed x.tid n x.follows x.meta s) s
 
-within_more : (rs new : List Record) (d : ℕ) (r : Record) → new ≡ rs ++ r ∷ [] → d ≤ length rs → d ≤ length new
-within_more rs new d r grown within = omega (arith, ap length grown, length-append rs (r ∷ []))
+-- One more record
 
-log_more : (rs new : List Record) (r : Record) → new ≡ rs ++ r ∷ [] → IsLog rs → IsNext rs r.body → IsLog new
-log_more rs new r grown log next = subst IsLog (sym grown) (log_append [] rs r log next)
+abbrev with_metas : List (ℕ × ℕ) → List (ℕ × FileMeta) → Flushed
+with_metas places metas = record { places = places; metas = metas }
 
-pub kept_flush : (rs new : List Record) (d g : ℕ) (dir : ℕ → Option ℕ) (is_out : ℕ → Bool) (last : ℕ → List ℕ → Option ℕ) (of : ℕ → Option Own) (r : Record) → new ≡ rs ++ r ∷ []
-    → number_of r.body ≡ 0 → IsNext rs r.body → ((s : ℕ) → dir_of s (r ∷ []) ≡ None) → ((s : ℕ) → is_removal s r.body ≡ false)
-    → ((e : ℕ) (name : List ℕ) (was : Option ℕ) → named_then e name r.body was ≡ was)
-    → IsIndexed rs d g dir is_out last of → IsIndexed new d g dir is_out last of
-kept_flush rs new d g dir is_out last of r grown zero next none in_place unnamed i = record {
-  within = within_more rs new d r grown i.within;
-  log = log_more rs new r grown i.log next;
-  number = omega (arith, i.number, zero, greatest_append rs r, ap greatest_number grown);
-  dirs = λ s. i.dirs s ∙ (sym (either_none (dir_of s rs)) ∙ (ap (λ o. either (dir_of s rs) o) (sym (none s)) ∙ (sym (dir_append s rs r) ∙ ap (λ xs. dir_of s xs) (sym grown))));
-  removed = λ s.
-      i.removed s ∙ (sym (or_false (is_removed s rs)) ∙ (ap (λ b. is_removed s rs || b) (sym (in_place s)) ∙ (sym (removed_append s rs r) ∙ ap (λ xs. is_removed s xs) (sym grown))));
-  names = λ e name. i.names e name ∙ (sym (unnamed e name (last_named e name rs)) ∙ (sym (named_append e name rs r) ∙ ap (λ xs. last_named e name xs) (sym grown)));
-  realms = kept_front rs new d r of grown i.within i.realms;
+flushed_append : (f : ℕ) (rs : List Record) (r : Record) → flushed f (rs ++ r ∷ []) ≡ flushed_then f (length rs) (flush_in r.body) (flushed f rs)
+flushed_append f rs r =
+    (λ i. with_metas (placed i) (recorded_append f rs r i))
+    ∙ at (flush_in r.body)
+  where
+    placed : places_from f 0 (rs ++ r ∷ []) ≡ places_from f 0 rs ++ with_place f (length rs) (flush_in r.body) []
+    placed = places_append f 0 rs r ∙ ap (λ k. places_from f 0 rs ++ with_place f k (flush_in r.body) []) (omega arith)
+
+    own : (x : Flush) (b : Bool)
+        → with_metas (places_from f 0 rs ++ cond b ((x.tid, length rs) ∷ []) []) (cond b (with_recorded (x.follows, x.meta) (recorded f rs)) (recorded f rs))
+        ≡ cond b (with_flushed x.tid (length rs) x.follows x.meta (flushed f rs)) (flushed f rs)
+    own x true = refl
+    own x false = ap (λ xs. with_metas xs (recorded f rs)) (append-nil (places_from f 0 rs))
+
+    at : (o : Option Flush)
+        → with_metas (places_from f 0 rs ++ with_place f (length rs) o []) (recorded_then f o (recorded f rs)) ≡ flushed_then f (length rs) o (flushed f rs)
+    at None = ap (λ xs. with_metas xs (recorded f rs)) (append-nil (places_from f 0 rs))
+    at (Some x) = own x (x.file == f)
+
+-- the look-ups give what the records and one more say
+pub indexed_more : (rs : List Record) (r : Record) (t new : Index) → IsIndexed rs t → IsNext rs r.body
+    → new.greatest ≡ max (greatest_number rs) (number_of r.body)
+    → ((s : ℕ) → get nat_eq new.dirs s ≡ either (dir_of s rs) (dir_in s r.body None))
+    → ((s : ℕ) → contains nat_eq new.removed s ≡ (is_removed s rs || is_removal s r.body))
+    → ((d : ℕ) (name : List ℕ) → name_in new.names d name ≡ named_then d name r.body (last_named d name rs))
+    → ((f : ℕ) → flushed_in new.flushes f ≡ flushed_then f (length rs) (flush_in r.body) (flushed f rs))
+    → IsIndexed (rs ++ r ∷ []) new
+indexed_more rs r t new i next number dirs removed names flushes = record {
+  log = log_append [] rs r i.log next;
+  number = number ∙ sym (greatest_append rs r);
+  dirs = λ s. dirs s ∙ sym (dir_append s rs r);
+  removed = λ s. removed s ∙ sym (removed_append s rs r);
+  names = λ d name. names d name ∙ sym (named_append d name rs r);
+  flushes = λ f. flushes f ∙ sym (flushed_append f rs r);
 }
 
-pub kept_snap : (rs new : List Record) (d g n e : ℕ) (name : List ℕ) (dir dir_now : ℕ → Option ℕ) (is_out : ℕ → Bool) (last last_now : ℕ → List ℕ → Option ℕ) (of : ℕ → Option Own)
-    → new ≡ rs ++ record { body = bodies.Snap n e name } ∷ [] → IsNextSnap rs n e name
-    → ((s : ℕ) → dir_now s ≡ cond (n == s) (Some e) (dir s))
-    → ((f : ℕ) (other : List ℕ) → last_now f other ≡ cond ((e == f) && bytes_eq other name) (Some n) (last f other))
-    → IsIndexed rs d g dir is_out last of → IsIndexed new d n dir_now is_out last_now of
-kept_snap rs new d g n e name dir dir_now is_out last last_now of grown next dirs names i =
-    let r : Record = record { body = bodies.Snap n e name } in
+pub kept_request : (rs : List Record) (tid : ℕ) (op : ReqOp) (answer : OpAnswer) (t : Index) → IsIndexed rs t
+    → IsIndexed (rs ++ record { body = bodies.Request tid op answer } ∷ []) t
+kept_request rs tid op answer t i =
+    indexed_more rs (record { body = bodies.Request tid op answer }) t t i tt (omega (arith, i.number))
+    (λ s. i.dirs s ∙ sym (either_none (dir_of s rs)))
+    (λ s. i.removed s ∙ sym (or_false (is_removed s rs)))
+    i.names i.flushes
+
+pub kept_flush : (rs : List Record) (snap : Bool) (f tid follows : ℕ) (meta : FileMeta) (t new : Index) → IsIndexed rs t → greatest_tid f rs < tid
+    → new.greatest ≡ t.greatest → new.dirs ≡ t.dirs → new.removed ≡ t.removed → new.names ≡ t.names
+    → ((g : ℕ) → flushed_in new.flushes g ≡ cond (f == g) (with_flushed tid (length rs) follows meta (flushed_in t.flushes g)) (flushed_in t.flushes g))
+    → IsIndexed (rs ++ record { body = bodies.Flush snap f tid follows meta } ∷ []) new
+kept_flush rs snap f tid follows meta t new i next number dirs removed names flushes =
+    indexed_more rs (record { body = bodies.Flush snap f tid follows meta }) t new i next (omega (arith, number, i.number))
+    (λ s. ap (λ d. get nat_eq d s) dirs ∙ (i.dirs s ∙ sym (either_none (dir_of s rs))))
+    (λ s. ap (λ d. contains nat_eq d s) removed ∙ (i.removed s ∙ sym (or_false (is_removed s rs))))
+    (λ d name. ap (λ n. name_in n d name) names ∙ i.names d name)
+    (λ g. flushes g ∙ ap (λ s. cond (f == g) (with_flushed tid (length rs) follows meta s) s) (i.flushes g))
+
+pub kept_snap : (rs : List Record) (n e : ℕ) (name : List ℕ) (t new : Index) → IsIndexed rs t → IsNextSnap rs n e name
+    → new.greatest ≡ n → ((s : ℕ) → get nat_eq new.dirs s ≡ cond (n == s) (Some e) (get nat_eq t.dirs s)) → new.removed ≡ t.removed
+    → ((d : ℕ) (other : List ℕ) → name_in new.names d other ≡ cond ((e == d) && bytes_eq other name) (Some n) (name_in t.names d other))
+    → new.flushes ≡ t.flushes
+    → IsIndexed (rs ++ record { body = bodies.Snap n e name } ∷ []) new
+kept_snap rs n e name t new i next number dirs removed names flushes =
     let drawn = next.next in
-    record {
-      within = within_more rs new d r grown i.within;
-      log = log_more rs new r grown i.log next;
-      number = omega (arith, greatest_append rs r, ap greatest_number grown);
-      dirs = λ s.
-          dirs s
-          ∙ (ap (λ o. cond (n == s) (Some e) o) (i.dirs s)
-          ∙ (at s (n == s) refl (dir_of s rs) refl ∙ (sym (dir_append s rs r) ∙ ap (λ xs. dir_of s xs) (sym grown))));
-      removed = λ s. i.removed s ∙ (sym (or_false (is_removed s rs)) ∙ (sym (removed_append s rs r) ∙ ap (λ xs. is_removed s xs) (sym grown)));
-      names = λ f other.
-          names f other
-          ∙ (ap (λ o. cond ((e == f) && bytes_eq other name) (Some n) o) (i.names f other) ∙ (sym (named_append f other rs r) ∙ ap (λ xs. last_named f other xs) (sym grown)));
-      realms = kept_front rs new d r of grown i.within i.realms;
-    }
+    indexed_more rs (record { body = bodies.Snap n e name }) t new i next (omega (arith, number))
+    (λ s. dirs s ∙ (ap (λ o. cond (n == s) (Some e) o) (i.dirs s) ∙ at s (n == s) refl (dir_of s rs) refl))
+    (λ s. ap (λ d. contains nat_eq d s) removed ∙ (i.removed s ∙ sym (or_false (is_removed s rs))))
+    (λ d other. names d other ∙ ap (λ o. cond ((e == d) && bytes_eq other name) (Some n) o) (i.names d other))
+    (λ f. ap (λ x. flushed_in x f) flushes ∙ i.flushes f)
   where
     at : (s : ℕ) (c : Bool) → (n == s) ≡ c → (o : Option ℕ) → dir_of s rs ≡ o → cond c (Some e) o ≡ either o (cond c (Some e) None)
     at s true p None q = refl
     at s true p (Some f) q = absurd (let fresh = new_dir s rs (let same = eqb-true n s p in let drawn = next.next in omega arith) in cc)
     at s false p o q = sym (either_none o)
 
-pub kept_removal : (rs new : List Record) (d g n t : ℕ) (dir : ℕ → Option ℕ) (is_out is_out_now : ℕ → Bool) (last : ℕ → List ℕ → Option ℕ) (of : ℕ → Option Own)
-    → new ≡ rs ++ record { body = bodies.Removal t n } ∷ [] → IsNextRemoval rs t n
-    → ((s : ℕ) → is_out_now s ≡ cond (t == s) true (is_out s))
-    → IsIndexed rs d g dir is_out last of → IsIndexed new d n dir is_out_now last of
-kept_removal rs new d g n t dir is_out is_out_now last of grown next out i =
-    let r : Record = record { body = bodies.Removal t n } in
+pub kept_removal : (rs : List Record) (u n : ℕ) (t new : Index) → IsIndexed rs t → IsNextRemoval rs u n
+    → new.greatest ≡ n → new.dirs ≡ t.dirs → ((s : ℕ) → contains nat_eq new.removed s ≡ cond (u == s) true (contains nat_eq t.removed s))
+    → new.names ≡ t.names → new.flushes ≡ t.flushes
+    → IsIndexed (rs ++ record { body = bodies.Removal u n } ∷ []) new
+kept_removal rs u n t new i next number dirs removed names flushes =
     let drawn = next.next in
-    record {
-      within = within_more rs new d r grown i.within;
-      log = log_more rs new r grown i.log next;
-      number = omega (arith, greatest_append rs r, ap greatest_number grown);
-      dirs = λ s. i.dirs s ∙ (sym (either_none (dir_of s rs)) ∙ (sym (dir_append s rs r) ∙ ap (λ xs. dir_of s xs) (sym grown)));
-      removed = λ s.
-          out s ∙ (ap (λ b. cond (t == s) true b) (i.removed s) ∙ (at (t == s) (is_removed s rs) ∙ (sym (removed_append s rs r) ∙ ap (λ xs. is_removed s xs) (sym grown))));
-      names = λ f other. i.names f other ∙ (sym (named_append f other rs r) ∙ ap (λ xs. last_named f other xs) (sym grown));
-      realms = kept_front rs new d r of grown i.within i.realms;
-    }
+    indexed_more rs (record { body = bodies.Removal u n }) t new i next (omega (arith, number))
+    (λ s. ap (λ d. get nat_eq d s) dirs ∙ (i.dirs s ∙ sym (either_none (dir_of s rs))))
+    (λ s. removed s ∙ (ap (λ b. cond (u == s) true b) (i.removed s) ∙ at (u == s) (is_removed s rs)))
+    (λ d name. ap (λ x. name_in x d name) names ∙ i.names d name)
+    (λ f. ap (λ x. flushed_in x f) flushes ∙ i.flushes f)
   where
     at : (c b : Bool) → cond c true b ≡ (b || c)
     at true true = refl
     at true false = refl
     at false b = sym (or_false b)
 
+-- those that are durable stay so
+pub settled_more : (rs : List Record) (r : Record) (d : ℕ) (t : OwnTable) → AreSettled rs d t → AreSettled (rs ++ r ∷ []) d t
+settled_more rs r d t i = record {
+  within = omega (arith, i.within, length-append rs (r ∷ []));
+  realms = λ e. i.realms e ∙ ap (λ xs. had e xs) (sym (take-append-le d rs (r ∷ []) i.within));
+}
+
 -- One more becomes durable
 
-pub split_at : (rs : List Record) (d : ℕ) (r : Record) → d < length rs → r ≡ get_or rs d r → rs ≡ take d rs ++ r ∷ drop (d + 1) rs
+more_behind : (rs : List Record) (d : ℕ) → 0 < length (drop d rs) → d < length rs
+more_behind rs d some = omega (arith, some, length-drop d rs)
+
+split_at : (rs : List Record) (d : ℕ) (r : Record) → d < length rs → r ≡ get_or rs d r → rs ≡ take d rs ++ r ∷ drop (d + 1) rs
 split_at rs d r more is =
     sym (take-append-drop d rs) ∙ ap (λ xs. take d rs ++ xs) (rw (add-one d) (drop-cons rs d r more ∙ ap (λ x. x ∷ drop (suc d) rs) (sym is)))
 
-pub next_of : (rs : List Record) (d : ℕ) (r : Record) → d < length rs → r ≡ get_or rs d r → IsLog rs → IsNext (take d rs) r.body
+next_of : (rs : List Record) (d : ℕ) (r : Record) → d < length rs → r ≡ get_or rs d r → IsLog rs → IsNext (take d rs) r.body
 next_of rs d r more is log = log_next [] (take d rs) r (drop (d + 1) rs) (subst IsLog (split_at rs d r more is) log)
 
-pub front_log : (rs : List Record) (d : ℕ) → IsLog rs → IsLog (take d rs)
+front_log : (rs : List Record) (d : ℕ) → IsLog rs → IsLog (take d rs)
 front_log rs d log = log_front [] (take d rs) (drop d rs) (subst IsLog (sym (take-append-drop d rs)) log)
 
-pub knows_of : (rs : List Record) (d : ℕ) (dir : ℕ → Option ℕ) → ((s : ℕ) → dir s ≡ dir_of s rs) → Knows dir (take d rs)
-knows_of rs d dir dirs s e is = dirs s ∙ (ap (λ xs. dir_of s xs) (sym (take-append-drop d rs)) ∙ dir_stays s e (take d rs) (drop d rs) is)
+knows_of : (rs : List Record) (d : ℕ) (t : Index) → IsIndexed rs t → Knows (get nat_eq t.dirs) (take d rs)
+knows_of rs d t i s e is = i.dirs s ∙ (ap (λ xs. dir_of s xs) (sym (take-append-drop d rs)) ∙ dir_stays s e (take d rs) (drop d rs) is)
 
-pub kept_next : (rs : List Record) (d g : ℕ) (dir : ℕ → Option ℕ) (is_out : ℕ → Bool) (last : ℕ → List ℕ → Option ℕ) (of now : ℕ → Option Own) (r : Record) → d < length rs → r ≡ get_or rs d r
-    → ((e : ℕ) → now e ≡ changed_own dir of r.body e)
-    → IsIndexed rs d g dir is_out last of → IsIndexed rs (d + 1) g dir is_out last now
-kept_next rs d g dir is_out last of now r more is changed i = record {
-  within = omega (arith, more);
-  log = i.log;
-  number = i.number;
-  dirs = i.dirs;
-  removed = i.removed;
-  names = i.names;
-  realms = λ e.
-      changed e
-      ∙ (changed_had dir of (take d rs) r.body (front_log rs d i.log) (next_of rs d r more is i.log) (knows_of rs d dir i.dirs) i.realms e
-      ∙ ap (λ xs. had e xs) (sym (front_grows rs d r more is)));
+pub kept_next : (rs : List Record) (d : ℕ) (t : Index) (of now : OwnTable) (r : Record) → 0 < length (drop d rs) → r ≡ get_or rs d r
+    → ((e : ℕ) → own_in now e ≡ changed_own (get nat_eq t.dirs) (own_in of) r.body e) → IsKept rs d t of → IsKept rs (d + 1) t now
+kept_next rs d t of now r some is changed i = record {
+  index = i.index;
+  settled = record {
+    within = omega (arith, (more_behind rs d some));
+    realms = λ e.
+        changed e
+        ∙ (changed_had (get nat_eq t.dirs) (own_in of) (take d rs) r.body (front_log rs d i.index.log) (next_of rs d r (more_behind rs d some) is i.index.log)
+        (knows_of rs d t i.index)
+        i.settled.realms e
+        ∙ ap (λ xs. had e xs) (sym (front_grows rs d r (more_behind rs d some) is)));
+  };
 }
 
-pub known_next : (rs : List Record) (d g : ℕ) (dir : ℕ → Option ℕ) (is_out : ℕ → Bool) (last : ℕ → List ℕ → Option ℕ) (of : ℕ → Option Own) (r : Record) → d < length rs → r ≡ get_or rs d r
-    → IsIndexed rs d g dir is_out last of → IsKnown dir r.body
-known_next rs d g dir is_out last of r more is i = known dir (take d rs) r.body (knows_of rs d dir i.dirs) (next_of rs d r more is i.log)
+pub known_next : (rs : List Record) (d : ℕ) (t : Index) (of : OwnTable) (r : Record) → 0 < length (drop d rs) → r ≡ get_or rs d r → IsKept rs d t of
+    → IsKnown (get nat_eq t.dirs) r.body
+known_next rs d t of r some is i =
+    known (get nat_eq t.dirs) (take d rs) r.body (knows_of rs d t i.index) (next_of rs d r (more_behind rs d some) is i.index.log)
 
 first_behind : (rs : List Record) (d : ℕ) (r : Record) → d < length rs → r ≡ get_or rs d r → take 1 (drop d rs) ≡ r ∷ []
 first_behind rs d r more is = ap (λ xs. take 1 xs) (drop-cons rs d r more) ∙ ap (λ x. x ∷ []) (sym is)
 
+pub settles_next : (rs : List Record) (d : ℕ) (r : Record) → 0 < length (drop d rs) → r ≡ get_or rs d r
+    → Settles (record { durable = take d rs; fresh = drop d rs }) (record { durable = take (d + 1) rs; fresh = drop (d + 1) rs })
+settles_next rs d r some is = record {
+  front = r ∷ [];
+  durable = front_grows rs d r (more_behind rs d some) is;
+  fresh = rw (add-one d) (drop-cons rs d r (more_behind rs d some) ∙ ap (λ x. x ∷ drop (suc d) rs) (sym is));
+}
+
 -- what the client is told of it
-pub told_next : (rs : List Record) (d g : ℕ) (dir : ℕ → Option ℕ) (is_out : ℕ → Bool) (last : ℕ → List ℕ → Option ℕ) (of now : ℕ → Option Own) (r : Record) (xs : List Directory) (is_new : Bool) (m : Message)
-    → d < length rs → r ≡ get_or rs d r → ((e : ℕ) → now e ≡ changed_own dir of r.body e) → IsIndexed rs d g dir is_out last of → AreDistinct xs
-    → is_new ≡ is_new_by dir of r.body → m ≡ message_by dir now xs is_new r.body
+pub told_next : (rs : List Record) (d : ℕ) (t : Index) (of now : OwnTable) (r : Record) (xs : List Directory) (is_new : Bool) (m : Message)
+    → 0 < length (drop d rs) → r ≡ get_or rs d r → ((e : ℕ) → own_in now e ≡ changed_own (get nat_eq t.dirs) (own_in of) r.body e) → IsKept rs d t of
+    → AreDistinct xs
+    → is_new ≡ is_new_by (get nat_eq t.dirs) (own_in of) r.body → m ≡ message_by (get nat_eq t.dirs) (own_in now) xs is_new r.body
     → m ∷ [] ≡ commit_news (path_of xs) (inos xs) (take d rs) (take 1 (drop d rs))
-told_next rs d g dir is_out last of now r xs is_new m more is changed i distinct new message =
-    let log = front_log rs d i.log in
-    let next = next_of rs d r more is i.log in
-    let knows = knows_of rs d dir i.dirs in
-    ap (λ x. x ∷ []) (message ∙ (ap (λ b. message_by dir now xs b r.body) new
-    ∙ message_told dir of now (take d rs) r.body xs log next knows i.realms (λ e. changed e ∙ changed_had dir of (take d rs) r.body log next knows i.realms e) distinct))
-    ∙ ap (λ ys. commit_news (path_of xs) (inos xs) (take d rs) ys) (sym (first_behind rs d r more is))
+told_next rs d t of now r xs is_new m some is changed i distinct new message =
+    let log = front_log rs d i.index.log in
+    let next = next_of rs d r (more_behind rs d some) is i.index.log in
+    let knows = knows_of rs d t i.index in
+    let dirs = get nat_eq t.dirs in
+    ap (λ x. x ∷ []) (message ∙ (ap (λ b. message_by dirs (own_in now) xs b r.body) new
+    ∙ message_told dirs (own_in of) (own_in now) (take d rs) r.body xs log next knows i.settled.realms
+    (λ e. changed e ∙ changed_had dirs (own_in of) (take d rs) r.body log next knows i.settled.realms e) distinct))
+    ∙ ap (λ ys. commit_news (path_of xs) (inos xs) (take d rs) ys) (sym (first_behind rs d r (more_behind rs d some) is))

@@ -1,8 +1,13 @@
 pub mod Changed
+pub mod FlushPlaces
 pub mod IndexedNow
 pub mod Lists
 pub mod Logs
 pub mod Members
 pub mod Named
+pub mod RecordedAt
+pub mod RecordedPlaces
+pub mod RecordedSteps
+pub mod Settling
 pub mod Tables
 pub mod Telling

@@ -38,6 +38,7 @@ either_cond false x o z = refl
 
 either_in : (s : ℕ) (b : RecordBody) (o z : Option ℕ) → dir_in s b (either o z) ≡ either (dir_in s b o) z
 either_in s (bodies.Snap number d name) o z = either_cond (number == s) d o z
+either_in s (bodies.Request tid op answer) o z = refl
 either_in s (bodies.Flush snap f tid follows meta) o z = refl
 either_in s (bodies.Removal t number) o z = refl
 
@@ -50,12 +51,15 @@ pub dir_stays : (s d : ℕ) (rs ss : List Record) → dir_of s rs ≡ Some d →
 dir_stays s d [] ss is = absurd cc
 dir_stays s d (x ∷ rs) ss is = at x.body is (dir_stays s d rs ss)
   where
-    choice : (c : Bool) (e : ℕ) → cond c (Some e) (dir_of s rs) ≡ Some d → (dir_of s rs ≡ Some d → dir_of s (rs ++ ss) ≡ Some d) → cond c (Some e) (dir_of s (rs ++ ss)) ≡ Some d
+    choice : (c : Bool) (e : ℕ) → cond c (Some e) (dir_of s rs) ≡ Some d → (dir_of s rs ≡ Some d → dir_of s (rs ++ ss) ≡ Some d)
+        → cond c (Some e) (dir_of s (rs ++ ss)) ≡ Some d
     choice true e is rest = is
     choice false e is rest = rest is
 
-    at : (b : RecordBody) → dir_in s b (dir_of s rs) ≡ Some d → (dir_of s rs ≡ Some d → dir_of s (rs ++ ss) ≡ Some d) → dir_in s b (dir_of s (rs ++ ss)) ≡ Some d
+    at : (b : RecordBody) → dir_in s b (dir_of s rs) ≡ Some d → (dir_of s rs ≡ Some d → dir_of s (rs ++ ss) ≡ Some d)
+        → dir_in s b (dir_of s (rs ++ ss)) ≡ Some d
     at (bodies.Snap number e name) is rest = choice (number == s) e is rest
+    at (bodies.Request tid op answer) is rest = rest is
     at (bodies.Flush snap f tid follows meta) is rest = rest is
     at (bodies.Removal t number) is rest = rest is
 
@@ -70,13 +74,15 @@ snap_dir s (x ∷ rs) = ap (λ b. is_snap s x.body || b) (snap_dir s rs) ∙ at 
 
     at : (b : RecordBody) (o : Option ℕ) → (is_snap s b || is_some o) ≡ is_some (dir_in s b o)
     at (bodies.Snap number d name) o = choice (number == s) d o
+    at (bodies.Request tid op answer) o = refl
     at (bodies.Flush snap f tid follows meta) o = refl
     at (bodies.Removal t number) o = refl
 
 pub removed_append : (s : ℕ) (rs : List Record) (r : Record) → is_removed s (rs ++ r ∷ []) ≡ (is_removed s rs || is_removal s r.body)
 removed_append s rs r = list_any-append (λ x. is_removal s x.body) rs (r ∷ []) ∙ ap (λ b. is_removed s rs || b) (or_false (is_removal s r.body))
 
-named_after_append : (d : ℕ) (name : List ℕ) (was : Option ℕ) (rs ss : List Record) → named_after d name was (rs ++ ss) ≡ named_after d name (named_after d name was rs) ss
+named_after_append : (d : ℕ) (name : List ℕ) (was : Option ℕ) (rs ss : List Record)
+    → named_after d name was (rs ++ ss) ≡ named_after d name (named_after d name was rs) ss
 named_after_append d name was [] ss = refl
 named_after_append d name was (r ∷ rs) ss = named_after_append d name (named_then d name r.body was) rs ss
 
@@ -90,22 +96,27 @@ own_after_append d o (r ∷ rs) ss = own_after_append d (own_then d o r.body) rs
 pub own_append : (d : ℕ) (rs : List Record) (r : Record) → own d (rs ++ r ∷ []) ≡ own_then d (own d rs) r.body
 own_append d rs r = own_after_append d no_own rs (r ∷ [])
 
-pub had_one_append : (d : ℕ) (rs : List Record) (r : Record) → list_any (λ x. is_snap_of d x.body) (rs ++ r ∷ []) ≡ (list_any (λ x. is_snap_of d x.body) rs || is_snap_of d r.body)
-had_one_append d rs r = list_any-append (λ x. is_snap_of d x.body) rs (r ∷ []) ∙ ap (λ b. list_any (λ x. is_snap_of d x.body) rs || b) (or_false (is_snap_of d r.body))
+pub had_one_append : (d : ℕ) (rs : List Record) (r : Record)
+    → list_any (λ x. is_snap_of d x.body) (rs ++ r ∷ []) ≡ (list_any (λ x. is_snap_of d x.body) rs || is_snap_of d r.body)
+had_one_append d rs r =
+    list_any-append (λ x. is_snap_of d x.body) rs (r ∷ []) ∙ ap (λ b. list_any (λ x. is_snap_of d x.body) rs || b) (or_false (is_snap_of d r.body))
 
 -- a directory without a snapshot has nothing of its own
 pub no_own_yet : (d : ℕ) (rs : List Record) → list_any (λ x. is_snap_of d x.body) rs ≡ false → own d rs ≡ no_own
 no_own_yet d [] none = refl
 no_own_yet d (r ∷ rs) none = at r.body none (no_own_yet d rs)
   where
-    choice : (c : Bool) (w : Own) → (c || list_any (λ x. is_snap_of d x.body) rs) ≡ false → (list_any (λ x. is_snap_of d x.body) rs ≡ false → own_after d no_own rs ≡ no_own)
+    choice : (c : Bool) (w : Own) → (c || list_any (λ x. is_snap_of d x.body) rs) ≡ false
+        → (list_any (λ x. is_snap_of d x.body) rs ≡ false → own_after d no_own rs ≡ no_own)
         → own_after d (cond c w no_own) rs ≡ no_own
     choice true w none rest = absurd cc
     choice false w none rest = rest none
 
-    at : (b : RecordBody) → (is_snap_of d b || list_any (λ x. is_snap_of d x.body) rs) ≡ false → (list_any (λ x. is_snap_of d x.body) rs ≡ false → own_after d no_own rs ≡ no_own)
+    at : (b : RecordBody) → (is_snap_of d b || list_any (λ x. is_snap_of d x.body) rs) ≡ false
+        → (list_any (λ x. is_snap_of d x.body) rs ≡ false → own_after d no_own rs ≡ no_own)
         → own_after d (own_then d no_own b) rs ≡ no_own
     at (bodies.Snap number e name) none rest = choice (e == d) (record { seq = number; snaps = number ∷ [] }) none rest
+    at (bodies.Request tid op answer) none rest = rest none
     at (bodies.Flush snap f tid follows meta) none rest = rest none
     at (bodies.Removal t number) none rest = rest none
 
@@ -113,7 +124,8 @@ no_own_yet d (r ∷ rs) none = at r.body none (no_own_yet d rs)
 
 pub log_append : (before rs : List Record) (r : Record) → IsLogAfter before rs → IsNext (before ++ rs) r.body → IsLogAfter before (rs ++ r ∷ [])
 log_append before [] r log next = (subst (λ xs. IsNext xs r.body) (append-nil before) next, tt)
-log_append before (x ∷ rs) r log next = (log.0, log_append (before ++ x ∷ []) rs r log.1 (subst (λ xs. IsNext xs r.body) (sym (append_assoc before (x ∷ []) rs)) next))
+log_append before (x ∷ rs) r log next =
+    (log.0, log_append (before ++ x ∷ []) rs r log.1 (subst (λ xs. IsNext xs r.body) (sym (append_assoc before (x ∷ []) rs)) next))
 
 pub log_front : (before xs ys : List Record) → IsLogAfter before (xs ++ ys) → IsLogAfter before xs
 log_front before [] ys log = tt
@@ -123,12 +135,14 @@ pub log_next : (before xs : List Record) (r : Record) (ys : List Record) → IsL
 log_next before [] r ys log = subst (λ zs. IsNext zs r.body) (sym (append-nil before)) log.0
 log_next before (x ∷ xs) r ys log = subst (λ zs. IsNext zs r.body) (append_assoc before (x ∷ []) xs) (log_next (before ++ x ∷ []) xs r ys log.1)
 
-by_log_after : (P : List Record → Type 0) → ((rs : List Record) (r : Record) → P rs → IsNext rs r.body → P (rs ++ r ∷ [])) → (before rs : List Record) → P before → IsLogAfter before rs → P (before ++ rs)
+by_log_after : (P : List Record → Type 0) → ((rs : List Record) (r : Record) → P rs → IsNext rs r.body → P (rs ++ r ∷ [])) → (before rs : List Record)
+    → P before → IsLogAfter before rs → P (before ++ rs)
 by_log_after P step before [] p log = subst P (sym (append-nil before)) p
 by_log_after P step before (r ∷ rs) p log = subst P (append_assoc before (r ∷ []) rs) (by_log_after P step (before ++ r ∷ []) rs (step before r p log.0) log.1)
 
 -- an induction over logs
-pub by_log : (P : List Record → Type 0) → P [] → ((rs : List Record) (r : Record) → P rs → IsNext rs r.body → P (rs ++ r ∷ [])) → (rs : List Record) → IsLog rs → P rs
+pub by_log : (P : List Record → Type 0) → P [] → ((rs : List Record) (r : Record) → P rs → IsNext rs r.body → P (rs ++ r ∷ [])) → (rs : List Record)
+    → IsLog rs → P rs
 by_log P none step rs log = by_log_after P step [] rs none log
 
 -- Numbers
@@ -137,12 +151,14 @@ pub snap_below : (s : ℕ) (rs : List Record) → has_snap s rs ≡ true → s �
 snap_below s [] stands = absurd cc
 snap_below s (x ∷ rs) stands = at x.body stands (snap_below s rs)
   where
-    choice : (c : Bool) (number : ℕ) → (c ≡ true → number ≡ s) → (c || has_snap s rs) ≡ true → (has_snap s rs ≡ true → s ≤ greatest_number rs) → s ≤ max number (greatest_number rs)
+    choice : (c : Bool) (number : ℕ) → (c ≡ true → number ≡ s) → (c || has_snap s rs) ≡ true → (has_snap s rs ≡ true → s ≤ greatest_number rs)
+        → s ≤ max number (greatest_number rs)
     choice true number is stands rest = let same = is refl in omega arith
     choice false number is stands rest = let low = rest stands in omega arith
 
     at : (b : RecordBody) → (is_snap s b || has_snap s rs) ≡ true → (has_snap s rs ≡ true → s ≤ greatest_number rs) → s ≤ max (number_of b) (greatest_number rs)
     at (bodies.Snap number d name) stands rest = choice (number == s) number (λ e. eqb-true number s e) stands rest
+    at (bodies.Request tid op answer) stands rest = let low = rest stands in omega arith
     at (bodies.Flush snap f tid follows meta) stands rest = let low = rest stands in omega arith
     at (bodies.Removal t number) stands rest = let low = rest stands in omega arith
 
@@ -152,6 +168,7 @@ seq_then d o (bodies.Snap number e name) = choice (e == d)
     choice : (c : Bool) → (cond c (record { seq = number; snaps = number ∷ o.snaps }) o).seq ≤ max o.seq number
     choice true = omega arith
     choice false = omega arith
+seq_then d o (bodies.Request tid op answer) = omega arith
 seq_then d o (bodies.Flush snap f tid follows meta) = omega arith
 seq_then d o (bodies.Removal t number) = choice (realms.has_snap t o)
   where

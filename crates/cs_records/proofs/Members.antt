@@ -21,14 +21,19 @@ unfolding IsBelow
 removed_step rs r below next s removed = at r.body next refl
   where
     known : is_removal s r.body ≡ false → s ≤ greatest_number (rs ++ r ∷ [])
-    known other = let low = below s (sym (or_false (is_removed s rs)) ∙ (ap (λ b. is_removed s rs || b) (sym other) ∙ (sym (removed_append s rs r) ∙ removed))) in omega (arith, greatest_append rs r)
+    known other =
+        let stood = sym (removed_append s rs r) ∙ removed in
+        let low = below s (sym (or_false (is_removed s rs)) ∙ (ap (λ b. is_removed s rs || b) (sym other) ∙ stood)) in
+        omega (arith, greatest_append rs r)
 
-    choice : (t number : ℕ) (c : Bool) → (t == s) ≡ c → IsNext rs (bodies.Removal t number) → r.body ≡ bodies.Removal t number → s ≤ greatest_number (rs ++ r ∷ [])
+    choice : (t number : ℕ) (c : Bool) → (t == s) ≡ c → IsNext rs (bodies.Removal t number) → r.body ≡ bodies.Removal t number
+        → s ≤ greatest_number (rs ++ r ∷ [])
     choice t number true e next is = let same = eqb-true t s e in let low = snap_below t rs next.stands in omega (arith, greatest_append rs r)
     choice t number false e next is = known (ap (λ b. is_removal s b) is ∙ e)
 
     at : (b : RecordBody) → IsNext rs b → r.body ≡ b → s ≤ greatest_number (rs ++ r ∷ [])
     at (bodies.Snap number d name) next is = known (ap (λ b. is_removal s b) is)
+    at (bodies.Request tid op answer) next is = known (ap (λ b. is_removal s b) is)
     at (bodies.Flush snap f tid follows meta) next is = known (ap (λ b. is_removal s b) is)
     at (bodies.Removal t number) next is = choice t number (t == s) refl next is
 
@@ -87,12 +92,15 @@ after_snap s d n e o u m is new = at (n == s) refl (e == d) refl
     at false p false q = after_flush d u m (realms.has_snap s o) is
 
 after_removal : (s d t n : ℕ) (o : Own) (u : Option ℕ) (m : Bool) → realms.has_snap s o ≡ (is_at d u && not m)
-    → realms.has_snap s (cond (realms.has_snap t o) (record { seq = n; snaps = filter (λ x. not (x == t)) o.snaps }) o) ≡ (is_at d (either u None) && not (m || (t == s)))
+    → realms.has_snap s (cond (realms.has_snap t o) (record { seq = n; snaps = filter (λ x. not (x == t)) o.snaps }) o)
+    ≡ (is_at d (either u None) && not (m || (t == s)))
 after_removal s d t n o u m is = at (t == s) refl (realms.has_snap t o) refl
   where
     at : (c : Bool) → (t == s) ≡ c → (a : Bool) → realms.has_snap t o ≡ a
         → realms.has_snap s (cond a (record { seq = n; snaps = filter (λ x. not (x == t)) o.snaps }) o) ≡ (is_at d (either u None) && not (m || c))
-    at true p true q = ap (λ k. list_any (λ x. x == s) (filter (λ x. not (x == k)) o.snaps)) (eqb-true t s p) ∙ (filtered_out s o.snaps ∙ sym (and_false (is_at d (either u None)) m))
+    at true p true q =
+        ap (λ k. list_any (λ x. x == s) (filter (λ x. not (x == k)) o.snaps)) (eqb-true t s p)
+        ∙ (filtered_out s o.snaps ∙ sym (and_false (is_at d (either u None)) m))
     at true p false q = ap (λ k. realms.has_snap k o) (sym (eqb-true t s p)) ∙ (q ∙ sym (and_false (is_at d (either u None)) m))
     at false p true q = kept_in s t o.snaps p ∙ after_flush d u m (realms.has_snap s o) is
     at false p false q = after_flush d u m (realms.has_snap s o) is
@@ -108,12 +116,19 @@ those_step rs r below those next s d =
         → realms.has_snap s (own_then d (own d rs) b) ≡ (is_at d (either (dir_of s rs) (dir_in s b None)) && not (is_removed s rs || is_removal s b))
     at (bodies.Snap n e name) next =
         after_snap s d n e (own d rs) (dir_of s rs) (is_removed s rs) (those s d)
-        (λ same. (new_dir s rs (omega (arith, next.next, same)), false_from_ne_true (is_removed s rs) (λ removed. let low = below s removed in omega (arith, next.next, same))))
+        (λ same. (
+          new_dir s rs (omega (arith, next.next, same)),
+          false_from_ne_true (is_removed s rs)
+              (λ removed. let low = below s removed in omega (arith, next.next, same)),
+        ))
+    at (bodies.Request tid op answer) next = after_flush d (dir_of s rs) (is_removed s rs) (realms.has_snap s (own d rs)) (those s d)
     at (bodies.Flush snap f tid follows meta) next = after_flush d (dir_of s rs) (is_removed s rs) (realms.has_snap s (own d rs)) (those s d)
     at (bodies.Removal t n) next = after_removal s d t n (own d rs) (dir_of s rs) (is_removed s rs) (those s d)
 
 pub own_has : (rs : List Record) → IsLog rs → (s d : ℕ) → realms.has_snap s (own d rs) ≡ (is_at d (dir_of s rs) && not (is_removed s rs))
 unfolding IsBelow HasThose
 own_has rs log =
-    let both : IsBelow rs × HasThose rs = by_log (λ xs. IsBelow xs × HasThose xs) ((λ s removed. absurd cc), (λ s d. refl)) (λ xs r p next. (removed_step xs r p.0 next, those_step xs r p.0 p.1 next)) rs log in
+    let both : IsBelow rs × HasThose rs =
+    by_log (λ xs. IsBelow xs × HasThose xs) ((λ s removed. absurd cc), (λ s d. refl))
+    (λ xs r p next. (removed_step xs r p.0 next, those_step xs r p.0 p.1 next)) rs log in
     both.1

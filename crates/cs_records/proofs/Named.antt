@@ -27,16 +27,20 @@ is_as m d name _ = false
 abbrev pub any_as : ℕ → ℕ → List ℕ → List Record → Bool
 any_as m d name rs = list_any (λ r. is_as m d name r.body) rs
 
-named_if : (all : List Record) (m d : ℕ) (name : List ℕ) (b : RecordBody) → is_removed m all ≡ false → is_as m d name b ≡ true → is_snap_named d name all b ≡ true
+named_if : (all : List Record) (m d : ℕ) (name : List ℕ) (b : RecordBody) → is_removed m all ≡ false → is_as m d name b ≡ true
+    → is_snap_named d name all b ≡ true
 named_if all m d name (bodies.Snap number e other) stays is =
     let outer = and_parts (number == m) ((e == d) && bytes_eq name other) is in
     let inner = and_parts (e == d) (bytes_eq name other) outer.1 in
     let unremoved : not (is_removed number all) ≡ true = ap (λ k. not (is_removed k all)) (eqb-true number m outer.0) ∙ ap not stays in
-    and_from (e == d) (bytes_eq name other && not (is_removed number all)) inner.0 (and_from (bytes_eq name other) (not (is_removed number all)) inner.1 unremoved)
+    and_from (e == d) (bytes_eq name other && not (is_removed number all)) inner.0
+    (and_from (bytes_eq name other) (not (is_removed number all)) inner.1 unremoved)
+named_if all m d name (bodies.Request tid op answer) stays is = absurd cc
 named_if all m d name (bodies.Flush snap f tid follows meta) stays is = absurd cc
 named_if all m d name (bodies.Removal s number) stays is = absurd cc
 
-any_named : (all : List Record) (m d : ℕ) (name : List ℕ) (rs : List Record) → is_removed m all ≡ false → any_as m d name rs ≡ true → list_any (λ r. is_snap_named d name all r.body) rs ≡ true
+any_named : (all : List Record) (m d : ℕ) (name : List ℕ) (rs : List Record) → is_removed m all ≡ false → any_as m d name rs ≡ true
+    → list_any (λ r. is_snap_named d name all r.body) rs ≡ true
 any_named all m d name [] stays is = absurd cc
 any_named all m d name (r ∷ rs) stays is = elim (or_cases (is_as m d name r.body) (any_as m d name rs) is) [
   | inl here ↦ or_left (is_snap_named d name all r.body) (list_any (λ x. is_snap_named d name all x.body) rs) (named_if all m d name r.body stays here)
@@ -69,8 +73,10 @@ last_step rs r last next m d name is stays =
       | inr now ↦ absurd (let never : false ≡ true = (and_parts (n == m) false now).1 in cc)
     ]
 
-    at : (b : RecordBody) → IsNext rs b → is_removed m rs ≡ false → (any_as m d name rs || is_as m d name b) ≡ true → named_then d name b (last_named d name rs) ≡ Some m
+    at : (b : RecordBody) → IsNext rs b → is_removed m rs ≡ false → (any_as m d name rs || is_as m d name b) ≡ true
+        → named_then d name b (last_named d name rs) ≡ Some m
     at (bodies.Snap n e other) next stood any = choice n e other ((e == d) && bytes_eq name other) refl next.new stood any
+    at (bodies.Request tid op answer) next stood any = last m d name (sym (or_false (any_as m d name rs)) ∙ any) stood
     at (bodies.Flush snap f tid follows meta) next stood any = last m d name (sym (or_false (any_as m d name rs)) ∙ any) stood
     at (bodies.Removal s n) next stood any = last m d name (sym (or_false (any_as m d name rs)) ∙ any) stood
 
@@ -92,11 +98,13 @@ named_from m d name was (r ∷ rs) is = elim (named_from m d name (named_then d 
 
     at : (b : RecordBody) → named_then d name b was ≡ Some m → (was ≡ Some m) ⊎ ((is_as m d name b || any_as m d name rs) ≡ true)
     at (bodies.Snap n e other) here = choice n ((e == d) && bytes_eq name other) here
+    at (bodies.Request tid op answer) here = inl here
     at (bodies.Flush snap f tid follows meta) here = inl here
     at (bodies.Removal s n) here = inl here
 
 -- an unremoved snapshot that has the name
-named_as : (all : List Record) (d : ℕ) (name : List ℕ) (rs : List Record) → list_any (λ r. is_snap_named d name all r.body) rs ≡ true → (m : ℕ) × (any_as m d name rs ≡ true) × (is_removed m all ≡ false)
+named_as : (all : List Record) (d : ℕ) (name : List ℕ) (rs : List Record) → list_any (λ r. is_snap_named d name all r.body) rs ≡ true
+    → (m : ℕ) × (any_as m d name rs ≡ true) × (is_removed m all ≡ false)
 named_as all d name [] is = absurd cc
 named_as all d name (r ∷ rs) is = elim (or_cases (is_snap_named d name all r.body) (list_any (λ x. is_snap_named d name all x.body) rs) is) [
   | inl here ↦ at r.body here
@@ -112,11 +120,13 @@ named_as all d name (r ∷ rs) is = elim (or_cases (is_snap_named d name all r.b
               (and_from (n == n) ((e == d) && bytes_eq name other) (eq-eqb n n refl) (and_from (e == d) (bytes_eq name other) outer.0 inner.0)),
           not-true (is_removed n all) inner.1,
         )
+    at (bodies.Request tid op answer) here = absurd cc
     at (bodies.Flush snap f tid follows meta) here = absurd cc
     at (bodies.Removal s n) here = absurd cc
 
 -- a name is taken where its last snapshot isn't removed
-pub name_taken : (rs : List Record) → IsLog rs → (d : ℕ) (name : List ℕ) → has_snap_named d name rs ≡ option_map_or (λ m. not (is_removed m rs)) (last_named d name rs) false
+pub name_taken : (rs : List Record) → IsLog rs → (d : ℕ) (name : List ℕ)
+    → has_snap_named d name rs ≡ option_map_or (λ m. not (is_removed m rs)) (last_named d name rs) false
 name_taken rs log d name = same_answer (has_snap_named d name rs) (option_map_or (λ m. not (is_removed m rs)) (last_named d name rs) false) taken free
   where
     taken : has_snap_named d name rs ≡ true → option_map_or (λ m. not (is_removed m rs)) (last_named d name rs) false ≡ true

@@ -26,7 +26,8 @@ use Rattle.cs_records.proofs.Logs.{had_one_append, or_false, own_append, snap_di
 
 -- The realms after a record
 
-had_append : (rs : List Record) (d : ℕ) (b : RecordBody) → had d (rs ++ record { body = b } ∷ []) ≡ cond (list_any (λ r. is_snap_of d r.body) rs || is_snap_of d b) (Some (own_then d (own d rs) b)) None
+had_append : (rs : List Record) (d : ℕ) (b : RecordBody)
+    → had d (rs ++ record { body = b } ∷ []) ≡ cond (list_any (λ r. is_snap_of d r.body) rs || is_snap_of d b) (Some (own_then d (own d rs) b)) None
 had_append rs d b = λ i. cond (had_one_append d rs (record { body = b }) i) (Some (own_append d rs (record { body = b }) i)) None
 
 had_kept : (rs : List Record) (d : ℕ) → cond (list_any (λ r. is_snap_of d r.body) rs || false) (Some (own d rs)) None ≡ had d rs
@@ -37,7 +38,8 @@ after_snap : (rs : List Record) (d n : ℕ) (of : ℕ → Option Own) (c : Bool)
     ≡ cond (list_any (λ r. is_snap_of d r.body) rs || c) (Some (cond c (record { seq = n; snaps = n ∷ (own d rs).snaps }) (own d rs))) None
 after_snap rs d n of true is =
     ap (λ o. Some (record { seq = n; snaps = n ∷ (unwrap_or o no_own).snaps })) is
-    ∙ (ap (λ (w : Own). Some (record { seq = n; snaps = n ∷ w.snaps })) (own_by rs d) ∙ ap (λ b. cond b (Some (record { seq = n; snaps = n ∷ (own d rs).snaps })) None) (sym (true_right (list_any (λ r. is_snap_of d r.body) rs))))
+    ∙ (ap (λ (w : Own). Some (record { seq = n; snaps = n ∷ w.snaps })) (own_by rs d)
+    ∙ ap (λ b. cond b (Some (record { seq = n; snaps = n ∷ (own d rs).snaps })) None) (sym (true_right (list_any (λ r. is_snap_of d r.body) rs))))
   where
     true_right : (b : Bool) → (b || true) ≡ true
     true_right true = refl
@@ -48,7 +50,8 @@ without : ℕ → ℕ → Own → Own
 without s n w = record { seq = n; snaps = filter (λ t. not (t == s)) w.snaps }
 
 after_removal : (rs : List Record) (d s n : ℕ) (of : ℕ → Option Own) (c : Bool) → of d ≡ had d rs → realms.has_snap s (own d rs) ≡ c
-    → cond c (option_map (without s n) (of d)) (of d) ≡ cond (list_any (λ r. is_snap_of d r.body) rs || false) (Some (cond (realms.has_snap s (own d rs)) (without s n (own d rs)) (own d rs))) None
+    → cond c (option_map (without s n) (of d)) (of d)
+    ≡ cond (list_any (λ r. is_snap_of d r.body) rs || false) (Some (cond (realms.has_snap s (own d rs)) (without s n (own d rs)) (own d rs))) None
 after_removal rs d s n of true is has =
     ap (option_map (without s n)) is
     ∙ (at (list_any (λ r. is_snap_of d r.body) rs)
@@ -58,7 +61,8 @@ after_removal rs d s n of true is has =
     at true = refl
     at false = refl
 after_removal rs d s n of false is has =
-    is ∙ (sym (had_kept rs d) ∙ ap (λ b. cond (list_any (λ r. is_snap_of d r.body) rs || false) (Some (cond b (without s n (own d rs)) (own d rs))) None) (sym has))
+    is ∙ (sym (had_kept rs d)
+    ∙ ap (λ b. cond (list_any (λ r. is_snap_of d r.body) rs || false) (Some (cond b (without s n (own d rs)) (own d rs))) None) (sym has))
 
 some_of : (o : Option ℕ) → is_some o ≡ true → (d : ℕ) × (o ≡ Some d)
 some_of (Some d) is = (d, refl)
@@ -73,13 +77,17 @@ abbrev pub Knows : (ℕ → Option ℕ) → List Record → Type 0
 Knows dirs rs = (s d : ℕ) → dir_of s rs ≡ Some d → dirs s ≡ Some d
 
 pub known : (dirs : ℕ → Option ℕ) (rs : List Record) (b : RecordBody) → Knows dirs rs → IsNext rs b → IsKnown dirs b
+known dirs rs (bodies.Request tid op answer) knows next = tt
 known dirs rs (bodies.Flush snap f tid follows meta) knows next = tt
 known dirs rs (bodies.Snap n e name) knows next = tt
 known dirs rs (bodies.Removal s n) knows next = let found = stands_in s rs next.stands in ap is_some (knows s found.0 found.1)
 
-pub changed_had : (dirs : ℕ → Option ℕ) (of : ℕ → Option Own) (rs : List Record) (b : RecordBody) → IsLog rs → IsNext rs b → Knows dirs rs → ((d : ℕ) → of d ≡ had d rs)
+pub changed_had : (dirs : ℕ → Option ℕ) (of : ℕ → Option Own) (rs : List Record) (b : RecordBody) → IsLog rs → IsNext rs b → Knows dirs rs
+    → ((d : ℕ) → of d ≡ had d rs)
     → (d : ℕ) → changed_own dirs of b d ≡ had d (rs ++ record { body = b } ∷ [])
 unfolding without
+changed_had dirs of rs (bodies.Request tid op answer) log next knows same d =
+    same d ∙ (sym (had_kept rs d) ∙ sym (had_append rs d (bodies.Request tid op answer)))
 changed_had dirs of rs (bodies.Flush snap f tid follows meta) log next knows same d =
     same d ∙ (sym (had_kept rs d) ∙ sym (had_append rs d (bodies.Flush snap f tid follows meta)))
 changed_had dirs of rs (bodies.Snap n e name) log next knows same d = after_snap rs d n of (e == d) (same d) ∙ sym (had_append rs d (bodies.Snap n e name))
@@ -104,7 +112,8 @@ told_one of d is_new before after change same x =
     ∙ ((λ i. cond ((x.ino == d) || (is_new && is_at d (parent_by_realms after x.path i))) (record_by_realms after x.path x.ino i) None)
     ∙ sym (changed_one d is_new before after x.path x.ino change))
 
-pub records_told : (of : ℕ → Option Own) (d : ℕ) (is_new : Bool) (before after : List Record) (xs : List Directory) → IsChange d is_new before after → ((e : ℕ) → of e ≡ had e after) → AreDistinct xs
+pub records_told : (of : ℕ → Option Own) (d : ℕ) (is_new : Bool) (before after : List Record) (xs : List Directory) → IsChange d is_new before after
+    → ((e : ℕ) → of e ≡ had e after) → AreDistinct xs
     → filter_map (changed_by of d is_new) xs ≡ changed_records (path_of xs) (inos xs) before after
 records_told of d is_new before after xs change same distinct =
     ap (λ (g : Directory → Option RealmRecord). filter_map g xs) (λ i x. told_one of d is_new before after change same x i)
@@ -113,35 +122,51 @@ records_told of d is_new before after xs change same distinct =
 new_by : (of : ℕ → Option Own) (rs : List Record) (d : ℕ) → ((e : ℕ) → of e ≡ had e rs) → not (is_realm_by of d) ≡ not (is_realm rs d)
 new_by of rs d same = ap (λ (g : ℕ → Option Own). not (is_realm_by g d)) (λ i e. same e i) ∙ ap not (changes.realm_by rs d)
 
-pub message_told : (dirs : ℕ → Option ℕ) (of now : ℕ → Option Own) (rs : List Record) (b : RecordBody) (xs : List Directory) → IsLog rs → IsNext rs b → Knows dirs rs
+pub message_told : (dirs : ℕ → Option ℕ) (of now : ℕ → Option Own) (rs : List Record) (b : RecordBody) (xs : List Directory) → IsLog rs → IsNext rs b
+    → Knows dirs rs
     → ((d : ℕ) → of d ≡ had d rs) → ((d : ℕ) → now d ≡ had d (rs ++ record { body = b } ∷ [])) → AreDistinct xs
     → message_by dirs now xs (is_new_by dirs of b) b ≡ news_of rs (changed_records (path_of xs) (inos xs) rs (rs ++ record { body = b } ∷ [])) b
+message_told dirs of now rs (bodies.Request tid op answer) xs log next knows same after distinct = refl
 message_told dirs of now rs (bodies.Flush snap f tid follows meta) xs log next knows same after distinct = refl
 message_told dirs of now rs (bodies.Snap n d name) xs log next knows same after distinct =
     let drawn = next.next in
     ap (λ b. messages.Snap n d (filter_map (changed_by now d b) xs)) (new_by of rs d same)
-    ∙ ap (λ list. messages.Snap n d list) (records_told now d (not (is_realm rs d)) rs (rs ++ record { body = bodies.Snap n d name } ∷ []) xs (change_by_snap rs n d name (omega arith)) after distinct)
+    ∙ ap (λ list. messages.Snap n d list)
+    (records_told now d (not (is_realm rs d)) rs (rs ++ record { body = bodies.Snap n d name } ∷ []) xs
+    (change_by_snap rs n d name (omega arith)) after distinct)
 message_told dirs of now rs (bodies.Removal s n) xs log next knows same after distinct =
     let found = stands_in s rs next.stands in
     let d = found.0 in
-    ap (λ o. messages.Snap n (unwrap_or o 1) (filter_map (changed_by now (unwrap_or o 1) (option_map_or (λ e. not (is_realm_by of e)) o false)) xs)) (knows s d found.1)
+    ap (λ o. messages.Snap n (unwrap_or o 1) (filter_map (changed_by now (unwrap_or o 1) (option_map_or (λ e. not (is_realm_by of e)) o false)) xs))
+    (knows s d found.1)
     ∙ (ap (λ b. messages.Snap n d (filter_map (changed_by now d b) xs)) (new_by of rs d same)
-    ∙ (ap (λ list. messages.Snap n d list) (records_told now d (not (is_realm rs d)) rs (rs ++ record { body = bodies.Removal s n } ∷ []) xs (change_by_removal rs s n d log next found.1) after distinct)
+    ∙ (ap (λ list. messages.Snap n d list)
+    (records_told now d (not (is_realm rs d)) rs (rs ++ record { body = bodies.Removal s n } ∷ []) xs
+    (change_by_removal rs s n d log next found.1) after distinct)
     ∙ ap (λ o. messages.Snap n (unwrap_or o 1) (changed_records (path_of xs) (inos xs) rs (rs ++ record { body = bodies.Removal s n } ∷ []))) (sym found.1)))
 
 -- Lists of messages
 
-pub commit_news_append : (path : ℕ → List ℕ) (ds : List ℕ) (before rs ss : List Record) → commit_news path ds before (rs ++ ss) ≡ commit_news path ds before rs ++ commit_news path ds (before ++ rs) ss
+pub commit_news_append : (path : ℕ → List ℕ) (ds : List ℕ) (before rs ss : List Record)
+    → commit_news path ds before (rs ++ ss) ≡ commit_news path ds before rs ++ commit_news path ds (before ++ rs) ss
 commit_news_append path ds before [] ss = ap (λ xs. commit_news path ds xs ss) (sym (append-nil before))
 commit_news_append path ds before (r ∷ rs) ss =
     ap (λ ms. news_of before (changed_records path ds before (before ++ r ∷ [])) r.body ∷ ms)
-    (commit_news_append path ds (before ++ r ∷ []) rs ss ∙ ap (λ xs. commit_news path ds (before ++ r ∷ []) rs ++ commit_news path ds xs ss) (append_assoc before (r ∷ []) rs))
+    (commit_news_append path ds (before ++ r ∷ []) rs ss
+    ∙ ap (λ xs. commit_news path ds (before ++ r ∷ []) rs ++ commit_news path ds xs ss) (append_assoc before (r ∷ []) rs))
+
+-- where messages are sent
+abbrev pub news_if : Bool → List Message → List Message
+news_if sending ms = cond sending ms []
 
 -- one of the records that aren't durable becomes so, and the client is told of it
-pub same_told : (path : ℕ → List ℕ) (ds : List ℕ) (durable fresh now rest : List Record) (sent new : List Message) → now ≡ durable ++ take 1 fresh → rest ≡ drop 1 fresh
-    → new ≡ sent ++ commit_news path ds durable (take 1 fresh)
-    → new ++ commit_news path ds now rest ≡ sent ++ commit_news path ds durable fresh
-same_told path ds durable fresh now rest sent new grown left is =
+pub same_told : (sending : Bool) (path : ℕ → List ℕ) (ds : List ℕ) (durable fresh now rest : List Record) (sent new : List Message)
+    → now ≡ durable ++ take 1 fresh
+    → rest ≡ drop 1 fresh → new ≡ sent ++ news_if sending (commit_news path ds durable (take 1 fresh))
+    → new ++ news_if sending (commit_news path ds now rest) ≡ sent ++ news_if sending (commit_news path ds durable fresh)
+same_told true path ds durable fresh now rest sent new grown left is =
     rw (is, grown, left)
     (append_assoc sent (commit_news path ds durable (take 1 fresh)) (commit_news path ds (durable ++ take 1 fresh) (drop 1 fresh))
-    ∙ ap (λ ms. sent ++ ms) (sym (commit_news_append path ds durable (take 1 fresh) (drop 1 fresh)) ∙ ap (λ rs. commit_news path ds durable rs) (take-append-drop 1 fresh)))
+    ∙ ap (λ ms. sent ++ ms) (sym (commit_news_append path ds durable (take 1 fresh) (drop 1 fresh))
+    ∙ ap (λ rs. commit_news path ds durable rs) (take-append-drop 1 fresh)))
+same_told false path ds durable fresh now rest sent new grown left is = rw is (append-nil (sent ++ []))

@@ -1,19 +1,31 @@
 -- What is kept beside the records.
-use Rattle.std.specs.Prelude.{◌≡◌, ℕ, ◌≤◌, Bool, List, Option, length, take}
+use Rattle.std.specs.Prelude.{◌≡◌, ℕ, ◌≤◌, List, length, nat_eq, take}
+use Rattle.indexmap.specs.IndexMap.{get}
+use Rattle.indexmap.specs.IndexSet.{contains}
 use Rattle.cs_laws.specs.declared.records.Record.{Record}
-use Rattle.cs_laws.specs.Realms.{Own}
 use Rattle.cs_laws.specs.Standing.{dir_of, greatest_number, is_removed}
+use Rattle.cs_records.specs.declared.index.Index.{Index}
+use Rattle.cs_records.specs.declared.own_table.OwnTable.{OwnTable}
+use Rattle.cs_records.specs.Flushed.{flushed}
+use Rattle.cs_records.specs.Flushes.{flushed_in}
 use Rattle.cs_records.specs.Log.{IsLog}
-use Rattle.cs_records.specs.Names.{last_named}
-use Rattle.cs_records.specs.OwnTable.{had}
+use Rattle.cs_records.specs.Names.{last_named, name_in}
+use Rattle.cs_records.specs.OwnTable.{had, own_in}
 
--- rs: all records, of which so many are durable. The look-ups give what the records say, those of realms
--- what the durable ones say
-pub record IsIndexed (rs : List Record) (durable greatest : ℕ) (dir : ℕ → Option ℕ) (is_out : ℕ → Bool) (last : ℕ → List ℕ → Option ℕ) (of : ℕ → Option Own) : Type 0 where
-  pub within : durable ≤ length rs
+-- rs: all records. The look-ups give what these say
+pub record IsIndexed (rs : List Record) (t : Index) : Type 0 where
   pub log : IsLog rs
-  pub number : greatest ≡ greatest_number rs
-  pub dirs : (s : ℕ) → dir s ≡ dir_of s rs
-  pub removed : (s : ℕ) → is_out s ≡ is_removed s rs
-  pub names : (d : ℕ) (name : List ℕ) → last d name ≡ last_named d name rs
-  pub realms : (d : ℕ) → of d ≡ had d (take durable rs)
+  pub number : t.greatest ≡ greatest_number rs
+  pub dirs : (s : ℕ) → get nat_eq t.dirs s ≡ dir_of s rs
+  pub removed : (s : ℕ) → contains nat_eq t.removed s ≡ is_removed s rs
+  pub names : (d : ℕ) (name : List ℕ) → name_in t.names d name ≡ last_named d name rs
+  pub flushes : (f : ℕ) → flushed_in t.flushes f ≡ flushed f rs
+
+-- so many records are durable, and the realms are up to those
+pub record AreSettled (rs : List Record) (durable : ℕ) (t : OwnTable) : Type 0 where
+  pub within : durable ≤ length rs
+  pub realms : (d : ℕ) → own_in t d ≡ had d (take durable rs)
+
+pub record IsKept (rs : List Record) (durable : ℕ) (t : Index) (realms : OwnTable) : Type 0 where
+  pub index : IsIndexed rs t
+  pub settled : AreSettled rs durable realms

@@ -1,9 +1,13 @@
 pub mod Below
 pub mod CommitNews
 pub mod Example
+pub mod Flushed
+pub mod Flushes
 pub mod Indexed
 pub mod Log
 pub mod Names
 pub mod NewsByTables
 pub mod OwnTable
+pub mod Places
+pub mod Recorded
 pub mod Records

@@ -14,6 +14,7 @@ use Rattle.cs_records.specs.OwnTable.{changed_by, is_at, is_realm_by, with_chang
 
 -- the realm that a record changes
 abbrev pub realm_by : (ℕ → Option ℕ) → RecordBody → Option ℕ
+realm_by dirs (bodies.Request tid op answer) = None
 realm_by dirs (bodies.Flush snap f tid follows meta) = None
 realm_by dirs (bodies.Snap number d name) = Some d
 realm_by dirs (bodies.Removal s number) = dirs s
@@ -29,9 +30,11 @@ is_new_by dirs of b = option_map_or (λ d. not (is_realm_by of d)) (realm_by dir
 
 -- of: after the record
 abbrev pub message_by : (ℕ → Option ℕ) → (ℕ → Option Own) → List Directory → Bool → RecordBody → Message
+message_by dirs of xs is_new (bodies.Request tid op answer) = messages.Safe tid
 message_by dirs of xs is_new (bodies.Flush snap f tid follows meta) = messages.FlushAck f tid
 message_by dirs of xs is_new (bodies.Snap number d name) = messages.Snap number d (filter_map (changed_by of d is_new) xs)
-message_by dirs of xs is_new (bodies.Removal s number) = messages.Snap number (unwrap_or (dirs s) 1) (filter_map (changed_by of (unwrap_or (dirs s) 1) is_new) xs)
+message_by dirs of xs is_new (bodies.Removal s number) =
+    messages.Snap number (unwrap_or (dirs s) 1) (filter_map (changed_by of (unwrap_or (dirs s) 1) is_new) xs)
 
 -- what a directory has had of its own after the record
 abbrev pub changed_own : (ℕ → Option ℕ) → (ℕ → Option Own) → RecordBody → ℕ → Option Own

@@ -26,6 +26,7 @@ own_in t d = get nat_cmp t.owns d
 
 -- after a record that changes the realm
 abbrev pub with_change : RecordBody → Option Own → Option Own
+with_change (bodies.Request tid op answer) o = o
 with_change (bodies.Flush snap f tid follows meta) o = o
 with_change (bodies.Snap number d name) o = Some (record { seq = number; snaps = number ∷ (unwrap_or o no_own).snaps })
 with_change (bodies.Removal s number) o = option_map (λ w. record { seq = number; snaps = filter (λ t. not (t == s)) w.snaps }) o

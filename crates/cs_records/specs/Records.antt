@@ -1,5 +1,5 @@
 -- The records of the server's log, as contracts see them.
-use Rattle.std.specs.Prelude.{◌++◌, List}
+use Rattle.std.specs.Prelude.{◌≡◌, ◌++◌, List}
 use Rattle.cs_laws.specs.declared.records.Record.{Record}
 
 -- the durable records, and those behind them that aren't, each the oldest first
@@ -9,3 +9,9 @@ pub record RecordLog : Type 0 where
 
 abbrev pub all : RecordLog → List Record
 all s = s.durable ++ s.fresh
+
+-- a front of the records that weren't durable became so
+pub record Settles (old new : RecordLog) : Type 0 where
+  pub front : List Record
+  pub durable : new.durable ≡ old.durable ++ front
+  pub fresh : old.fresh ≡ front ++ new.fresh

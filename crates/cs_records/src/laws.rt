@@ -7,7 +7,7 @@ ghost use Rattle.cs_laws.specs.Realms.{is_realm};
 ghost use Rattle.cs_laws.specs.Standing.{dir_of, greatest_number, has_snap_named};
 ghost use Rattle.cs_records.specs.CommitNews.{changed_records, commit_news};
 ghost use Rattle.cs_records.specs.Example.{directories, first, names_after_removal, path, removal, root, second, told_first, told_removal, told_root, told_second};
-ghost use Rattle.cs_records.specs.Log.{IsLog, IsNextRemoval};
+ghost use Rattle.cs_records.specs.Log.{IsLog, IsLogAfter, IsNext, IsNextRemoval};
 ghost use Rattle.cs_records.specs.Below.{snapped_record, removed_record};
 ghost use denote.Param.Send.{IsSend};
 ghost use Rattle.cs_records.specs.contracts.records.Records as records_row;
@@ -22,6 +22,17 @@ pub fn a_snapshot_tells_its_realm_and_those_now_below()
 /// After a removal the client is told of the realm of the snapshot's directory alone.
 pub fn a_removal_tells_its_realm_alone()
     ensures { (path : ℕ → List ℕ) (ds : List ℕ) (before : List Record) (s number d : ℕ) → IsLog before → IsNextRemoval before s number → dir_of s before ≡ Some d → changed_records path ds before (before ++ record { body = bodies.Removal s number } ∷ []) ≡ filter_map (removed_record path before s number d) ds }
+{}
+
+/// A front of a log is a log.
+pub fn a_front_of_a_log_is_a_log()
+    ensures { (before xs ys : List Record) → IsLogAfter before (xs ++ ys) → IsLogAfter before xs }
+{}
+
+/// Each record of a log is one that may follow those before it. So the records of a log can be added to
+/// none, one after another.
+pub fn a_record_of_a_log_is_the_next_one()
+    ensures { (before xs : List Record) (r : Record) (ys : List Record) → IsLogAfter before (xs ++ r ∷ ys) → IsNext (before ++ xs) r.body }
 {}
 
 /// Directory 2 is in the root, and directory 3 in that. A snapshot of directory 3 comes first: its realm

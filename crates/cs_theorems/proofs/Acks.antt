@@ -13,7 +13,7 @@ use Rattle.cs_laws.specs.declared.messages.Message.TheVariants as messages
 use Rattle.cs_laws.specs.declared.records.Record.{Record}
 use Rattle.cs_laws.specs.declared.records.RecordBody.{RecordBody}
 use Rattle.cs_laws.specs.declared.records.RecordBody.TheVariants as bodies
-use Rattle.cs_laws.specs.Flight.{cap_message}
+use Rattle.cs_laws.specs.Flight.{acked_again, cap_message}
 use Rattle.cs_laws.specs.Flushes.{acked}
 use Rattle.cs_laws.specs.History.{durable, fresh, last_sent, server, to_client}
 use Rattle.cs_laws.specs.Journal.{entry}
@@ -25,10 +25,11 @@ use Rattle.cs_laws.specs.Realms.{differing, realm_records}
 use Rattle.cs_laws.specs.Laws.{tids}
 use Rattle.cs_laws.specs.Runs.{IsRun}
 use Rattle.cs_theorems.proofs.Listed.{Member, Each, each_nil, each_cons, each_append, each_end, each_tail, member_left, member_right}
+use Rattle.cs_theorems.proofs.News.{each_again}
 use Rattle.cs_theorems.proofs.Rising.{at_first}
-use Rattle.cs_theorems.proofs.Chains.{tids_append}
+use Rattle.cs_theorems.proofs.Standing.{flush_stands, tids_append}
 use Rattle.cs_theorems.proofs.Runs.{of_run}
-use Rattle.cs_theorems.proofs.Inversions.{FirstIs, first_idle, first_cap, first_flush_ack, first_snap, first_is, GrantIs, grant_unknown, grant_sent, grant_is, revoke_is}
+use Rattle.cs_theorems.proofs.Inversions.{FirstIs, first_idle, first_cap, first_flush_ack, first_snap, first_is, GrantIs, grant_unknown, grant_sent, grant_is, revoke_is, ReceivedIs, received_idle, received_ack, received_flush, received_again, received_is}
 
 -- an acknowledgement of a flush is of one among these records
 abbrev AckStands : List Record → Message → Type 0
@@ -53,6 +54,7 @@ own_tid f tid xs = subst (λ b. Member tid (cond b (tid ∷ []) [] ++ xs)) (sym 
 -- what is told of a record that stands behind these
 told_stands : (ds rs before : List Record) (realms : List RealmRecord) (body : RecordBody)
     → AckStands (ds ++ record { body = body } ∷ rs) (news_of before realms body)
+told_stands ds rs before realms (bodies.Request tid op answer) = tt
 told_stands ds rs before realms (bodies.Flush snap f tid follows meta) =
     let r : Record = record { body = bodies.Flush snap f tid follows meta } in
     subst (λ xs. Member tid xs) (sym (tids_append f ds (r ∷ rs))) (member_right tid (tids f ds) (tids f (r ∷ rs)) (own_tid f tid (tids f rs)))
@@ -94,6 +96,14 @@ acks_commit f up dirs ss ds fs q was i = record {
   told = λ n is. stands_left f n ds fs (i.told n is);
 }
 
+-- a flush came again
+acks_again : (f g tid : ℕ) (ds : List Record) (q : List Message) (was : ℕ → Bool) → Acks f ds q was → Acks f ds (q ++ acked_again g tid ds) was
+acks_again f g tid ds q was i = record {
+  flying = each_append (λ m. AckStands ds m) q (acked_again g tid ds) i.flying
+      (each_again (λ m. AckStands ds m) g tid ds (λ there. flush_stands g tid ds there));
+  told = i.told;
+}
+
 -- Steps
 
 abbrev pub AllAcked : List Entry → Type 0
@@ -128,10 +138,17 @@ step_to_client h x (first_snap number realm now q is) i = λ f.
     at_first (λ p. Left h f was p) (λ p. Left h f was p) (messages.Snap number realm now) q (to_client h) is
     (λ j. acks_taken f (durable h) q was (messages.Snap number realm now) j) (i f)
 
+step_server : (h : List Entry) (x : Answer) → ReceivedIs h x → AllAcked h → AllAcked (record { event = e.ToMds; answer = x } ∷ h)
+step_server h x received_idle i = i
+step_server h x (received_ack g seq bits q is) i = i
+step_server h x (received_flush y q is first) i = i
+step_server h x (received_again y q is again) i = λ f. acks_again f y.file y.tid (durable h) (to_client h) (λ n. acked h f n) (i f)
+
 pub acked_step : (p : ℕ) (h : List Entry) (x : Event) → AllAcked h → AllAcked (entry p h x ∷ h)
 acked_step p h (e.Grant g bits end) i = step_grant h g bits end _ (grant_is h g bits end) i
 acked_step p h (e.Revoke g bits) i = step_revoke h g bits _ (revoke_is h g bits) i
 acked_step p h e.ToClient i = step_to_client h _ (first_is h) i
+acked_step p h e.ToMds i = step_server h _ (received_is h) i
 acked_step p h e.Commit i =
     λ f. acks_commit f (λ d. path h d) (directories h) (last_sent h) (durable h) (fresh h) (to_client h) (λ n. acked h f n) (i f)
 acked_step p h _ i = i

@@ -21,11 +21,7 @@ tells_known h i = at (to_client h) refl
     at : (q : List Message) → to_client h ≡ q → TellsKnownParents (realms h) q
     at [] is = tt
     at (messages.Snap n d now ∷ q) is = told n d now q is
-    at (messages.Cap f seq bits end ∷ q) is = tt
-    at (messages.FlushAck f tid ∷ q) is = tt
-    at (messages.CapAck f seq bits ∷ q) is = tt
-    at (messages.Flush f tid follows meta ∷ q) is = tt
-    at (messages.FlushSnap f tid follows meta ∷ q) is = tt
+    at (_ ∷ q) is = tt
 
 pub run_tells_known : (p : ℕ) (h : List Entry) → IsRun p h → NextTellsKnownParents h
 run_tells_known p h run = tells_known h (course_run p h run).setting

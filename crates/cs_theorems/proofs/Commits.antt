@@ -9,15 +9,15 @@ use Rattle.cs_laws.specs.declared.records.RecordBody.{RecordBody}
 use Rattle.cs_laws.specs.declared.records.RecordBody.TheVariants as bodies
 use Rattle.cs_laws.specs.Realms.{differing, is_realm, realm_records}
 use Rattle.cs_laws.specs.Standing.{news, news_on, sent_with}
-use Rattle.cs_laws.specs.Carried.{realms_of}
-use Rattle.cs_ids.specs.declared.objects.FileMeta.{FileMeta}
+use Rattle.cs_laws.specs.Carried.{is_realm_change, realms_of}
 use Rattle.cs_theorems.proofs.Along.{Along, grows, sends}
-use Rattle.cs_theorems.proofs.Fronts.{flush_none, same_realm}
+use Rattle.cs_theorems.proofs.Fronts.{same_realm}
 use Rattle.cs_theorems.proofs.Links.{carried, differing_at, realm_at}
 use Rattle.cs_theorems.proofs.Listed.{Member}
 use Rattle.cs_theorems.proofs.Listing.{ParentsFirst}
 use Rattle.cs_theorems.proofs.RealmPaths.{HasRealms, realm_of}
 use Rattle.cs_theorems.proofs.Sent.{differing_is, sent_then}
+use Rattle.cs_theorems.proofs.WayContexts.{quiet_stays}
 use Rattle.cs_theorems.proofs.Ways.{front_realm}
 
 -- What was sent last, and what flies: ss are the realm records that the server sent last, those of the durable log ds.
@@ -70,10 +70,8 @@ module _ (up : ℕ → List ℕ) (dirs : List ℕ) (ts : List RealmRecord) where
       has : HasRealms up more (with_records now ss)
       has = sent_changed ss ds r listed i.sent
 
-  same_by : (ds : List Record) (snap : Bool) (f tid follows : ℕ) (meta : FileMeta)
-      → realm_at up (ds ++ record { body = bodies.Flush snap f tid follows meta } ∷ []) ≡ realm_at up ds
-  same_by ds snap f tid follows meta =
-      λ j d. same_realm (up d) ds (record { body = bodies.Flush snap f tid follows meta }) d (λ k. flush_none k ds snap f tid follows meta) j
+  same_by : (ds : List Record) (b : RecordBody) → is_realm_change b ≡ false → realm_at up (ds ++ record { body = b } ∷ []) ≡ realm_at up ds
+  same_by ds b quiet = λ j d. same_realm (up d) ds (record { body = b }) d (λ k. quiet_stays k ds b quiet) j
 
   told_quiet : (ss : List RealmRecord) (q : List (List RealmRecord)) (ds : List Record) (r : Record) → realm_at up (ds ++ r ∷ []) ≡ realm_at up ds → Told up ss ts q ds
       → Told up ss ts q (ds ++ r ∷ [])
@@ -95,7 +93,9 @@ module _ (up : ℕ → List ℕ) (dirs : List ℕ) (ts : List RealmRecord) where
     where
       at : (b : RecordBody) → ((d : ℕ) → is_realm (with_body ds b) d ≡ true → Member d dirs)
           → HasRealms up (with_body ds b) (with_records (realms_of (news_on up dirs ss ds (record { body = b }))) ss)
-      at (bodies.Flush snap f tid follows meta) inside = record { has = λ d. has.has d ∙ sym (ap (λ g. g d) (same_by ds snap f tid follows meta)) }
+      at (bodies.Request tid op answer) inside = record { has = λ d. has.has d ∙ sym (ap (λ g. g d) (same_by ds (bodies.Request tid op answer) refl)) }
+      at (bodies.Flush snap f tid follows meta) inside =
+          record { has = λ d. has.has d ∙ sym (ap (λ g. g d) (same_by ds (bodies.Flush snap f tid follows meta) refl)) }
       at (bodies.Snap n e name) inside = sent_changed ss ds (record { body = bodies.Snap n e name }) inside has
       at (bodies.Removal t n) inside = sent_changed ss ds (record { body = bodies.Removal t n }) inside has
 
@@ -131,7 +131,7 @@ module _ (up : ℕ → List ℕ) (dirs : List ℕ) (ts : List RealmRecord) where
       at : (b : RecordBody) → ((d : ℕ) → is_realm (with_body ds b ++ rs) d ≡ true → Member d dirs)
           → ((us : List RealmRecord) (p : List (List RealmRecord)) → Told up us ts p (with_body ds b) → TellsRest us p (with_body ds b) rs)
           → Told up (sent_with (news up dirs ss ds (record { body = b } ∷ rs)) ss) ts (q ++ carried (news up dirs ss ds (record { body = b } ∷ rs))) (with_body ds b ++ rs)
-      at (bodies.Flush snap f tid follows meta) inside go =
-          go ss q (told_quiet ss q ds _ (same_by ds snap f tid follows meta) i)
+      at (bodies.Request tid op answer) inside go = go ss q (told_quiet ss q ds _ (same_by ds (bodies.Request tid op answer) refl) i)
+      at (bodies.Flush snap f tid follows meta) inside go = go ss q (told_quiet ss q ds _ (same_by ds (bodies.Flush snap f tid follows meta) refl) i)
       at (bodies.Snap n e name) inside go = changed (bodies.Snap n e name) inside go
       at (bodies.Removal s n) inside go = changed (bodies.Removal s n) inside go

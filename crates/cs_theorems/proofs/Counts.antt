@@ -16,7 +16,7 @@ use Rattle.cs_laws.specs.History.{present, sent, snap, stand, durable, fresh, to
 use Rattle.cs_laws.specs.Journal.{entry}
 use Rattle.cs_laws.specs.Standing.{recorded, greatest_number, fresh_then}
 use Rattle.cs_laws.specs.Runs.{IsRun}
-use Rattle.cs_theorems.proofs.Inversions.{ReceivedIs, received_idle, received_ack, received_flush, received_is, SnapIs, snap_unknown, snap_exists, snap_taken, snap_is, RemoveIs, remove_none, remove_gone, removed, remove_is}
+use Rattle.cs_theorems.proofs.Inversions.{ReceivedIs, received_idle, received_ack, received_flush, received_again, received_is, SnapIs, snap_unknown, snap_exists, snap_taken, snap_is, RemoveIs, remove_none, remove_gone, removed, remove_is}
 use Rattle.cs_theorems.proofs.Runs.{of_run}
 
 one_more : {A : Type 0} (xs : List A) (x : A) (n : ℕ) → length xs ≤ n → length (xs ++ x ∷ []) ≤ n + 1
@@ -51,10 +51,7 @@ pub recorded_none : (q : List Message) → greatest_number (recorded q) ≡ 0
 recorded_none [] = refl
 recorded_none (messages.Flush f tid follows meta ∷ q) = refl
 recorded_none (messages.FlushSnap f tid follows meta ∷ q) = refl
-recorded_none (messages.Cap f seq bits end ∷ q) = refl
-recorded_none (messages.FlushAck f tid ∷ q) = refl
-recorded_none (messages.Snap number d realms ∷ q) = refl
-recorded_none (messages.CapAck f seq bits ∷ q) = refl
+recorded_none (_ ∷ q) = refl
 
 greatest_behind : (ds fs more : List Record) → greatest_number (ds ++ (fs ++ more)) ≡ max (greatest_number (ds ++ fs)) (greatest_number more)
 greatest_behind ds fs more = ap greatest_number (sym (append_assoc ds fs more)) ∙ greatest_append (ds ++ fs) more
@@ -80,8 +77,9 @@ step_remove h t x (removed there stays) i =
 step_to_mds : (h : List Entry) (x : Answer) → ReceivedIs h x → SnapsAreFew h → SnapsAreFew (record { event = e.ToMds; answer = x } ∷ h)
 step_to_mds h x received_idle i = omega (arith, i)
 step_to_mds h x (received_ack g seq bits q is) i = omega (arith, i)
-step_to_mds h x (received_flush y q is) i =
+step_to_mds h x (received_flush y q is first) i =
     omega (arith, i, greatest_behind (durable h) (fresh h) (recorded (to_server h)), recorded_none (to_server h))
+step_to_mds h x (received_again y q is again) i = omega (arith, i)
 
 step_commit : (h : List Entry) (x : Answer) → SnapsAreFew h → greatest_number ((durable h ++ fresh h) ++ []) ≤ length h + 1
 step_commit h x i = omega (arith, i, ap greatest_number (append-nil (durable h ++ fresh h)))
@@ -102,10 +100,7 @@ recorded_few : (q : List Message) → length (recorded q) ≤ 1
 recorded_few [] = omega arith
 recorded_few (messages.Flush f tid follows meta ∷ q) = omega arith
 recorded_few (messages.FlushSnap f tid follows meta ∷ q) = omega arith
-recorded_few (messages.Cap f seq bits end ∷ q) = omega arith
-recorded_few (messages.FlushAck f tid ∷ q) = omega arith
-recorded_few (messages.Snap number d realms ∷ q) = omega arith
-recorded_few (messages.CapAck f seq bits ∷ q) = omega arith
+recorded_few (_ ∷ q) = omega arith
 
 fresh_then_few : (x : Event) (y : Answer) (q : List Message) (rs : List Record) (n : ℕ) → length rs ≤ n → length (fresh_then x y q rs) ≤ n + 1
 fresh_then_few e.ToMds (a.Flushed f tid) q rs n few = omega (arith, few, recorded_few q, length-append rs (recorded q))

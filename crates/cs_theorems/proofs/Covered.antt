@@ -33,8 +33,8 @@ use Rattle.cs_theorems.proofs.Covers.{Between, Covers, IsCovered, Made, covers_b
 use Rattle.cs_theorems.proofs.Inversions.{ChmodIs, chmod_unknown, chmod_no_bit, chmod_snap, chmod_done, chmod_is, FlushIs, head_unknown, head_snap, head_clean, head_sent, flush_is, BeginIs, begin_unknown, begin_caps, begin_snap, begin_max, begin_full, begun_ref, begin_is, EndIs, end_unknown, ended, end_is, WriteIs, write_unknown, write_no_bit, write_past, wrote, write_is, FlushSnapsIs, flush_unknown, flush_none, flush_writing, flush_sent, flush_snaps_is, FirstIs, first_idle, first_cap, first_flush_ack, first_snap, first_is}
 use Rattle.cs_theorems.proofs.Listed.{Each, Member, each_nil}
 use Rattle.cs_theorems.proofs.Modes.{Change, changes, last_mode, mode_is, with_change}
+use Rattle.cs_theorems.proofs.Numbered.{Numbered, upto_numbered}
 use Rattle.cs_theorems.proofs.Order.{InOrder, none_made, none_open, why_none, written_on}
-use Rattle.cs_theorems.proofs.Places.{AllPlaced}
 use Rattle.cs_theorems.proofs.Tags.{Tags, at_present}
 use Rattle.cs_theorems.proofs.Uses.{named_is}
 
@@ -211,15 +211,15 @@ covers_flushed f s n rs ws cs d x xs now fs tid is drawn o i =
     (covers_sent f s rs ws cs d x xs fs (flush_snap f tid x.follows x.mode ws) refl refl refl drawn tags first)
 
 -- the next number is greater than all before
-next_drawn : (h : List Entry) → AllPlaced h → Each (λ z. z.tid < length (sent h) + 1) (sent h)
-next_drawn h placed z there = omega (arith, placed.drawn z there)
+next_drawn : (h : List Entry) → Numbered (sent h) → Each (λ z. z.tid < length (sent h) + 1) (sent h)
+next_drawn h numbered z there = omega (arith, upto_numbered (sent h) numbered z there)
 
-step_flush_snaps : (h : List Entry) (g : ℕ) (x : Answer) → FlushSnapsIs h g x → Course h → AllPlaced h → AllCovered h
+step_flush_snaps : (h : List Entry) (g : ℕ) (x : Answer) → FlushSnapsIs h g x → Course h → Numbered (sent h) → AllCovered h
     → AllCovered (record { event = e.FlushSnaps g; answer = x } ∷ h)
-step_flush_snaps h g x flush_unknown o placed i = i
-step_flush_snaps h g x flush_none o placed i = i
-step_flush_snaps h g x flush_writing o placed i = i
-step_flush_snaps h g x (flush_sent y ys known is closed) o placed i = λ f. at f (g == f) refl
+step_flush_snaps h g x flush_unknown o numbered i = i
+step_flush_snaps h g x flush_none o numbered i = i
+step_flush_snaps h g x flush_writing o numbered i = i
+step_flush_snaps h g x (flush_sent y ys known is closed) o numbered i = λ f. at f (g == f) refl
   where
     new : Flush
     new = snap h g (length (sent h) + 1) y.follows
@@ -227,19 +227,19 @@ step_flush_snaps h g x (flush_sent y ys known is closed) o placed i = λ f. at f
     own : Covers g (context h g).seq (live h) (writes h g) (changes h g) (dirty h g) (drop 1 (queued h g)) (sent h ++ new ∷ [])
     own =
         covers_flushed g (context h g).seq (λ c. begun h c) (live h) (writes h g) (changes h g) (dirty h g) y ys (queued h g) (sent h) (length (sent h) + 1) is
-        (next_drawn h placed) (o.order.1 g) (i g)
+        (next_drawn h numbered) (o.order.1 g) (i g)
 
     at : (f : ℕ) (b : Bool) → (g == f) ≡ b
         → Covers f (context h f).seq (live h) (writes h f) (changes h f) (dirty h f) (cond b (drop 1 (queued h f)) (queued h f)) (sent h ++ new ∷ [])
     at f true same = subst (λ k. Covers k (context h k).seq (live h) (writes h k) (changes h k) (dirty h k) (drop 1 (queued h k)) (sent h ++ new ∷ [])) (eqb-true g f same) own
     at f false other = covers_other f (context h f).seq (live h) (writes h f) (changes h f) (dirty h f) (queued h f) (sent h) new (λ same. eqb-false g f other same) (i f)
 
-step_flush : (h : List Entry) (g : ℕ) (x : Answer) → FlushIs h g x → Course h → AllPlaced h → AllCovered h
+step_flush : (h : List Entry) (g : ℕ) (x : Answer) → FlushIs h g x → Course h → Numbered (sent h) → AllCovered h
     → AllCovered (record { event = e.Flush g; answer = x } ∷ h)
-step_flush h g x head_unknown o placed i = i
-step_flush h g x head_snap o placed i = i
-step_flush h g x head_clean o placed i = i
-step_flush h g x (head_sent known free changed) o placed i = λ f. at f (g == f) refl
+step_flush h g x head_unknown o numbered i = i
+step_flush h g x head_snap o numbered i = i
+step_flush h g x head_clean o numbered i = i
+step_flush h g x (head_sent known free changed) o numbered i = λ f. at f (g == f) refl
   where
     new : Flush
     new = present h g (length (sent h) + 1)
@@ -247,7 +247,7 @@ step_flush h g x (head_sent known free changed) o placed i = λ f. at f (g == f)
     own : Covers g (context h g).seq (live h) (writes h g) (changes h g) no_caps (queued h g) (sent h ++ new ∷ [])
     own =
         covers_head g (context h g).seq (live h) (writes h g) (changes h g) (dirty h g) (queued h g) (sent h) new refl refl
-        (ap (λ m. written_meta m (writes h g)) (mode_is h g)) (next_drawn h placed) (young h g o free) (o.order.1 g).tags (i g)
+        (ap (λ m. written_meta m (writes h g)) (mode_is h g)) (next_drawn h numbered) (young h g o free) (o.order.1 g).tags (i g)
 
     at : (f : ℕ) (b : Bool) → (g == f) ≡ b
         → Covers f (context h f).seq (live h) (writes h f) (changes h f) (cond b no_caps (dirty h f)) (queued h f) (sent h ++ new ∷ [])
@@ -256,17 +256,17 @@ step_flush h g x (head_sent known free changed) o placed i = λ f. at f (g == f)
 
 -- All events
 
-pub covered_step : (p : ℕ) (h : List Entry) (x : Event) → Course h → AllPlaced h → AllCovered h → AllCovered (entry p h x ∷ h)
-covered_step p h (e.Dir d q) o placed i = λ f. covers_kept h f _ o (dir_stays p h d q f o.setting) (i f)
-covered_step p h (e.File g q) o placed i = λ f. covers_kept h f _ o (file_stays p h g q f o.setting) (i f)
-covered_step p h (e.Begin c f bits end) o placed i = step_begin h c f bits end _ (begin_is h c f bits end) i
-covered_step p h (e.End c name) o placed i = step_end h c name _ (end_is h c name) i
-covered_step p h (e.Write c name off bytes) o placed i = step_write h c name off bytes _ (write_is h c name off bytes) o i
-covered_step p h (e.Chmod c name mode) o placed i = step_chmod h c name mode _ (chmod_is h c name) o i
-covered_step p h e.ToClient o placed i = step_client h _ (first_is h) o i
-covered_step p h (e.Flush f) o placed i = step_flush h f _ (flush_is h f) o placed i
-covered_step p h (e.FlushSnaps f) o placed i = step_flush_snaps h f _ (flush_snaps_is h f) o placed i
-covered_step p h _ o placed i = i
+pub covered_step : (p : ℕ) (h : List Entry) (x : Event) → Course h → Numbered (sent h) → AllCovered h → AllCovered (entry p h x ∷ h)
+covered_step p h (e.Dir d q) o numbered i = λ f. covers_kept h f _ o (dir_stays p h d q f o.setting) (i f)
+covered_step p h (e.File g q) o numbered i = λ f. covers_kept h f _ o (file_stays p h g q f o.setting) (i f)
+covered_step p h (e.Begin c f bits end) o numbered i = step_begin h c f bits end _ (begin_is h c f bits end) i
+covered_step p h (e.End c name) o numbered i = step_end h c name _ (end_is h c name) i
+covered_step p h (e.Write c name off bytes) o numbered i = step_write h c name off bytes _ (write_is h c name off bytes) o i
+covered_step p h (e.Chmod c name mode) o numbered i = step_chmod h c name mode _ (chmod_is h c name) o i
+covered_step p h e.ToClient o numbered i = step_client h _ (first_is h) o i
+covered_step p h (e.Flush f) o numbered i = step_flush h f _ (flush_is h f) o numbered i
+covered_step p h (e.FlushSnaps f) o numbered i = step_flush_snaps h f _ (flush_snaps_is h f) o numbered i
+covered_step p h _ o numbered i = i
 
 pub covered_first : AllCovered []
 covered_first f = covers_blank f 0 [] [] (each_nil (λ x. x.file ≡ f → ⊥))

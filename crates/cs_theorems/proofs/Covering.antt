@@ -149,6 +149,7 @@ none_later s g [] draws low = refl
 none_later s g (r ∷ rs) draws low = step r.body draws.0 (none_later s (max g (number_of r.body)) rs draws.1 (omega (arith, low)))
   where
     step : (b : RecordBody) → Draws g b → dir_of s rs ≡ None → dir_in s b (dir_of s rs) ≡ None
+    step (bodies.Request tid op answer) is rest = rest
     step (bodies.Flush snap f tid follows meta) is rest = rest
     step (bodies.Snap n e name) is rest = cond-false (n == s) _ _ (false_from_ne_true (n == s) (λ same. omega (arith, is, low, eqb-true n s same))) ∙ rest
     step (bodies.Removal t n) is rest = rest
@@ -217,6 +218,7 @@ and_none false = refl
 own_step : (d s g : ℕ) (o : Own) (b : RecordBody) (rs : List Record) → Draws g b → AllDraw (max g (number_of b)) rs → (has_snap s o ≡ true → s ≤ g)
     → ((p : Own) → (has_snap s p ≡ true → s ≤ max g (number_of b)) → Known d s p rs)
     → has_snap s (own_after d (own_then d o b) rs) ≡ ((has_snap s o || is_dir d (dir_in s b (dir_of s rs))) && not (is_removal s b || is_removed s rs))
+own_step d s g o (bodies.Request tid op answer) rs is draws low rest = rest o (λ there. omega (arith, low there))
 own_step d s g o (bodies.Flush snap f tid follows meta) rs is draws low rest = rest o (λ there. omega (arith, low there))
 own_step d s g o (bodies.Snap n e name) rs is draws low rest =
     let now : Own = cond (e == d) (record { seq = n; snaps = n ∷ o.snaps }) o in
@@ -291,6 +293,7 @@ stands_dir s (r ∷ rs) = step r.body (stands_dir s rs)
     some_if false e o = refl
 
     step : (b : RecordBody) → snap_stands s rs ≡ is_some (dir_of s rs) → (is_snap s b || snap_stands s rs) ≡ is_some (dir_in s b (dir_of s rs))
+    step (bodies.Request tid op answer) rest = rest
     step (bodies.Flush snap f tid follows meta) rest = rest
     step (bodies.Snap n e name) rest = ap (λ b. (n == s) || b) rest ∙ some_if (n == s) e (dir_of s rs)
     step (bodies.Removal t n) rest = rest

@@ -12,12 +12,13 @@ use Rattle.cs_laws.specs.declared.records.RecordBody.TheVariants as bodies
 use Rattle.cs_laws.specs.History.{durable, fresh, stand}
 use Rattle.cs_laws.specs.Journal.{entry}
 use Rattle.cs_laws.specs.Standing.{greatest_number, has_snap, is_snap, number_of, recorded}
-use Rattle.cs_theorems.proofs.Inversions.{ReceivedIs, received_idle, received_ack, received_flush, received_is, SnapIs, snap_unknown, snap_exists, snap_taken, snap_is, RemoveIs, remove_none, remove_gone, removed, remove_is}
+use Rattle.cs_theorems.proofs.Inversions.{ReceivedIs, received_idle, received_ack, received_flush, received_again, received_is, SnapIs, snap_unknown, snap_exists, snap_taken, snap_is, RemoveIs, remove_none, remove_gone, removed, remove_is}
 use Rattle.cs_laws.specs.Flushes.{flush_record}
-use Rattle.cs_theorems.proofs.Places.{recorded_one}
+use Rattle.cs_theorems.proofs.Standing.{recorded_one}
 
 -- a snapshot or a removal draws a number above g, and a removal is of a snapshot up to that
 abbrev pub Draws : ℕ → RecordBody → Type 0
+Draws g (bodies.Request tid op answer) = Unit {0}
 Draws g (bodies.Flush snap f tid follows meta) = Unit {0}
 Draws g (bodies.Snap n d name) = g < n
 Draws g (bodies.Removal s n) = (s ≤ g) × (g < n)
@@ -47,6 +48,7 @@ draws_end g (x ∷ xs) r i d = (
 
 -- a snapshot that stands has a number up to the greatest
 is_low : (s : ℕ) (b : RecordBody) → is_snap s b ≡ true → s ≤ number_of b
+is_low s (bodies.Request tid op answer) is = absurd (both_ways false refl is)
 is_low s (bodies.Flush snap f tid follows meta) is = absurd (both_ways false refl is)
 is_low s (bodies.Snap n d name) is = omega (arith, eqb-true n s is)
 is_low s (bodies.Removal t n) is = absurd (both_ways false refl is)
@@ -69,9 +71,10 @@ more h r d i =
 step_server : (h : List Entry) (x : Answer) → ReceivedIs h x → DrawnAt h → DrawnAt (record { event = e.ToMds; answer = x } ∷ h)
 step_server h x received_idle i = i
 step_server h x (received_ack f seq bits q there) i = i
-step_server h x (received_flush y q there) i =
+step_server h x (received_flush y q there first) i =
     subst (λ p. AllDraw 0 (durable h ++ (fresh h ++ recorded p))) (sym there)
     (subst (λ rs. AllDraw 0 (durable h ++ (fresh h ++ rs))) (sym (recorded_one y)) (more h (flush_record y) tt i))
+step_server h x (received_again y q there again) i = i
 
 step_snap : (h : List Entry) (d : ℕ) (name : List ℕ) (x : Answer) → SnapIs h d name x → DrawnAt h → DrawnAt (record { event = e.Snap d name; answer = x } ∷ h)
 step_snap h d name x snap_unknown i = i

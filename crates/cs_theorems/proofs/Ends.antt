@@ -12,7 +12,7 @@ use Rattle.cs_laws.specs.declared.objects.At.TheVariants as at
 use Rattle.cs_laws.specs.Events.{clock}
 use Rattle.cs_laws.specs.Fits.{fits, greatest_end, is_write, most_written}
 use Rattle.cs_laws.specs.History.{live, writes}
-use Rattle.cs_laws.specs.Image.{Write, size}
+use Rattle.cs_laws.specs.Image.{Write, size, upto}
 use Rattle.cs_laws.specs.Journal.{entry}
 use Rattle.cs_laws.specs.References.{named}
 use Rattle.cs_laws.specs.Shown.{is_before, writes_at}
@@ -60,3 +60,7 @@ some_less test (w ∷ ws) = kept_or (test w) w ws (filter test ws) (some_less te
 pub states_end : (p : ℕ) (h : List Entry) → IsRun p h → (f : ℕ) (a : At) → size (writes_at a (writes h f)) ≤ greatest_end
 states_end p h run f at.Head = all_end p h run f
 states_end p h run f (at.Snap s) = omega (arith, all_end p h run f, some_less (λ w. is_before (at.Snap s) w.tag) (writes h f))
+
+-- nor what a flush under a number tells of
+pub upto_end : (p : ℕ) (h : List Entry) → IsRun p h → (f s : ℕ) → size (upto s (writes h f)) ≤ greatest_end
+upto_end p h run f s = omega (arith, all_end p h run f, some_less (λ w. nat_le w.tag s) (writes h f))

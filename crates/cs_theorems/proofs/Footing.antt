@@ -1,25 +1,27 @@
 -- What the metadata of a file and its contents rest on in every run.
-use Rattle.std.proofs.Common.{ℕ, List, [], ◌∷◌}
+use Rattle.std.proofs.Common.{refl, ℕ, List, [], ◌∷◌}
 use Rattle.cs_laws.specs.declared.events.Event.{Event}
 use Rattle.cs_laws.specs.declared.answers.Entry.{Entry}
+use Rattle.cs_laws.specs.History.{sent}
 use Rattle.cs_laws.specs.Journal.{entry}
 use Rattle.cs_laws.specs.Runs.{CanFollow, IsRun}
+use Rattle.cs_theorems.specs.Flushes.{FlushesReplay}
 use Rattle.cs_theorems.proofs.Acks.{AllAcked, acked_first, acked_step}
-use Rattle.cs_theorems.proofs.Chains.{AllRise, rise_first, rise_step}
 use Rattle.cs_theorems.proofs.Contexts.{AllReached, has_reached, reached_first, reached_step}
 use Rattle.cs_theorems.proofs.Course.{Course, course_first, course_step}
 use Rattle.cs_theorems.proofs.Covered.{AllCovered, covered_first, covered_step}
+use Rattle.cs_theorems.proofs.FlushReplays.{replay_first, replay_step}
 use Rattle.cs_theorems.proofs.Images.{HoldsAt, holds_first, holds_step}
 use Rattle.cs_theorems.proofs.Modes.{ModesAt, modes_first, modes_step}
-use Rattle.cs_theorems.proofs.Places.{AllPlaced, places_start, place_step}
+use Rattle.cs_theorems.proofs.Numbered.{Numbered, numbered_step}
 use Rattle.cs_theorems.proofs.Runs.{of_run}
 
 pub record Footing (h : List Entry) : Type 0 where
   pub course : Course h
   pub covered : AllCovered h
-  pub rise : AllRise h
+  pub numbered : Numbered (sent h)
+  pub replay : FlushesReplay h
   pub acked : AllAcked h
-  pub placed : AllPlaced h
   pub reached : AllReached h
   pub modes : ModesAt h
   pub holds : HoldsAt h
@@ -28,9 +30,9 @@ footing_first : Footing []
 footing_first = record {
   course = course_first;
   covered = covered_first;
-  rise = rise_first;
+  numbered = refl;
+  replay = replay_first;
   acked = acked_first;
-  placed = places_start;
   reached = reached_first;
   modes = modes_first;
   holds = holds_first;
@@ -39,10 +41,10 @@ footing_first = record {
 footing_step : (p : ℕ) (h : List Entry) (x : Event) → CanFollow h x → Footing h → Footing (entry p h x ∷ h)
 footing_step p h x can i = record {
   course = course_step p h x i.course;
-  covered = covered_step p h x i.course i.placed i.covered;
-  rise = rise_step p h x i.rise;
+  covered = covered_step p h x i.course i.numbered i.covered;
+  numbered = numbered_step p h x i.numbered;
+  replay = replay_step p h x i.numbered i.replay;
   acked = acked_step p h x i.acked;
-  placed = place_step p h x i.placed;
   reached = reached_step p h x can i.course.setting i.reached;
   modes = modes_step h x _ (λ f. (i.covered f).changes_low) i.reached (has_reached h) i.modes;
   holds = holds_step p h x i.course.shares i.holds;

@@ -10,12 +10,13 @@ use Rattle.cs_laws.specs.Realms.{is_realm, is_snap_of, realm_record}
 use Rattle.cs_theorems.proofs.Listed.{Each, each_tail}
 use Rattle.cs_theorems.proofs.Paths.{with_path}
 use Rattle.cs_theorems.proofs.RealmPaths.{realm_of}
-use Rattle.cs_theorems.proofs.WayContexts.{Stays, flush_stays}
+use Rattle.cs_theorems.proofs.WayContexts.{Stays}
 
 -- Records that stand
 
 -- a snapshot of a directory
 abbrev pub OfDir : (ℕ → Bool) → RecordBody → Type 0
+OfDir dir (bodies.Request tid op answer) = Unit {0}
 OfDir dir (bodies.Flush snap f tid follows meta) = Unit {0}
 OfDir dir (bodies.Snap n d name) = dir d ≡ true
 OfDir dir (bodies.Removal s n) = Unit {0}
@@ -26,6 +27,7 @@ realm_dir dir rs d root all is =
     ⊎_elim (λ top. subst (λ k. dir k ≡ true) (sym (eqb-true d 1 top)) root) (λ there. among rs all there) (or_cases (d == 1) _ is)
   where
     of_snap : (b : RecordBody) → OfDir dir b → is_snap_of d b ≡ true → dir d ≡ true
+    of_snap (bodies.Request tid op answer) i same = absurd (both_ways false refl same)
     of_snap (bodies.Flush snap f tid follows meta) i same = absurd (both_ways false refl same)
     of_snap (bodies.Snap n k name) i same = subst (λ j. dir j ≡ true) (eqb-true k d same) i
     of_snap (bodies.Removal s n) i same = absurd (both_ways false refl same)
@@ -35,10 +37,7 @@ realm_dir dir rs d root all is =
     among (x ∷ xs) i there =
         ⊎_elim (λ here. of_snap x.body (i x (inl refl)) here) (λ later. among xs (each_tail (λ r. OfDir dir r.body) x xs i) later) (or_cases (is_snap_of d x.body) _ there)
 
--- A flush changes no realm
-
-pub flush_none : (d : ℕ) (rs : List Record) (snap : Bool) (f tid follows : ℕ) (meta : _) → Stays d rs (record { body = bodies.Flush snap f tid follows meta })
-flush_none d rs snap f tid follows meta = flush_stays d rs (record { body = bodies.Flush snap f tid follows meta }) (λ s. refl) refl
+-- A record that changes no realm
 
 pub same_realm : (up : List ℕ) (rs : List Record) (r : Record) (d : ℕ) → ((k : ℕ) → Stays k rs r) → realm_record up (rs ++ r ∷ []) d ≡ realm_record up rs d
 same_realm up rs r d same =
@@ -67,6 +66,7 @@ module _ (dir : ℕ → Bool) (up : ℕ → List ℕ) (e p : ℕ) (new : dir e �
       at false other = refl
 
 pub of_more : (dir more : ℕ → Bool) → ((k : ℕ) → dir k ≡ true → more k ≡ true) → (b : RecordBody) → OfDir dir b → OfDir more b
+of_more dir more grows (bodies.Request tid op answer) i = tt
 of_more dir more grows (bodies.Flush snap f tid follows meta) i = tt
 of_more dir more grows (bodies.Snap n d name) i = grows d i
 of_more dir more grows (bodies.Removal s n) i = tt

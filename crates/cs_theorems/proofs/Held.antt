@@ -5,8 +5,8 @@ use Rattle.std.proofs.lemmas.Bool.{eqb-true, eq-eqb}
 use Rattle.std.proofs.lemmas.Grind.{flat_map-append}
 use Rattle.std.proofs.lemmas.List.{append-nil}
 use Rattle.cs_bits.specs.declared.Caps.{Caps}
-use Rattle.cs_bits.specs.Bits.{Has, union, minus}
-use Rattle.cs_bits.proofs.Members.{Has-union, Has-meet}
+use Rattle.cs_bits.specs.Bits.{Has, no_caps, union, minus}
+use Rattle.cs_bits.proofs.Members.{Has-union, Has-meet, no_member}
 use Rattle.cs_parts.specs.declared.capabilities.ClientCaps.{ClientCaps}
 use Rattle.cs_parts.specs.declared.capabilities.ServerCaps.{ServerCaps}
 use Rattle.cs_parts.specs.Capabilities.{granted, revoked, delivered, acknowledged}
@@ -27,14 +27,17 @@ in_union a b x w = record { each = λ k has. (Has-union a b k).1 (inl (w.each k 
 union_in_union : (a b x : Caps) → Within x a → Within (union x b) (union a b)
 union_in_union a b x w = record { each = λ k has. (Has-union a b k).1 (⊎_elim (λ l. inl (w.each k l)) (λ r. inr r) ((Has-union x b k).0 has)) }
 
-union_within : (a b x : Caps) → Within a x → Within b x → Within (union a b) x
+pub union_within : (a b x : Caps) → Within a x → Within b x → Within (union a b) x
 union_within a b x l r = record { each = λ k has. ⊎_elim (λ p. l.each k p) (λ p. r.each k p) ((Has-union a b k).0 has) }
 
-minus_within : (a b x : Caps) → Within a x → Within (minus a b) x
+pub minus_within : (a b x : Caps) → Within a x → Within (minus a b) x
 minus_within a b x w = record { each = λ k has. w.each k ((Has-meet a (record { 0 = 65535 - b.0 }) k).0 has).0 }
 
 within_within : (a b x : Caps) → Within a b → Within b x → Within a x
 within_within a b x l r = record { each = λ k has. r.each k (l.each k has) }
+
+pub none_within : (x : Caps) → Within no_caps x
+none_within x = record { each = λ k has. absurd (no_member k has) }
 
 within_self : (a : Caps) → Within a a
 within_self a = record { each = λ k has. has }

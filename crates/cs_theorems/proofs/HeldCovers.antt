@@ -1,10 +1,10 @@
 -- What the server takes for held covers what the client implements.
 use Rattle.std.proofs.Common.{◌≡◌, refl, sym, ap, subst, ℕ, Bool, true, false, cond, List, [], ◌∷◌, ◌++◌, ◌==◌, length, arith}
-use Rattle.std.proofs.lemmas.Bool.{eqb-true}
+use Rattle.std.proofs.lemmas.Bool.{cond_both, eqb-true}
 use Rattle.std.proofs.lemmas.Bool.Decides.{nat_tests}
 use Rattle.cs_bits.specs.declared.Caps.{Caps}
 use Rattle.cs_bits.specs.Bits.{no_caps}
-use Rattle.cs_bits.proofs.Members.{covers-Has, no_member}
+use Rattle.cs_bits.proofs.Members.{covers-Has}
 use Rattle.cs_snapctx.specs.declared.realm.RealmRecord.{RealmRecord}
 use Rattle.cs_parts.specs.declared.capabilities.ClientCaps.{ClientCaps}
 use Rattle.cs_parts.specs.declared.capabilities.ServerCaps.{ServerCaps}
@@ -20,22 +20,23 @@ use Rattle.cs_laws.specs.declared.records.Record.{Record}
 use Rattle.cs_laws.specs.declared.records.RecordBody.{RecordBody}
 use Rattle.cs_laws.specs.declared.records.RecordBody.TheVariants as bodies
 use Rattle.cs_laws.specs.Answers.{held_after}
-use Rattle.cs_laws.specs.Flight.{cap_message}
+use Rattle.cs_laws.specs.Flight.{acked_again, cap_message}
 use Rattle.cs_laws.specs.Flushes.{flush_message}
 use Rattle.cs_laws.specs.History.{client, durable, fresh, last_sent, server, to_client, to_server}
 use Rattle.cs_laws.specs.Carried.{realms_of}
 use Rattle.cs_laws.specs.Journal.{entry}
 use Rattle.cs_laws.specs.Realms.{differing, realm_records}
 use Rattle.cs_laws.specs.Runs.{IsRun}
-use Rattle.cs_laws.specs.Standing.{news, news_of, news_on}
+use Rattle.cs_laws.specs.Standing.{has_flush, news, news_of, news_on}
 use Rattle.cs_snapctx.specs.Records.{with_records}
 use Rattle.cs_laws.specs.Tree.{directories, path}
 use Rattle.cs_laws.specs.Laws.{HeldCoversImplemented, IsCovered}
-use Rattle.cs_theorems.proofs.Listed.{Each, each_nil, each_cons}
+use Rattle.cs_theorems.proofs.Listed.{each_nil, each_cons}
+use Rattle.cs_theorems.proofs.News.{each_again, each_news}
 use Rattle.cs_theorems.proofs.Rising.{at_first}
 use Rattle.cs_theorems.proofs.Runs.{in_every_prefix, of_run}
-use Rattle.cs_theorems.proofs.Held.{Within, Holds, Moves, Flying, Acked, cap_seq, cap_seqs, moves_granted, moves_revoked, holds_told, holds_beside, holds_delivered, holds_passed, holds_ack, holds_sent, holds_taken, holds_received}
-use Rattle.cs_theorems.proofs.Inversions.{FlushIs, head_unknown, head_snap, head_clean, head_sent, flush_is, CheckIs, check_unknown, check_nothing, check_hold, check_ack, check_is, FlushSnapsIs, flush_unknown, flush_none, flush_writing, flush_sent, flush_snaps_is, FirstIs, first_idle, first_cap, first_flush_ack, first_snap, first_is, ReceivedIs, received_idle, received_ack, received_flush, received_is, GrantIs, grant_unknown, grant_sent, grant_is, revoke_is}
+use Rattle.cs_theorems.proofs.Held.{Holds, Moves, Flying, Acked, cap_seq, cap_seqs, moves_granted, moves_revoked, none_within, holds_told, holds_beside, holds_delivered, holds_passed, holds_ack, holds_sent, holds_taken, holds_received}
+use Rattle.cs_theorems.proofs.Inversions.{FlushIs, head_unknown, head_snap, head_clean, head_sent, flush_is, CheckIs, check_unknown, check_nothing, check_hold, check_ack, check_is, FlushSnapsIs, flush_unknown, flush_none, flush_writing, flush_sent, flush_snaps_is, FirstIs, first_idle, first_cap, first_flush_ack, first_snap, first_is, ReceivedIs, received_idle, received_ack, received_flush, received_again, received_is, GrantIs, grant_unknown, grant_sent, grant_is, revoke_is}
 
 differs : (g f : ℕ) → (g == f) ≡ false → g ≡ f → ⊥
 differs g f t same = grind (arith, nat_tests)
@@ -71,6 +72,7 @@ received_if false f g seq bits s sg c q p is own i = holds_taken f s c q p (mess
 -- what is told of records carries no capabilities
 
 no_seq_told : (f : ℕ) (before : List Record) (realms : List RealmRecord) (body : RecordBody) → cap_seq f (news_of before realms body) ≡ []
+no_seq_told f before realms (bodies.Request tid op answer) = refl
 no_seq_told f before realms (bodies.Flush snap g tid follows meta) = refl
 no_seq_told f before realms (bodies.Snap number d name) = refl
 no_seq_told f before realms (bodies.Removal s number) = refl
@@ -83,18 +85,14 @@ no_seqs_told f up dirs ss before (r ∷ rs) =
     (sym (no_seq_told f before (differing ss (realm_records up dirs (before ++ r ∷ []))) r.body)) (no_seqs_told f up dirs now (before ++ r ∷ []) rs)
 
 told_flies : (f : ℕ) (s : ServerCaps) (before : List Record) (realms : List RealmRecord) (body : RecordBody) → Flying f s (news_of before realms body)
+told_flies f s before realms (bodies.Request tid op answer) = tt
 told_flies f s before realms (bodies.Flush snap g tid follows meta) = tt
 told_flies f s before realms (bodies.Snap number d name) = tt
 told_flies f s before realms (bodies.Removal t number) = tt
 
-all_told_fly : (f : ℕ) (s : ServerCaps) (up : ℕ → List ℕ) (dirs : List ℕ) (ss : List RealmRecord) (before rs : List Record)
-    → Each (λ m. Flying f s m) (news up dirs ss before rs)
-all_told_fly f s up dirs ss before [] = each_nil (λ m. Flying f s m)
-all_told_fly f s up dirs ss before (r ∷ rs) =
-    let m : Message = news_on up dirs ss before r in
-    let now : List RealmRecord = with_records (realms_of m) ss in
-    each_cons (λ k. Flying f s k) m (news up dirs now (before ++ r ∷ []) rs)
-    (told_flies f s before (differing ss (realm_records up dirs (before ++ r ∷ []))) r.body) (all_told_fly f s up dirs now (before ++ r ∷ []) rs)
+-- nor does the acknowledgement of a flush that came again
+no_seq_again : (f g tid : ℕ) (ds : List Record) → cap_seqs f (acked_again g tid ds) ≡ []
+no_seq_again f g tid ds = cond_both (has_flush g tid ds) _ _ (λ q. cap_seqs f q ≡ []) (λ _. refl) (λ _. refl)
 
 -- Steps
 
@@ -164,14 +162,22 @@ step_to_server h x (received_ack g seq bits p is) i = λ f.
     let now : ServerCaps = cond (g == f) (record (server h f) { held = held_after (server h g) seq bits }) (server h f) in
     at_first (λ y. Server h f y) (λ y. Holds f now (client h f) (to_client h) y) (messages.CapAck g seq bits) p (to_server h) is
     (λ j. received_if (g == f) f g seq bits (server h f) (server h g) (client h f) (to_client h) p refl (λ same. ap (λ k. server h k) same) j) (i f)
-step_to_server h x (received_flush y p is) i = λ f.
+step_to_server h x (received_flush y p is first) i = λ f.
     at_first (λ q. Server h f q) (λ q. Server h f q) (flush_message y) p (to_server h) is
     (λ j. holds_taken f (server h f) (client h f) (to_client h) p (flush_message y) j) (i f)
+step_to_server h x (received_again y p is again) i = λ f.
+    let acks : List Message = acked_again y.file y.tid (durable h) in
+    at_first (λ q. Server h f q) (λ q. Holds f (server h f) (client h f) (to_client h ++ acks) q) (flush_message y) p (to_server h) is
+    (λ j. holds_beside f (server h f) (client h f) (to_client h) p acks (no_seq_again f y.file y.tid (durable h))
+    (each_again (λ m. Flying f (server h f) m) y.file y.tid (durable h) (λ _. tt))
+    (holds_taken f (server h f) (client h f) (to_client h) p (flush_message y) j)) (i f)
 
 step_commit : (h : List Entry) (x : ℕ) → AllHold h → AllHold (record { event = e.Commit; answer = a.Commit x } ∷ h)
 step_commit h x i = λ f.
-    holds_beside f (server h f) (client h f) (to_client h) (to_server h) (news (λ d. path h d) (directories h) (last_sent h) (durable h) (fresh h))
-    (no_seqs_told f (λ d. path h d) (directories h) (last_sent h) (durable h) (fresh h)) (all_told_fly f (server h f) (λ d. path h d) (directories h) (last_sent h) (durable h) (fresh h)) (i f)
+    let up : ℕ → List ℕ = λ d. path h d in
+    holds_beside f (server h f) (client h f) (to_client h) (to_server h) (news up (directories h) (last_sent h) (durable h) (fresh h))
+    (no_seqs_told f up (directories h) (last_sent h) (durable h) (fresh h))
+    (each_news (λ m. Flying f (server h f) m) (told_flies f (server h f)) up (directories h) (last_sent h) (durable h) (fresh h)) (i f)
 
 hold_step : (p : ℕ) (h : List Entry) (x : Event) → AllHold h → AllHold (entry p h x ∷ h)
 hold_step p h (e.Grant g bits end) i = step_grant h g bits end _ (grant_is h g bits end) i
@@ -183,9 +189,6 @@ hold_step p h (e.Flush g) i = step_flush h g _ (flush_is h g) i
 hold_step p h (e.FlushSnaps g) i = step_flush_snaps h g _ (flush_snaps_is h g) i
 hold_step p h e.Commit i = step_commit h (length (fresh h)) i
 hold_step p h _ i = i
-
-none_within : (x : Caps) → Within no_caps x
-none_within x = record { each = λ k has. absurd (no_member k has) }
 
 nothing_held : AllHold []
 nothing_held = λ f. record {

@@ -23,8 +23,8 @@ use Rattle.cs_laws.specs.Tree.{client_file_path, is_directory}
 use Rattle.cs_laws.specs.History.{client, server, realms, to_client, to_server, dirty, live, queued, sent, stand, used, writes}
 use Rattle.cs_laws.specs.Image.{size}
 use Rattle.cs_laws.specs.References.{can_end, named}
-use Rattle.cs_laws.specs.Standing.{greatest_number, has_snap, has_snap_named, is_removed}
-use Rattle.cs_laws.specs.Answers.{answer_begin, answer_chmod, answer_chmod_on, answer_end, answer_check, answer_flush, answer_flush_snaps, answer_flush_snaps_of, answer_read, answer_read_on, answer_to_client, answer_to_client_of, answer_to_mds, answer_to_mds_of, answer_grant, answer_revoke, answer_remove, answer_snap, answer_write, answer_write_on, bytes_within, count_made, held_after, may_change_mode, may_read, may_write}
+use Rattle.cs_laws.specs.Standing.{greatest_number, greatest_tid, has_snap, has_snap_named, is_removed}
+use Rattle.cs_laws.specs.Answers.{answer_begin, answer_chmod, answer_chmod_on, answer_end, answer_check, answer_flush, answer_flush_snaps, answer_flush_snaps_of, answer_flushed, answer_read, answer_read_on, answer_to_client, answer_to_client_of, answer_to_mds, answer_to_mds_of, answer_grant, answer_revoke, answer_remove, answer_snap, answer_write, answer_write_on, bytes_within, count_made, held_after, may_change_mode, may_read, may_write}
 
 pub data BeginIs (h : List Entry) (c f : ℕ) (b : Caps) : Answer → Type 0 where
   begin_unknown : BeginIs h c f b a.Unknown
@@ -160,6 +160,7 @@ pub data FirstIs (h : List Entry) : Answer → Type 0 where
 first_is_of : (h : List Entry) (q : List Message) → to_client h ≡ q → FirstIs h (answer_to_client_of h q)
 first_is_of h [] is = first_idle
 first_is_of h (messages.Cap f seq bits end ∷ q) is = first_cap f seq bits end q is
+first_is_of h (messages.Safe tid ∷ q) is = first_idle
 first_is_of h (messages.FlushAck f tid ∷ q) is = first_flush_ack f tid q is
 first_is_of h (messages.Snap number realm told ∷ q) is = first_snap number realm told q is
 first_is_of h (messages.CapAck f seq bits ∷ q) is = first_idle
@@ -173,16 +174,24 @@ pub data ReceivedIs (h : List Entry) : Answer → Type 0 where
   received_idle : ReceivedIs h a.Idle
   received_ack : (f seq : ℕ) (bits : Caps) (q : List Message) → to_server h ≡ messages.CapAck f seq bits ∷ q
       → ReceivedIs h (a.CapAck f seq (held_after (server h f) seq bits))
-  received_flush : (x : Flush) (q : List Message) → to_server h ≡ flush_message x ∷ q → ReceivedIs h (a.Flushed x.file x.tid)
+  received_flush : (x : Flush) (q : List Message) → to_server h ≡ flush_message x ∷ q → nat_lt (greatest_tid x.file (stand h)) x.tid ≡ true
+      → ReceivedIs h (a.Flushed x.file x.tid)
+  received_again : (x : Flush) (q : List Message) → to_server h ≡ flush_message x ∷ q → nat_lt (greatest_tid x.file (stand h)) x.tid ≡ false
+      → ReceivedIs h (a.FlushDup x.file x.tid)
+
+flushed_is : (h : List Entry) (x : Flush) (q : List Message) → to_server h ≡ flush_message x ∷ q → ReceivedIs h (answer_flushed (stand h) x.file x.tid)
+flushed_is h x q is =
+    cond_both (nat_lt (greatest_tid x.file (stand h)) x.tid) _ _ (ReceivedIs h) (λ first. received_flush x q is first) (λ again. received_again x q is again)
 
 received_is_of : (h : List Entry) (q : List Message) → to_server h ≡ q → ReceivedIs h (answer_to_mds_of h q)
 received_is_of h [] is = received_idle
 received_is_of h (messages.CapAck f seq bits ∷ q) is = received_ack f seq bits q is
 received_is_of h (messages.Flush f tid follows meta ∷ q) is =
-    received_flush (record { tid = tid; file = f; follows = follows; meta = meta; snap = false }) q is
+    flushed_is h (record { tid = tid; file = f; follows = follows; meta = meta; snap = false }) q is
 received_is_of h (messages.FlushSnap f tid follows meta ∷ q) is =
-    received_flush (record { tid = tid; file = f; follows = follows; meta = meta; snap = true }) q is
+    flushed_is h (record { tid = tid; file = f; follows = follows; meta = meta; snap = true }) q is
 received_is_of h (messages.Cap f seq bits end ∷ q) is = received_idle
+received_is_of h (messages.Safe tid ∷ q) is = received_idle
 received_is_of h (messages.FlushAck f tid ∷ q) is = received_idle
 received_is_of h (messages.Snap number realm realms ∷ q) is = received_idle
 

@@ -125,6 +125,11 @@ last_with f a (bodies.Flush snap g tid follows meta) rs best i =
     cond_both ((g == f) && is_before a follows) (later_of x best) best (IsLast f a (flush_record x ∷ rs))
     (λ is. let parts = and_parts (g == f) (is_before a follows) is in last_more f a x rs best (eqb-true g f parts.0, parts.1) i)
     (λ isnt. last_beside f a (flush_record x) rs best (λ y is of. other_file f a x y is of isnt) i)
+last_with f a (bodies.Request tid op answer) rs best i =
+    last_beside f a (record { body = bodies.Request tid op answer }) rs best (λ x is of. absurd (no_flush x is)) i
+  where
+    no_flush : (x : Flush) → bodies.Request tid op answer ≡ (flush_record x).body → ⊥
+    no_flush x is = absurd cc
 last_with f a (bodies.Snap number d name) rs best i =
     last_beside f a (record { body = bodies.Snap number d name }) rs best (λ x is of. absurd (no_flush x is)) i
   where

@@ -2,6 +2,7 @@
 pub mod Listed
 pub mod Tests
 pub mod Rising
+pub mod Ascending
 pub mod Numbers
 pub mod Orderings
 pub mod Overlays
@@ -10,6 +11,7 @@ pub mod Pieces
 pub mod Runs
 pub mod Inversions
 pub mod Refused
+pub mod News
 -- References and their uses
 pub mod Begun
 pub mod Uses
@@ -18,6 +20,7 @@ pub mod AcksFree
 -- Capabilities, at both ends and on their way
 pub mod Held
 pub mod HeldCovers
+pub mod CapsFit
 -- Files that aren't known, counts and limits
 pub mod Blank
 pub mod Untouched
@@ -58,12 +61,13 @@ pub mod QueueSteps
 pub mod QueueAnswers
 pub mod Unsent
 -- Flushes and acknowledgements
-pub mod Chains
-pub mod Places
+pub mod Replays
+pub mod Standing
+pub mod Numbered
+pub mod FlushReplays
 pub mod Acks
 pub mod Retired
 pub mod OnceStanding
-pub mod Numbered
 pub mod Unacked
 pub mod UnackedSteps
 pub mod Waiting
@@ -79,6 +83,9 @@ pub mod Owing
 pub mod Recorded
 pub mod RecordedSteps
 pub mod RecordedPlaces
+-- What has a spelling in bytes
+pub mod MetaFits
+pub mod Spelled
 -- Contents, and all together
 pub mod Images
 pub mod Course

@@ -18,22 +18,22 @@ use Rattle.cs_laws.specs.declared.records.Record.{Record}
 use Rattle.cs_laws.specs.Answers.{answer_made, is_in_use}
 use Rattle.cs_laws.specs.Context.{with_first, path_context}
 use Rattle.cs_laws.specs.Events.{setup_file}
-use Rattle.cs_laws.specs.Flight.{cap_message}
+use Rattle.cs_laws.specs.Flight.{acked_again, cap_message}
 use Rattle.cs_laws.specs.Flushes.{flush_record}
 use Rattle.cs_laws.specs.History.{context, durable, fresh, last_sent, realms, server, to_client}
 use Rattle.cs_laws.specs.Journal.{entry}
 use Rattle.cs_laws.specs.Realms.{is_realm}
-use Rattle.cs_laws.specs.Standing.{news, recorded, sent_with}
+use Rattle.cs_laws.specs.Standing.{has_flush, news, recorded, sent_with}
 use Rattle.cs_laws.specs.Carried.{realms_on}
 use Rattle.cs_laws.specs.Tree.{client_file_path, client_home, directories, is_directory, path, setup_dir}
 use Rattle.cs_theorems.specs.Realms.{ParentsAreKnown}
 use Rattle.cs_theorems.proofs.Drawn.{DrawnAt}
 use Rattle.cs_theorems.proofs.Fronts.{OfDir, of_more, realm_dir, root_has}
-use Rattle.cs_theorems.proofs.Inversions.{FirstIs, first_idle, first_cap, first_flush_ack, first_snap, first_is, GrantIs, grant_unknown, grant_sent, grant_is, ReceivedIs, received_idle, received_ack, received_flush, received_is, RemoveIs, remove_none, remove_gone, removed, remove_is, revoke_is, SnapIs, snap_unknown, snap_exists, snap_taken, snap_is}
+use Rattle.cs_theorems.proofs.Inversions.{FirstIs, first_idle, first_cap, first_flush_ack, first_snap, first_is, GrantIs, grant_unknown, grant_sent, grant_is, ReceivedIs, received_idle, received_ack, received_flush, received_again, received_is, RemoveIs, remove_none, remove_gone, removed, remove_is, revoke_is, SnapIs, snap_unknown, snap_exists, snap_taken, snap_is}
 use Rattle.cs_theorems.proofs.Listed.{Each, each_append, each_end, each_nil}
 use Rattle.cs_theorems.proofs.Listing.{ListingAt}
 use Rattle.cs_theorems.proofs.Paths.{TreeAt, still_dir, with_path}
-use Rattle.cs_theorems.proofs.Places.{recorded_one}
+use Rattle.cs_theorems.proofs.Standing.{recorded_one}
 use Rattle.cs_theorems.specs.Contexts.{Rises}
 use Rattle.cs_theorems.proofs.Along.{Along, along_first, context_rises, delivers, makes, realms_made}
 use Rattle.cs_theorems.proofs.Commits.{Told, told_commit}
@@ -60,6 +60,12 @@ module _ (dir : ℕ → Bool) (up : ℕ → List ℕ) (ss ts : List RealmRecord)
 
 linked_end : (q : List Message) (m : Message) → realms_on m ≡ None → carried (q ++ m ∷ []) ≡ carried q
 linked_end q m none = filter_map-append realms_on q (m ∷ []) ∙ (ap (λ o. carried q ++ cons_option o []) none ∙ append-nil (carried q))
+
+-- the acknowledgement of a flush that came again
+linked_again : (q : List Message) (f tid : ℕ) (ds : List Record) → carried (q ++ acked_again f tid ds) ≡ carried q
+linked_again q f tid ds =
+    cond_both (has_flush f tid ds) _ _ (λ p. carried (q ++ p) ≡ carried q)
+    (λ _. linked_end q (messages.FlushAck f tid) refl) (λ _. ap carried (append-nil q))
 
 linked_commit : (p : ℕ) (h : List Entry) → ListingAt h → LinkedAt h → LinkedAt (entry p h e.Commit ∷ h)
 linked_commit p h listing i = record {
@@ -122,10 +128,11 @@ step_client h x (first_snap n d now q there) i =
 step_server : (h : List Entry) (x : Answer) → ReceivedIs h x → LinkedAt h → LinkedAt (record { event = e.ToMds; answer = x } ∷ h)
 step_server h x received_idle i = i
 step_server h x (received_ack f seq bits q there) i = i
-step_server h x (received_flush y q there) i =
+step_server h x (received_flush y q there first) i =
     subst (λ p. Linked (λ k. is_directory h k) (λ k. path h k) (last_sent h) (realms h) (to_client h) (durable h) (fresh h ++ recorded p)) (sym there)
     (subst (λ rs. Linked (λ k. is_directory h k) (λ k. path h k) (last_sent h) (realms h) (to_client h) (durable h) (fresh h ++ rs)) (sym (recorded_one y))
     (linked_record _ _ _ _ _ _ _ (flush_record y) tt i))
+step_server h x (received_again y q there again) i = linked_message _ _ _ _ _ _ _ _ (linked_again (to_client h) y.file y.tid (durable h)) i
 
 step_snap : (h : List Entry) (d : ℕ) (name : List ℕ) (x : Answer) → SnapIs h d name x → LinkedAt h → LinkedAt (record { event = e.Snap d name; answer = x } ∷ h)
 step_snap h d name x snap_unknown i = i

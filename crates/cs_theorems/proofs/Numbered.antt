@@ -1,7 +1,7 @@
--- The second law of flushes: they are sent under the numbers 1, 2, 3, .. in order, and none stands or flies that wasn't sent.
-use Rattle.std.proofs.Common.{◌≡◌, refl, sym, ap, ◌∙◌, ℕ, ◌+◌, List, [], ◌∷◌, ◌++◌, map, length, arith}
+-- Flushes are sent under the numbers 1, 2, 3, .. in order.
+use Rattle.std.proofs.Common.{◌≡◌, refl, sym, ap, ◌∙◌, ℕ, ◌+◌, ◌≤◌, List, [], ◌∷◌, ◌++◌, map, length, inl, inr, arith}
 use Rattle.std.specs.List.{range_with_len}
-use Rattle.std.proofs.lemmas.List.{map-append}
+use Rattle.std.proofs.lemmas.List.{length-append, map-append}
 use Rattle.cs_laws.specs.declared.events.Event.{Event}
 use Rattle.cs_laws.specs.declared.events.Event.TheVariants as e
 use Rattle.cs_laws.specs.declared.answers.Answer.{Answer}
@@ -9,16 +9,18 @@ use Rattle.cs_laws.specs.declared.answers.Entry.{Entry}
 use Rattle.cs_laws.specs.Flushes.{Flush}
 use Rattle.cs_laws.specs.History.{sent}
 use Rattle.cs_laws.specs.Journal.{entry}
+use Rattle.cs_laws.specs.Lists.{Each}
 use Rattle.cs_laws.specs.Runs.{IsRun}
+use Rattle.cs_theorems.specs.Replays.{last_from, last_tid}
 use Rattle.cs_theorems.proofs.Runs.{of_run}
-use Rattle.cs_theorems.specs.Flushes.{FlushesAreNumbered}
 use Rattle.cs_theorems.proofs.Numbers.{range_end}
-use Rattle.cs_theorems.proofs.Chains.{one_longer}
-use Rattle.cs_theorems.proofs.Places.{AllPlaced, run_placed}
 use Rattle.cs_theorems.proofs.Inversions.{FlushIs, head_unknown, head_snap, head_clean, head_sent, flush_is, FlushSnapsIs, flush_unknown, flush_none, flush_writing, flush_sent, flush_snaps_is}
 
-abbrev Numbered : List Flush → Type 0
+abbrev pub Numbered : List Flush → Type 0
 Numbered xs = map (λ x. x.tid) xs ≡ range_with_len 1 (length xs)
+
+one_longer : {A : Type 0} (xs : List A) (x : A) → length xs + 1 ≡ length (xs ++ x ∷ [])
+one_longer xs x = omega (arith, length-append xs (x ∷ []))
 
 numbered_more : (xs : List Flush) (x : Flush) → x.tid ≡ length xs + 1 → Numbered xs → Numbered (xs ++ x ∷ [])
 numbered_more xs x next i =
@@ -39,14 +41,35 @@ step_flush h g x head_snap i = i
 step_flush h g x head_clean i = i
 step_flush h g x (head_sent known free changed) i = numbered_more (sent h) _ refl i
 
-numbered_step : (p : ℕ) (h : List Entry) (x : Event) → Numbered (sent h) → Numbered (sent (entry p h x ∷ h))
+pub numbered_step : (p : ℕ) (h : List Entry) (x : Event) → Numbered (sent h) → Numbered (sent (entry p h x ∷ h))
 numbered_step p h (e.Flush g) i = step_flush h g _ (flush_is h g) i
 numbered_step p h (e.FlushSnaps g) i = step_flush_snaps h g _ (flush_snaps_is h g) i
 numbered_step p h _ i = i
 
-are_numbered : (h : List Entry) → Numbered (sent h) → AllPlaced h → FlushesAreNumbered h
-are_numbered h i places = record { numbered = i; standing = places.standing; flying = places.flying }
+pub run_numbered : (p : ℕ) (h : List Entry) → IsRun p h → Numbered (sent h)
+run_numbered p h run = of_run p (λ g. Numbered (sent g)) refl (λ g x fit before i. numbered_step p g x i) h run
 
-pub flushes_numbered : (p : ℕ) (h : List Entry) → IsRun p h → FlushesAreNumbered h
-flushes_numbered p h run =
-    are_numbered h (of_run p (λ g. Numbered (sent g)) refl (λ g x fit before i. numbered_step p g x i) h run) (run_placed p h run)
+-- So the last number is how many were sent, and no number is greater.
+
+heads : {m n : ℕ} {ms ns : List ℕ} → m ∷ ms ≡ n ∷ ns → m ≡ n
+heads is = cc
+
+tails : {m n : ℕ} {ms ns : List ℕ} → m ∷ ms ≡ n ∷ ns → ms ≡ ns
+tails is = cc
+
+last_by : (n : ℕ) (xs : List Flush) → map (λ x. x.tid) xs ≡ range_with_len (n + 1) (length xs) → last_from (λ x. x.tid) n xs ≡ n + length xs
+last_by n [] is = omega arith
+last_by n (x ∷ xs) is =
+    let first : x.tid ≡ n + 1 = heads is in
+    ap (λ k. last_from (λ y. y.tid) k xs) first ∙ (last_by (n + 1) xs (tails is) ∙ omega arith)
+
+pub last_numbered : (xs : List Flush) → Numbered xs → last_tid (λ x. x.tid) xs ≡ length xs
+last_numbered xs i = last_by 0 xs i ∙ omega arith
+
+upto_by : (n : ℕ) (xs : List Flush) → map (λ x. x.tid) xs ≡ range_with_len (n + 1) (length xs) → Each (λ x. x.tid ≤ n + length xs) xs
+upto_by n [] is y there = absurd there
+upto_by n (x ∷ xs) is y (inl same) = let first : x.tid ≡ n + 1 = heads is in omega (arith, first, ap (λ (z : Flush). z.tid) same)
+upto_by n (x ∷ xs) is y (inr there) = omega (arith, upto_by (n + 1) xs (tails is) y there)
+
+pub upto_numbered : (xs : List Flush) → Numbered xs → Each (λ x. x.tid ≤ length xs) xs
+upto_numbered xs i x there = omega (arith, upto_by 0 xs i x there)

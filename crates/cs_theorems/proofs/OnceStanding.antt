@@ -8,19 +8,18 @@ use Rattle.cs_laws.specs.declared.answers.Answer.{Answer}
 use Rattle.cs_laws.specs.declared.answers.Answer.TheVariants as a
 use Rattle.cs_laws.specs.declared.answers.Entry.{Entry}
 use Rattle.cs_laws.specs.Flushes.{Flush, acked, acked_then, sent_then}
-use Rattle.cs_laws.specs.History.{present, sent, snap, stand, to_server}
+use Rattle.cs_laws.specs.History.{present, sent, snap, stand}
 use Rattle.cs_laws.specs.Owed.{is_acked, is_later}
 use Rattle.cs_laws.specs.Laws.{AckedStandOnce, FlushesRise, FlushesStandOnce, InEveryPrefix, tids}
-use Rattle.cs_laws.specs.Lists.{RisesFrom}
 use Rattle.cs_laws.specs.Runs.{IsRun}
 use Rattle.cs_theorems.proofs.Runs.{in_every_prefix}
 use Rattle.cs_theorems.proofs.Listed.{Member, member_left}
 use Rattle.cs_theorems.proofs.Numbers.{times_once}
-use Rattle.cs_theorems.proofs.Rising.{rises_front}
-use Rattle.cs_theorems.proofs.Chains.{AllRise, flight, run_rise}
+use Rattle.cs_theorems.specs.Flushes.{FlushesReplay}
 use Rattle.cs_theorems.proofs.Acks.{AllAcked, run_acked}
-use Rattle.cs_theorems.proofs.Places.{AllPlaced, run_placed}
-use Rattle.cs_theorems.proofs.Retired.{record_member, retired_stands}
+use Rattle.cs_theorems.proofs.FlushReplays.{flushes_rise, run_replay}
+use Rattle.cs_theorems.proofs.Retired.{retired_stands}
+use Rattle.cs_theorems.proofs.Standing.{record_member}
 use Rattle.cs_theorems.proofs.Tests.{any_some, any_true}
 
 still : (b was : Bool) → was ≡ true → cond b true was ≡ true
@@ -65,15 +64,12 @@ retired_since : (new before : List Entry) (z : Flush) → is_acked before z ≡ 
 retired_since [] before z was = was
 retired_since (x ∷ new) before z was = retired_on x (new ++ before) z (retired_since new before z was)
 
-rise : (h : List Entry) → AllRise h → (f : ℕ) → RisesFrom 0 (tids f (stand h))
-rise h i f = rises_front 0 _ (tids f (stand h)) (flight f (to_server h)) (i f).rises
-
-acked_once : (h : List Entry) → AllRise h → AllAcked h → AllPlaced h → AckedStandOnce h h
-acked_once h i j k x there is =
-    times_once 0 x.tid (tids x.file (stand h)) (rise h i x.file) (record_member x.file x (stand h) refl (retired_stands h i j k x there is))
+acked_once : (h : List Entry) → FlushesReplay h → AllAcked h → AckedStandOnce h h
+acked_once h i acks x there is =
+    times_once 0 x.tid (tids x.file (stand h)) (flushes_rise h i x.file) (record_member x.file x (stand h) refl (retired_stands h i acks x there is))
 
 run_acked_once : (p : ℕ) (h : List Entry) → IsRun p h → AckedStandOnce h h
-run_acked_once p h run = acked_once h (run_rise p h run) (run_acked p h run) (run_placed p h run)
+run_acked_once p h run = acked_once h (run_replay p h run) (run_acked p h run)
 
 -- what was acknowledged before is acknowledged
 pub once_later : (p : ℕ) (before new : List Entry) → IsRun p (new ++ before) → AckedStandOnce before (new ++ before)
@@ -82,7 +78,7 @@ once_later p before new run x there was =
 
 pub flushes_once : (p : ℕ) (h : List Entry) → IsRun p h → FlushesStandOnce h
 flushes_once p h run = record {
-  rise = in_every_prefix p FlushesRise (λ g is. rise g (run_rise p g is)) h run;
+  rise = in_every_prefix p FlushesRise (λ g is. flushes_rise g (run_replay p g is)) h run;
   once = in_every_prefix p (λ later. InEveryPrefix (λ before. AckedStandOnce before later) later) (λ g run_g before new is.
       subst (λ k. AckedStandOnce before k) (sym is) (once_later p before new (subst (λ k. IsRun p k) is run_g))) h run;
 }

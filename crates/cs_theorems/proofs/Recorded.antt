@@ -1,7 +1,7 @@
 -- The server's table of a file's flushes has what the standing records tell of them.
-use Rattle.std.proofs.Common.{◌≡◌, refl, sym, ap, ◌∙◌, subst, ℕ, ◌<◌, Bool, true, false, cond, ◌==◌, List, [], ◌∷◌, ◌++◌, Option, Some, None, append_assoc, unwrap_or, ◌&&◌, inl, inr, length, arith}
+use Rattle.std.proofs.Common.{◌≡◌, refl, sym, ap, ◌∙◌, subst, ℕ, ◌<◌, Bool, true, false, cond, ◌==◌, List, [], ◌∷◌, ◌++◌, Option, Some, None, append_assoc, unwrap_or, ◌&&◌, arith}
 use Rattle.std.specs.Option.{option_map}
-use Rattle.std.proofs.lemmas.Bool.{cond_both, eq-eqb, eqb-true}
+use Rattle.std.proofs.lemmas.Bool.{cond_both, eqb-true, ltb-true}
 use Rattle.std.proofs.lemmas.List.{append-nil}
 use Rattle.cs_ids.specs.declared.objects.FileMeta.{FileMeta}
 use Rattle.cs_laws.specs.declared.events.Event.{Event}
@@ -14,21 +14,19 @@ use Rattle.cs_laws.specs.declared.messages.Message.TheVariants as messages
 use Rattle.cs_laws.specs.declared.objects.At.{At}
 use Rattle.cs_laws.specs.declared.records.Record.{Record}
 use Rattle.cs_laws.specs.Flushes.{Flush, flush_message, flush_record}
-use Rattle.cs_laws.specs.History.{durable, fresh, sent, stand, to_server}
+use Rattle.cs_laws.specs.History.{durable, fresh, stand, to_server}
 use Rattle.cs_laws.specs.Journal.{entry}
 use Rattle.cs_laws.specs.Metadata.{last_flush, later_of, meta_at, meta_of, no_meta}
 use Rattle.cs_laws.specs.Shown.{is_before}
-use Rattle.cs_laws.specs.Standing.{recorded}
+use Rattle.cs_laws.specs.Standing.{greatest_tid, recorded}
 use Rattle.cs_laws.specs.Laws.{tids}
 use Rattle.cs_laws.specs.Runs.{IsRun}
-use Rattle.cs_theorems.proofs.Places.{recorded_one}
 use Rattle.cs_theorems.specs.Recorded.{recorded_meta, recorded_meta_then, with_first, with_message, with_recorded}
 use Rattle.cs_theorems.specs.RecordedAt.{last_recorded}
-use Rattle.cs_theorems.proofs.Chains.{flight, flight_tid, run_rise}
-use Rattle.cs_theorems.proofs.Inversions.{ReceivedIs, received_idle, received_ack, received_flush, received_is, RemoveIs, remove_none, remove_gone, removed, remove_is, SnapIs, snap_unknown, snap_exists, snap_taken, snap_is}
-use Rattle.cs_theorems.proofs.Listed.{Each, member_right}
-use Rattle.cs_theorems.proofs.Rising.{RisesTo, rises_member}
+use Rattle.cs_theorems.proofs.Inversions.{ReceivedIs, received_idle, received_ack, received_flush, received_again, received_is, RemoveIs, remove_none, remove_gone, removed, remove_is, SnapIs, snap_unknown, snap_exists, snap_taken, snap_is}
+use Rattle.cs_theorems.proofs.Listed.{Each, Member}
 use Rattle.cs_theorems.proofs.Runs.{of_run}
+use Rattle.cs_theorems.proofs.Standing.{recorded_one, tids_upto}
 use Rattle.cs_theorems.proofs.RecordedSteps.{IsBeside, Rises, last_before_is, last_beside, last_end, last_pair, last_with, newer, pair_newer, pair_of, rises_with}
 
 -- The numbers rise
@@ -38,10 +36,7 @@ rises_message f (messages.Flush g tid follows meta) xs up =
     cond_both (g == f) (with_recorded (follows, meta) xs) xs (Rises 0) (λ _. rises_with 0 (follows, meta) xs (omega arith) up) (λ _. up)
 rises_message f (messages.FlushSnap g tid follows meta) xs up =
     cond_both (g == f) (with_recorded (follows, meta) xs) xs (Rises 0) (λ _. rises_with 0 (follows, meta) xs (omega arith) up) (λ _. up)
-rises_message f (messages.Cap g seq bits end) xs up = up
-rises_message f (messages.CapAck g seq bits) xs up = up
-rises_message f (messages.FlushAck g tid) xs up = up
-rises_message f (messages.Snap number d realms) xs up = up
+rises_message f _ xs up = up
 
 rises_first : (f : ℕ) (q : List Message) (xs : List (ℕ × FileMeta)) → Rises 0 xs → Rises 0 (with_first f q xs)
 rises_first f [] xs up = up
@@ -64,30 +59,6 @@ recorded_meta_own f x xs = at x.snap
         ≡ cond (x.file == f) (with_recorded (x.follows, x.meta) xs) xs
     at true = refl
     at false = refl
-
-flies : (f : ℕ) (x : Flush) → flight_tid f (flush_message x) ≡ cond (x.file == f) (x.tid ∷ []) []
-flies f x = at x.snap
-  where
-    at : (b : Bool) → flight_tid f (cond b (messages.FlushSnap x.file x.tid x.follows x.meta) (messages.Flush x.file x.tid x.follows x.meta))
-        ≡ cond (x.file == f) (x.tid ∷ []) []
-    at true = refl
-    at false = refl
-
-rises_before : (s t n : ℕ) (xs ys : List ℕ) → RisesTo s (xs ++ n ∷ ys) t → Each (λ m. m < n) xs
-rises_before s t n [] ys up m there = absurd there
-rises_before s t n (x ∷ xs) ys up m (inl is) =
-    omega (arith, is, (rises_member x t n (xs ++ n ∷ ys) up.1 (member_right n xs (n ∷ ys) (inl refl))).0)
-rises_before s t n (x ∷ xs) ys up m (inr there) = rises_before x t n xs ys up.1 m there
-
--- it was sent behind all that stand of its file
-sent_behind : (h : List Entry) (f : ℕ) (x : Flush) (q : List Message) → to_server h ≡ flush_message x ∷ q → x.file ≡ f
-    → RisesTo 0 (tids f (stand h) ++ flight f (to_server h)) (length (sent h)) → Each (λ t. t < x.tid) (tids f (stand h))
-sent_behind h f x q there own up =
-    rises_before 0 (length (sent h)) x.tid (tids f (stand h)) (flight f q)
-    (subst (λ ns. RisesTo 0 (tids f (stand h) ++ ns) (length (sent h))) now up)
-  where
-    now : flight f (to_server h) ≡ x.tid ∷ flight f q
-    now = ap (flight f) there ∙ (ap (λ ns. ns ++ flight f q) (flies f x) ∙ ap (λ b. cond b (x.tid ∷ []) [] ++ flight f q) (eq-eqb x.file f own))
 
 -- The table beside the records
 
@@ -113,16 +84,21 @@ agrees_beside : (f : ℕ) (xs : List (ℕ × FileMeta)) (ds fs : List Record) (r
 agrees_beside f xs ds fs r other i at =
     i at ∙ ap pair_of (sym (ap (last_flush f at) (sym (append_assoc ds fs (r ∷ []))) ∙ last_beside f at (ds ++ fs) r (other at)))
 
-step_server : (p : ℕ) (h : List Entry) (x : Answer) → IsRun p h → ReceivedIs h x → AllAgree h → AllAgree (record { event = e.ToMds; answer = x } ∷ h)
-step_server p h x run received_idle i = i
-step_server p h x run (received_ack g seq bits q there) i = i
-step_server p h x run (received_flush y q there) i = λ f.
+step_server : (h : List Entry) (x : Answer) → ReceivedIs h x → AllAgree h → AllAgree (record { event = e.ToMds; answer = x } ∷ h)
+step_server h x received_idle i = i
+step_server h x (received_ack g seq bits q there) i = i
+step_server h x (received_flush y q there first) i = λ f.
     subst (λ ms. Agrees f (with_first f ms (recorded_meta h f)) (durable h ++ (fresh h ++ recorded ms))) (sym there)
     (subst (λ rs. Agrees f (with_message f (flush_message y) (recorded_meta h f)) (durable h ++ (fresh h ++ rs))) (sym (recorded_one y))
     (subst (λ xs. Agrees f xs (durable h ++ (fresh h ++ flush_record y ∷ []))) (sym (recorded_meta_own f y (recorded_meta h f)))
     (subst (λ rs. Agrees f (cond (y.file == f) (with_recorded (y.follows, y.meta) (recorded_meta h f)) (recorded_meta h f)) rs) (append_assoc (durable h) (fresh h) (flush_record y ∷ []))
-    (agrees_end f (recorded_meta h f) (stand h) y (y.file == f) refl (rises h f)
-    (λ own. sent_behind h f y q there (eqb-true y.file f own) (run_rise p h run f).rises) (i f)))))
+    (agrees_end f (recorded_meta h f) (stand h) y (y.file == f) refl (rises h f) (λ own. all_below (eqb-true y.file f own)) (i f)))))
+  where
+    all_below : {f : ℕ} → y.file ≡ f → Each (λ t. t < y.tid) (tids f (stand h))
+    all_below own t there =
+        let more : greatest_tid y.file (stand h) < y.tid = ltb-true (greatest_tid y.file (stand h)) y.tid first in
+        omega (arith, more, tids_upto y.file (stand h) t (subst (λ g. Member t (tids g (stand h))) (sym own) there))
+step_server h x (received_again y q there again) i = i
 
 step_snap : (h : List Entry) (d : ℕ) (name : List ℕ) (x : Answer) → SnapIs h d name x → AllAgree h → AllAgree (record { event = e.Snap d name; answer = x } ∷ h)
 step_snap h d name x snap_unknown i = i
@@ -134,15 +110,15 @@ step_remove h t x remove_none i = i
 step_remove h t x remove_gone i = i
 step_remove h t x (removed there stays) i = λ f. agrees_beside f (recorded_meta h f) (durable h) (fresh h) _ (λ at o. refl) (i f)
 
-agree_step : (p : ℕ) (h : List Entry) (x : Event) → IsRun p h → AllAgree h → AllAgree (entry p h x ∷ h)
-agree_step p h e.ToMds run i = step_server p h _ run (received_is h) i
-agree_step p h (e.Snap d name) run i = step_snap h d name _ (snap_is h d name) i
-agree_step p h (e.RmSnap t) run i = step_remove h t _ (remove_is h t) i
-agree_step p h e.Commit run i = λ f. subst (λ rs. Agrees f (recorded_meta h f) rs) (sym (append-nil (stand h))) (i f)
-agree_step p h _ run i = i
+agree_step : (p : ℕ) (h : List Entry) (x : Event) → AllAgree h → AllAgree (entry p h x ∷ h)
+agree_step p h e.ToMds i = step_server h _ (received_is h) i
+agree_step p h (e.Snap d name) i = step_snap h d name _ (snap_is h d name) i
+agree_step p h (e.RmSnap t) i = step_remove h t _ (remove_is h t) i
+agree_step p h e.Commit i = λ f. subst (λ rs. Agrees f (recorded_meta h f) rs) (sym (append-nil (stand h))) (i f)
+agree_step p h _ i = i
 
 all_agree : (p : ℕ) (h : List Entry) → IsRun p h → AllAgree h
-all_agree p h run = of_run p AllAgree (λ f at. refl) (λ g x fit before i. agree_step p g x before i) h run
+all_agree p h run = of_run p AllAgree (λ f at. refl) (λ g x fit before i. agree_step p g x i) h run
 
 found_meta : (o : Option Flush) → meta_of o ≡ unwrap_or (option_map (λ x. x.1) (pair_of o)) no_meta
 found_meta None = refl

@@ -216,6 +216,7 @@ last_body : (f : ℕ) (a : At) (b : Bool) (body : RecordBody) (x : Flush) (rs : 
 last_body f a b (bodies.Flush snap g tid follows meta) x rs o low =
     exchanged b ((g == f) && is_before a follows) (record { tid = tid; file = g; follows = follows; meta = meta; snap = snap }) x o
     (λ is. low tid (subst (λ c. Member tid (cond c (tid ∷ []) [] ++ tids f rs)) (sym (and_parts (g == f) (is_before a follows) is).0) (inl refl)))
+last_body f a b (bodies.Request tid op answer) x rs o low = refl
 last_body f a b (bodies.Snap number d name) x rs o low = refl
 last_body f a b (bodies.Removal t number) x rs o low = refl
 

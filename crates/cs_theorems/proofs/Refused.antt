@@ -54,14 +54,16 @@ servers (e.Revoke g bits) (a.SentCap seq held) f s r = cc
 servers e.ToMds (a.CapAck g seq held) f s r = cc
 servers _ _ f s r = refl
 
-clients_way : (x : Event) (y : Answer) (s : ℕ → ServerCaps) (news q : List Message) → is_refusal x y ≡ true → to_client_then x y s news q ≡ q
-clients_way (e.Grant g bits end) (a.SentCap seq held) s news q r = cc
-clients_way (e.Revoke g bits) (a.SentCap seq held) s news q r = cc
-clients_way e.Commit (a.Commit count) s news q r = cc
-clients_way e.ToClient (a.Cap g seq bits end) s news q r = cc
-clients_way e.ToClient (a.FlushAck g tid) s news q r = cc
-clients_way e.ToClient (a.SnapTold number realm count) s news q r = cc
-clients_way _ _ s news q r = refl
+clients_way : (x : Event) (y : Answer) (s : ℕ → ServerCaps) (ds : List Record) (news q : List Message) → is_refusal x y ≡ true
+    → to_client_then x y s ds news q ≡ q
+clients_way (e.Grant g bits end) (a.SentCap seq held) s ds news q r = cc
+clients_way (e.Revoke g bits) (a.SentCap seq held) s ds news q r = cc
+clients_way e.Commit (a.Commit count) s ds news q r = cc
+clients_way e.ToMds (a.FlushDup f tid) s ds news q r = cc
+clients_way e.ToClient (a.Cap g seq bits end) s ds news q r = cc
+clients_way e.ToClient (a.FlushAck g tid) s ds news q r = cc
+clients_way e.ToClient (a.SnapTold number realm count) s ds news q r = cc
+clients_way _ _ s ds news q r = refl
 
 servers_way : (x : Event) (y : Answer) (now : ℕ → ℕ → Flush) (old : ℕ → ℕ → ℕ → Flush) (q : List Message) → is_refusal x y ≡ true
     → to_server_then x y now old q ≡ q
@@ -70,6 +72,7 @@ servers_way (e.Flush g) (a.Flush tid) now old q r = cc
 servers_way (e.FlushSnaps g) (a.FlushSnap tid follows) now old q r = cc
 servers_way e.ToMds (a.CapAck g seq held) now old q r = cc
 servers_way e.ToMds (a.Flushed g tid) now old q r = cc
+servers_way e.ToMds (a.FlushDup g tid) now old q r = cc
 servers_way _ _ now old q r = refl
 
 durables : (x : Event) (y : Answer) (fs ds : List Record) → is_refusal x y ≡ true → durable_then x y fs ds ≡ ds
@@ -202,7 +205,7 @@ as_before h x r =
       client = λ f. clients x.event x.answer f (client h f) r;
       server = λ f. servers x.event x.answer f (server h f) r;
       session = refl;
-      to_client = clients_way x.event x.answer (λ f. server h f) told_now (to_client h) r;
+      to_client = clients_way x.event x.answer (λ f. server h f) (durable h) told_now (to_client h) r;
       to_server = servers_way x.event x.answer (present h) (snap h) (to_server h) r;
       durable = durables x.event x.answer (fresh h) (durable h) r;
       fresh = added x.event x.answer (to_server h) (fresh h) r;

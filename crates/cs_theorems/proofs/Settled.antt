@@ -51,4 +51,4 @@ was_acked h f a x free of_f before =
 pub sent_stands : (h : List Entry) → Footing h → (f : ℕ) (a : At) → Settled h f a → (x : Flush) → Member x (sent h) → x.file ≡ f
     → is_before a x.follows ≡ true → Member (flush_record x) (stand h)
 sent_stands h i f a free x there of_f before =
-    retired_stands h i.rise i.acked i.placed x there (was_acked h f a x (free.acked x there) of_f before)
+    retired_stands h i.replay i.acked x there (was_acked h f a x (free.acked x there) of_f before)

@@ -16,6 +16,7 @@ use Rattle.cs_laws.specs.Shown.{is_before, writes_at}
 use Rattle.cs_laws.specs.Runs.{IsRun}
 use Rattle.cs_theorems.specs.Metadata.{MetadataIsOfTheWrites}
 use Rattle.cs_theorems.proofs.Covers.{Between, IsCovered, IsLatest, Made, measure}
+use Rattle.cs_theorems.proofs.FlushReplays.{records_sent}
 use Rattle.cs_theorems.proofs.Footing.{Footing, footing_run}
 use Rattle.cs_theorems.proofs.LastFlush.{IsLast, IsOf, last_is}
 use Rattle.cs_theorems.proofs.Modes.{Change, changes, changes_below, changes_upto, last_mode, mode_is}
@@ -85,7 +86,7 @@ last_right h i f a free x last clean =
     ⊎_elim
     (λ (y, waits, is). absurd (both_ways (is_before a y.follows) (free.unqueued y waits) (subst (λ n. is_before a n ≡ true) (sym is) last.1.1)))
     (λ more. ⊎_elim (λ now. absurd (clean now.0 now.1)) (λ right. right) more)
-    ((i.covered f).metas x (i.placed.standing (flush_record x) last.0) last.1.0 latest)
+    ((i.covered f).metas x (records_sent h i.replay (flush_record x) last.0) last.1.0 latest)
   where
     latest : IsLatest f x (sent h)
     latest y there of_f follows =

@@ -19,7 +19,8 @@ use Rattle.cs_laws.specs.declared.records.RecordBody.{RecordBody}
 use Rattle.cs_laws.specs.declared.records.RecordBody.TheVariants as bodies
 use Rattle.cs_laws.specs.Answers.{answer_check_of, answer_check, answer_grant, answer_revoke, sent_cap}
 use Rattle.cs_laws.specs.Carried.{file_of, flush_in, flush_on, realms_of}
-use Rattle.cs_laws.specs.Flushes.{Flush}
+use Rattle.cs_laws.specs.Flushes.{Flush, flush_message}
+use Rattle.cs_laws.specs.Flight.{acked_again}
 use Rattle.cs_laws.specs.Realms.{differing, realm_records}
 use Rattle.cs_laws.specs.Tree.{directories, path}
 use Rattle.cs_laws.specs.Events.{setup_file, setup_file_then, client_knows, server_knows}
@@ -29,9 +30,10 @@ use Rattle.cs_laws.specs.Standing.{news, news_of, news_on, recorded, recorded_of
 use Rattle.cs_snapctx.specs.Records.{with_records}
 use Rattle.cs_laws.specs.Runs.{IsRun}
 use Rattle.cs_theorems.specs.Underway.{ForClient, ForServer, IfFile, IsToldClient, IsToldServer}
-use Rattle.cs_theorems.proofs.Inversions.{FlushIs, head_unknown, head_snap, head_clean, head_sent, flush_is, FlushSnapsIs, flush_unknown, flush_none, flush_writing, flush_sent, flush_snaps_is, FirstIs, first_idle, first_cap, first_flush_ack, first_snap, first_is, ReceivedIs, received_idle, received_ack, received_flush, received_is, SnapIs, snap_unknown, snap_exists, snap_taken, snap_is, RemoveIs, remove_none, remove_gone, removed, remove_is}
+use Rattle.cs_theorems.proofs.Inversions.{FlushIs, head_unknown, head_snap, head_clean, head_sent, flush_is, FlushSnapsIs, flush_unknown, flush_none, flush_writing, flush_sent, flush_snaps_is, FirstIs, first_idle, first_cap, first_flush_ack, first_snap, first_is, ReceivedIs, received_idle, received_ack, received_flush, received_again, received_is, SnapIs, snap_unknown, snap_exists, snap_taken, snap_is, RemoveIs, remove_none, remove_gone, removed, remove_is}
 use Rattle.cs_theorems.proofs.Known.{known_then}
-use Rattle.cs_theorems.proofs.Listed.{Each, each_nil, each_cons, each_append, each_end, each_tail}
+use Rattle.cs_theorems.proofs.Listed.{Each, each_nil, each_cons, each_append, each_drop, each_end, each_tail, member_first}
+use Rattle.cs_theorems.proofs.News.{each_again}
 use Rattle.cs_theorems.proofs.Runs.{of_run}
 
 -- the file of the flush that a record tells of
@@ -53,10 +55,6 @@ pub record Flies (Known : ℕ → Type 0) (q p : List Message) (ds fs : List Rec
   pub durable : Each (λ x. ForLog Known x.body) ds
   pub fresh : Each (λ x. ForLog Known x.body) fs
 
-each_drop : {A : Type 0} (P : A → Type 0) (xs : List A) → Each P xs → Each P (drop 1 xs)
-each_drop P [] ps = ps
-each_drop P (x ∷ xs) ps = each_tail P x xs ps
-
 -- More files are known
 
 if_more : (Known More : ℕ → Type 0) → ((f : ℕ) → Known f → More f) → (o : Option ℕ) → IfFile Known o → IfFile More o
@@ -75,6 +73,7 @@ flies_more Known More more q p ds fs i = record {
 -- What is told and recorded
 
 of_told : (Known : ℕ → Type 0) (before : List Record) (realms : List RealmRecord) (b : RecordBody) → ForLog Known b → ForClient Known (news_of before realms b)
+of_told Known before realms (bodies.Request tid op answer) k = (refl, tt)
 of_told Known before realms (bodies.Flush snap f tid follows meta) k = (refl, k)
 of_told Known before realms (bodies.Snap number d name) k = (refl, tt)
 of_told Known before realms (bodies.Removal t number) k = (refl, tt)
@@ -101,6 +100,15 @@ flies_told : (Known : ℕ → Type 0) (q p : List Message) (ds fs : List Record)
     → Flies Known q p ds fs → Flies Known (q ++ m ∷ []) p ds fs
 flies_told Known q p ds fs m k i = record {
   told = each_end (ForClient Known) q m i.told k;
+  received = i.received;
+  durable = i.durable;
+  fresh = i.fresh;
+}
+
+flies_more_told : (Known : ℕ → Type 0) (q p : List Message) (ds fs : List Record) (new : List Message) → Each (ForClient Known) new
+    → Flies Known q p ds fs → Flies Known (q ++ new) p ds fs
+flies_more_told Known q p ds fs new k i = record {
+  told = each_append (ForClient Known) q new i.told k;
   received = i.received;
   durable = i.durable;
   fresh = i.fresh;
@@ -209,11 +217,19 @@ flies_acked Known q p ds fs i = record {
   fresh = i.fresh;
 }
 
+-- the file of a flush's message is the flush's
+pub flush_known : (Known : ℕ → Type 0) (x : Flush) → IfFile Known (file_of (flush_message x)) → Known x.file
+flush_known Known x = cond_both x.snap _ _ (λ m. IfFile Known (file_of m) → Known x.file) (λ _ k. k) (λ _ k. k)
+
 step_to_mds : (h : List Entry) (x : Answer) → ReceivedIs h x → AllFly h → AllFly (record { event = e.ToMds; answer = x } ∷ h)
 step_to_mds h x received_idle i = i
 step_to_mds h x (received_ack g seq bits q is) i = flies_acked _ _ _ _ _ i
-step_to_mds h x (received_flush y q is) i =
+step_to_mds h x (received_flush y q is first) i =
     flies_received _ _ _ _ _ (recorded (to_server h)) (each_recorded (IsKnown h) (to_server h) i.received) i
+step_to_mds h x (received_again y q is again) i =
+    let known : IsKnown h y.file = flush_known (IsKnown h) y (i.received (flush_message y) (member_first (flush_message y) q (to_server h) is)).1 in
+    let told = each_again (ForClient (IsKnown h)) y.file y.tid (durable h) (λ _. (refl, known)) in
+    flies_acked _ _ _ _ _ (flies_more_told _ _ _ _ _ (acked_again y.file y.tid (durable h)) told i)
 
 step_snap : (h : List Entry) (d : ℕ) (name : List ℕ) (x : Answer) → SnapIs h d name x → AllFly h → AllFly (record { event = e.Snap d name; answer = x } ∷ h)
 step_snap h d name x snap_unknown i = i

@@ -32,11 +32,11 @@ use Rattle.cs_theorems.specs.Queues.{snaps, with_ended}
 use Rattle.cs_theorems.specs.Recorded.{recorded_meta, with_first, with_message}
 use Rattle.cs_theorems.specs.Unacked.{unacked}
 use Rattle.cs_theorems.specs.Underway.{IsToldClient, IsToldServer}
-use Rattle.cs_theorems.proofs.Inversions.{ChmodIs, chmod_unknown, chmod_no_bit, chmod_snap, chmod_done, chmod_is, WriteIs, write_unknown, write_no_bit, write_past, wrote, write_is, EndIs, end_unknown, ended, end_is, FlushIs, head_unknown, head_snap, head_clean, head_sent, flush_is, FlushSnapsIs, flush_unknown, flush_none, flush_writing, flush_sent, flush_snaps_is, FirstIs, first_idle, first_cap, first_flush_ack, first_snap, first_is, ReceivedIs, received_idle, received_ack, received_flush, received_is}
+use Rattle.cs_theorems.proofs.Inversions.{ChmodIs, chmod_unknown, chmod_no_bit, chmod_snap, chmod_done, chmod_is, WriteIs, write_unknown, write_no_bit, write_past, wrote, write_is, EndIs, end_unknown, ended, end_is, FlushIs, head_unknown, head_snap, head_clean, head_sent, flush_is, FlushSnapsIs, flush_unknown, flush_none, flush_writing, flush_sent, flush_snaps_is, FirstIs, first_idle, first_cap, first_flush_ack, first_snap, first_is, ReceivedIs, received_idle, received_ack, received_flush, received_again, received_is}
 use Rattle.cs_theorems.proofs.Known.{live_known}
 use Rattle.cs_theorems.proofs.Listed.{Each, each_tail}
 use Rattle.cs_theorems.proofs.Runs.{of_run}
-use Rattle.cs_theorems.proofs.Underway.{told_known, received_known}
+use Rattle.cs_theorems.proofs.Underway.{IsKnown, flush_known, received_known, told_known}
 use Rattle.cs_theorems.proofs.Uses.{named_is}
 
 pub record IsUntouched (c : ClientCaps) (s : ServerCaps) (ws : List Write) (m : ℕ) (d : Caps) (qs : List CapSnap) (xs : List Snap) (us : List Sent) (ts : List (ℕ × FileMeta)) : Type 0 where
@@ -185,13 +185,6 @@ step_to_client h x (first_snap number d realms q is) lives told i = λ f unknown
 received_first : (h : List Entry) (m : Message) (q : List Message) → to_server h ≡ m ∷ q → Each (IsToldServer h) (to_server h) → IsToldServer h m
 received_first h m q is known = known m (rw is (inl refl))
 
-flush_known : (h : List Entry) (y : Flush) → IsToldServer h (flush_message y) → setup_file h y.file ≡ true
-flush_known h y known = at y.snap known
-  where
-    at : (b : Bool) → IsToldServer h (cond b (messages.FlushSnap y.file y.tid y.follows y.meta) (messages.Flush y.file y.tid y.follows y.meta)) → setup_file h y.file ≡ true
-    at true is = is.1
-    at false is = is.1
-
 -- another file's flush
 untold : (f : ℕ) (y : Flush) (xs : List (ℕ × FileMeta)) → (y.file == f) ≡ false → xs ≡ [] → with_message f (flush_message y) xs ≡ []
 untold f y xs other none = at y.snap
@@ -206,8 +199,8 @@ step_to_mds h x received_idle received i = i
 step_to_mds h x (received_ack g seq bits q is) received i = λ f unknown.
     let known : setup_file h g ≡ true = (received_first h (messages.CapAck g seq bits) q is received).1 in
     rw (apart h g f known unknown) (i f unknown)
-step_to_mds h x (received_flush y q is) received i = λ f unknown.
-    let known : setup_file h y.file ≡ true = flush_known h y (received_first h (flush_message y) q is received) in
+step_to_mds h x (received_flush y q is first) received i = λ f unknown.
+    let known : setup_file h y.file ≡ true = flush_known (IsKnown h) y (received_first h (flush_message y) q is received).1 in
     let was : IsUntouchedAt h f = i f unknown in
     let still : recorded_meta (record { event = e.ToMds; answer = x } ∷ h) f ≡ [] = ap (λ ms. with_first f ms (recorded_meta h f)) is ∙ untold f y (recorded_meta h f) (apart h y.file f known unknown) was.recorded in
     record {
@@ -221,6 +214,7 @@ step_to_mds h x (received_flush y q is) received i = λ f unknown.
       unacked = was.unacked;
       recorded = still;
     }
+step_to_mds h x (received_again y q is again) received i = i
 
 untouched_step : (p : ℕ) (h : List Entry) (x : Event) → IsRun p h → AllUntouched h → AllUntouched (entry p h x ∷ h)
 untouched_step p h (e.File g d) run i = λ f unknown. i f (unknown_before (e.File g d) _ f (setup_file h f) unknown)

@@ -1,5 +1,5 @@
 -- After each event every file's queue has the flushes that were sent and aren't acknowledged.
-use Rattle.std.proofs.Common.{◌≡◌, refl, sym, subst, ℕ, ◌+◌, Bool, true, false, cond, not, ◌&&◌, ◌==◌, List, [], ◌∷◌, ◌++◌, Option, Some, None, length, arith}
+use Rattle.std.proofs.Common.{◌≡◌, refl, subst, ℕ, ◌+◌, Bool, true, false, cond, not, ◌&&◌, ◌==◌, List, [], ◌∷◌, ◌++◌, Option, Some, None, length, arith}
 use Rattle.std.proofs.lemmas.Bool.{both_ways, cond_both, eqb-true, eq-eqb, false_from_ne_true, false≢true}
 use Rattle.cs_parts.specs.declared.references.Live.{Live}
 use Rattle.cs_capsnap.specs.declared.snap.CapSnap.{CapSnap as Snap}
@@ -13,21 +13,23 @@ use Rattle.cs_laws.specs.declared.answers.Entry.{Entry}
 use Rattle.cs_laws.specs.CapSnaps.{has_writer, makes, queued_mode}
 use Rattle.cs_laws.specs.Context.{with_first, path_context}
 use Rattle.cs_laws.specs.Tree.{client_file_path}
-use Rattle.cs_laws.specs.Flushes.{Flush, acked, flush_snap, written_meta}
-use Rattle.cs_laws.specs.History.{context, dirty, durable, fresh, live, mode, present, queued, realms, sent, stand, to_client, to_server, writes}
+use Rattle.cs_laws.specs.Flushes.{Flush, acked, flush_record, flush_snap, written_meta}
+use Rattle.cs_laws.specs.History.{context, dirty, live, mode, present, queued, realms, sent, stand, to_client, writes}
 use Rattle.cs_laws.specs.Image.{Write, size, mtime}
 use Rattle.cs_laws.specs.Journal.{entry}
 use Rattle.cs_laws.specs.References.{named, without_named}
-use Rattle.cs_laws.specs.Laws.{tids}
 use Rattle.cs_laws.specs.Runs.{IsRun}
+use Rattle.cs_theorems.specs.Flushes.{FlushesAreNumbered, flushes_in}
 use Rattle.cs_theorems.specs.Queues.{snaps, with_ended}
 use Rattle.cs_theorems.proofs.Acks.{run_acked}
-use Rattle.cs_theorems.proofs.Chains.{flight, run_rise, tids_append}
+use Rattle.cs_theorems.proofs.FlushReplays.{flushes_numbered}
 use Rattle.cs_theorems.proofs.Inversions.{FlushIs, head_unknown, head_snap, head_clean, head_sent, flush_is, FlushSnapsIs, flush_unknown, flush_none, flush_writing, flush_sent, flush_snaps_is, FirstIs, first_idle, first_cap, first_flush_ack, first_snap, first_is, EndIs, end_unknown, ended, end_is}
-use Rattle.cs_theorems.proofs.Listed.{Member, member_left}
+use Rattle.cs_theorems.proofs.Listed.{Member}
 use Rattle.cs_theorems.proofs.QueueAnswers.{queue_first, queue_order}
 use Rattle.cs_theorems.proofs.Queues.{IsFirst}
-use Rattle.cs_theorems.proofs.Rising.{rises_member}
+use Rattle.cs_theorems.proofs.Numbered.{upto_numbered}
+use Rattle.cs_theorems.proofs.Retired.{told_stands}
+use Rattle.cs_theorems.proofs.Standing.{HasTid, has_record}
 use Rattle.cs_theorems.proofs.Runs.{of_run}
 use Rattle.cs_theorems.proofs.Waiting.{Waiting, waiting_beside, waiting_finished, waiting_first, waiting_left, waiting_made, waiting_sent}
 
@@ -52,12 +54,10 @@ waiting_acked false f t xs ss was order i = i
 pub next_unacked : (p : ℕ) (h : List Entry) → IsRun p h → (f : ℕ) → acked h f (length (sent h) + 1) ≡ false
 next_unacked p h run f =
     false_from_ne_true (acked h f (length (sent h) + 1)) (λ told.
-    let n : ℕ = length (sent h) + 1 in
-    let there : Member n (tids f (stand h) ++ flight f (to_server h))
-    = member_left n (tids f (stand h)) (flight f (to_server h))
-    (subst (λ ns. Member n ns) (sym (tids_append f (durable h) (fresh h)))
-    (member_left n (tids f (durable h)) (tids f (fresh h)) ((run_acked p h run f).told n told))) in
-    absurd (omega (arith, (rises_member 0 (length (sent h)) n _ (run_rise p h run f).rises there).1)))
+    let i : FlushesAreNumbered h = flushes_numbered p h run in
+    let y : HasTid f (length (sent h) + 1) (flushes_in (stand h)) = told_stands h (run_acked p h run) f (length (sent h) + 1) told in
+    let there : Member y.flush (sent h) = i.standing (flush_record y.flush) (has_record y.flush (stand h) y.there) in
+    absurd (omega (arith, y.tid, upto_numbered (sent h) i.numbered y.flush there)))
 
 -- Steps
 

@@ -7,6 +7,7 @@ use Rattle.cs_snapctx.specs.Context.{Context, merged}
 use Rattle.cs_laws.specs.declared.records.Record.{Record}
 use Rattle.cs_laws.specs.declared.records.RecordBody.{RecordBody}
 use Rattle.cs_laws.specs.declared.records.RecordBody.TheVariants as bodies
+use Rattle.cs_laws.specs.Carried.{is_realm_change}
 use Rattle.cs_laws.specs.Realms.{Own, has_snap, is_realm, is_snap_of, own, own_after, own_then}
 use Rattle.cs_laws.specs.Standing.{greatest_number, number_of}
 use Rattle.cs_theorems.proofs.RealmPaths.{way_context}
@@ -18,6 +19,7 @@ own_append d o [] r = refl
 own_append d o (x ∷ rs) r = own_append d (own_then d o x.body) rs r
 
 then_low : (d : ℕ) (o : Own) (b : RecordBody) → (own_then d o b).seq ≤ max o.seq (number_of b)
+then_low d o (bodies.Request tid op answer) = omega arith
 then_low d o (bodies.Flush snap f tid follows meta) = omega arith
 then_low d o (bodies.Snap n e name) = cond_both (e == d) _ o (λ x. x.seq ≤ max o.seq n) (λ _. omega arith) (λ _. omega arith)
 then_low d o (bodies.Removal s n) = cond_both (has_snap s o) _ o (λ x. x.seq ≤ max o.seq n) (λ _. omega arith) (λ _. omega arith)
@@ -40,6 +42,7 @@ filter_any s t (x ∷ xs) is =
     is
 
 then_has : (d s : ℕ) (o : Own) (b : RecordBody) → has_snap s (own_then d o b) ≡ true → (has_snap s o ≡ true) ⊎ (is_snap_of d b ≡ true)
+then_has d s o (bodies.Request tid op answer) is = inl is
 then_has d s o (bodies.Flush snap f tid follows meta) is = inl is
 then_has d s o (bodies.Snap n e name) is =
     cond_both (e == d) _ o (λ x. has_snap s x ≡ true → (has_snap s o ≡ true) ⊎ ((e == d) ≡ true)) (λ same _. inr same) (λ _ there. inl there) is
@@ -83,10 +86,20 @@ Stays d rs r = (own d (rs ++ r ∷ []) ≡ own d rs) × (is_realm (rs ++ r ∷ [
 abbrev pub Grows : ℕ → List Record → Record → Type 0
 Grows d rs r = ((own d (rs ++ r ∷ [])).seq ≡ number_of r.body) × (is_realm (rs ++ r ∷ []) d ≡ true)
 
-pub grown : (d : ℕ) (rs : List Record) (b : RecordBody) → Stays d rs (record { body = b }) ⊎ Grows d rs (record { body = b })
-grown d rs (bodies.Flush snap f tid follows meta) =
+-- a record that changes no realm does nothing
+pub quiet_stays : (d : ℕ) (rs : List Record) (b : RecordBody) → is_realm_change b ≡ false → Stays d rs (record { body = b })
+quiet_stays d rs (bodies.Request tid op answer) quiet =
+    let r : Record = record { body = bodies.Request tid op answer } in
+    (own_append d (record { seq = 0; snaps = [] }) rs r, realm_stays d rs r refl)
+quiet_stays d rs (bodies.Flush snap f tid follows meta) quiet =
     let r : Record = record { body = bodies.Flush snap f tid follows meta } in
-    inl (own_append d (record { seq = 0; snaps = [] }) rs r, realm_stays d rs r refl)
+    (own_append d (record { seq = 0; snaps = [] }) rs r, realm_stays d rs r refl)
+quiet_stays d rs (bodies.Snap n e name) quiet = absurd (true≢false quiet)
+quiet_stays d rs (bodies.Removal s n) quiet = absurd (true≢false quiet)
+
+pub grown : (d : ℕ) (rs : List Record) (b : RecordBody) → Stays d rs (record { body = b }) ⊎ Grows d rs (record { body = b })
+grown d rs (bodies.Request tid op answer) = inl (quiet_stays d rs (bodies.Request tid op answer) refl)
+grown d rs (bodies.Flush snap f tid follows meta) = inl (quiet_stays d rs (bodies.Flush snap f tid follows meta) refl)
 grown d rs (bodies.Snap n e name) = at (e == d) refl
   where
     r : Record
@@ -109,10 +122,6 @@ grown d rs (bodies.Removal s n) = at (has_snap s (own d rs)) refl
       realm_stays d rs r refl ∙ has_realm d s rs there,
     )
     at false none = inl (own_append d (record { seq = 0; snaps = [] }) rs r ∙ cond-false (has_snap s (own d rs)) _ _ none, realm_stays d rs r refl)
-
--- a flush does nothing
-pub flush_stays : (d : ℕ) (rs : List Record) (r : Record) → ((s : ℕ) → is_snap_of s r.body ≡ false) → own_then d (own d rs) r.body ≡ own d rs → Stays d rs r
-flush_stays d rs r none same = (own_append d (record { seq = 0; snaps = [] }) rs r ∙ same, realm_stays d rs r (none d))
 
 -- A way
 

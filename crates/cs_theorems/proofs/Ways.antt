@@ -1,5 +1,5 @@
 -- By a longer log the context along a way is the same, or its seq is greater.
-use Rattle.std.proofs.Common.{◌≡◌, sym, ap, ◌∙◌, subst, ℕ, ◌<◌, true, max, List, [], ◌∷◌, ◌++◌, append_assoc, inl, inr, ⊎_elim, arith}
+use Rattle.std.proofs.Common.{◌≡◌, refl, sym, ap, ◌∙◌, subst, ℕ, ◌<◌, true, max, List, [], ◌∷◌, ◌++◌, append_assoc, inl, inr, ⊎_elim, arith}
 use Rattle.std.proofs.lemmas.List.{append-nil}
 use Rattle.cs_snapctx.specs.Context.{Context}
 use Rattle.cs_laws.specs.declared.records.Record.{Record}
@@ -8,7 +8,7 @@ use Rattle.cs_laws.specs.declared.records.RecordBody.TheVariants as bodies
 use Rattle.cs_laws.specs.Realms.{is_realm}
 use Rattle.cs_laws.specs.Standing.{greatest_number, number_of}
 use Rattle.cs_theorems.proofs.Drawn.{AllDraw, Draws, draws_within}
-use Rattle.cs_theorems.proofs.Fronts.{flush_none}
+use Rattle.cs_theorems.proofs.WayContexts.{quiet_stays}
 use Rattle.cs_theorems.proofs.RealmPaths.{way_context}
 use Rattle.cs_theorems.proofs.WayContexts.{realm_more, way_grows, way_low, way_stays}
 use Rattle.cs_theorems.specs.Contexts.{Rises}
@@ -25,8 +25,10 @@ numbered us r ds up = ⊎_elim (λ same. inl same) (λ is. inr (omega (arith, is
 -- one record more
 way_more : (us : List Record) (b : RecordBody) (ds : List ℕ) → Draws (max 0 (greatest_number us)) b
     → Rises (way_context us ds) (way_context (us ++ record { body = b } ∷ []) ds)
+way_more us (bodies.Request tid op answer) ds draws =
+    inl (way_stays us (record { body = bodies.Request tid op answer }) ds (λ k. quiet_stays k us (bodies.Request tid op answer) refl))
 way_more us (bodies.Flush snap f tid follows meta) ds draws =
-    inl (way_stays us (record { body = bodies.Flush snap f tid follows meta }) ds (λ k. flush_none k us snap f tid follows meta))
+    inl (way_stays us (record { body = bodies.Flush snap f tid follows meta }) ds (λ k. quiet_stays k us (bodies.Flush snap f tid follows meta) refl))
 way_more us (bodies.Snap n e name) ds draws = numbered us (record { body = bodies.Snap n e name }) ds (omega (arith, draws))
 way_more us (bodies.Removal s n) ds draws = numbered us (record { body = bodies.Removal s n }) ds (omega (arith, draws.1))
 

@@ -6,9 +6,11 @@ pub mod Order
 pub mod Queues
 pub mod Realms
 pub mod Recorded
+pub mod RecordedAt
 pub mod References
 pub mod Refusals
+pub mod Replays
 pub mod Snapshots
-pub mod RecordedAt
+pub mod Spellings
 pub mod Unacked
 pub mod Underway

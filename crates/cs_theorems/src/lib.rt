@@ -11,6 +11,7 @@ mod metadata;
 mod references;
 mod refusals;
 mod snapshots;
+mod spellings;
 
 pub use capabilities::{acks_are_free, held_covers_implemented};
 pub use contents::{objects_hold_the_writes, states_hold_the_writes};
@@ -25,3 +26,4 @@ pub use snapshots::{
     tags_never_fall, told_parents_are_known, writers_share_a_context, writers_share_a_tag,
     writing_while_an_older_writer_lives,
 };
+pub use spellings::{messages_fit, records_fit};

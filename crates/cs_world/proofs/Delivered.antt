@@ -1,50 +1,206 @@
--- The messages that are delivered are of known files.
-use Rattle.std.proofs.Common.{◌≡◌, sym, ap, ℕ, true, false, List, [], ◌∷◌, Some, None, inl, drop, length, ◌<◌, subst, slice_index_or, arith}
-use Rattle.std.specs.Ordering.{nat_cmp}
+-- The parts after a delivery.
+use Rattle.std.proofs.Common.{◌≡◌, ◌∙◌, refl, sym, ap, subst, ℕ, ◌==◌, Bool, true, false, cond, List, [], ◌∷◌, ◌++◌, drop, nat_lt, Some, None}
+use Rattle.std.proofs.lemmas.Bool.{true≢false}
+use Rattle.std.proofs.lemmas.List.{append-nil}
 use Rattle.std.specs.BTreeMap.{get}
-use Rattle.cs_laws.specs.declared.answers.Entry.{Entry}
+use Rattle.std.specs.Option.{option_map}
+use Rattle.std.specs.Ordering.{nat_cmp}
 use Rattle.cs_snapctx.specs.declared.realm.RealmRecord.{RealmRecord}
+use Rattle.cs_snapctx.specs.Context.{Context}
+use Rattle.cs_snapctx.specs.Records.{with_records}
+use Rattle.cs_tree.specs.Directories.{path_of}
+use Rattle.cs_refs.specs.Table.{begun_of}
+use Rattle.cs_inode.specs.Calls.{needs_snap_at, with_caps, with_context_at}
+use Rattle.cs_inode.specs.Inodes.{after_ack}
+use Rattle.cs_laws.specs.declared.events.Event.TheVariants as events
+use Rattle.cs_laws.specs.declared.answers.Answer.{Answer}
+use Rattle.cs_laws.specs.declared.answers.Answer.TheVariants as answers
+use Rattle.cs_laws.specs.declared.answers.Entry.{Entry}
 use Rattle.cs_laws.specs.declared.messages.Message.{Message}
 use Rattle.cs_laws.specs.declared.messages.Message.TheVariants as messages
-use Rattle.cs_laws.specs.Events.{setup_file}
-use Rattle.cs_laws.specs.History.{realms, to_client, to_server}
+use Rattle.cs_laws.specs.Answers.{answer, answer_flushed, answer_received, answer_to_client_of, answer_to_mds_of, count_made, held_after}
+use Rattle.cs_laws.specs.Carried.{is_for_client, realms_of}
+use Rattle.cs_laws.specs.Context.{path_context, with_first}
+use Rattle.cs_laws.specs.Events.{client_files, client_knows}
+use Rattle.cs_laws.specs.Flight.{to_client_then}
+use Rattle.cs_laws.specs.History.{context, durable, fresh, realms, server, stand, to_client, to_server}
 use Rattle.cs_laws.specs.Runs.{IsRun}
-use Rattle.cs_theorems.specs.Realms.{ParentsAreKnown, TellsKnownParents}
-use Rattle.cs_theorems.proofs.Applying.{run_tells_known}
-use Rattle.cs_theorems.specs.Underway.{IsToldClient, IsToldServer}
-use Rattle.cs_theorems.proofs.Listed.{Member}
-use Rattle.cs_theorems.proofs.Underway.{told_known, received_known}
-use Rattle.cs_world.specs.declared.state.State.{State}
-use Rattle.cs_world.specs.Delivered.{IsFirst}
-use Rattle.cs_world.specs.Tables.{Refines}
-use Rattle.cs_world.proofs.Rows.{row_unknown}
+use Rattle.cs_laws.specs.Standing.{fresh_then, greatest_tid}
+use Rattle.cs_laws.specs.Tree.{client_file_path, client_home}
+use Rattle.cs_client.specs.declared.file.ClientFile.{ClientFile}
+use Rattle.cs_client.specs.Messages as client
+use Rattle.cs_client.specs.Messages.{Accepts, Delivered, delivered_row}
+use Rattle.cs_client.specs.Rows.{at_file}
+use Rattle.cs_client.specs.Told.{count_changed, needs_at, told_row}
+use Rattle.cs_client.specs.Views.{ClientView}
+use Rattle.cs_mds.specs.Answers as server_side
+use Rattle.cs_mds.specs.Answers.{flush_sent}
+use Rattle.cs_mds.specs.Served.{Served}
+use Rattle.cs_mds.specs.Views.{ServerView}
+use Rattle.cs_files.specs.Rows.{inode}
+use Rattle.cs_files.proofs.Told.{context_told, count_is}
+use Rattle.cs_world.specs.Parts.{After, ClientAt, ServerAt}
+use Rattle.cs_world.proofs.Client.{TreeAt}
+use Rattle.cs_world.proofs.Rows.{at_known, row_by, row_is_by}
+use Rattle.cs_world.proofs.Serves.{server_after, stands}
 
-first_member : (m : Message) (q : List Message) → IsFirst m q → Member m q
-first_member m [] is = absurd (cc)
-first_member m (x ∷ q) is = inl (cc)
+abbrev delivered : Answer → List Entry → List Entry
+delivered a h = record { event = events.ToClient; answer = a } ∷ h
 
--- the list begins with the message
-pub first_of : (m : Message) (q : List Message) → IsFirst m q → q ≡ m ∷ drop 1 q
-first_of m [] is = absurd (cc)
-first_of m (x ∷ q) is = cc
+-- To the client
 
-pub first_told : (p : ℕ) (h : List Entry) (m : Message) → IsRun p h → IsFirst m (to_client h) → IsToldClient h m
-first_told p h m run is = told_known p h run m (first_member m (to_client h) is)
+module _ (p : ℕ) (h : List Entry) (run : IsRun p h) (v : ClientView) (i : ClientAt h v) where
+  -- all but the rows and the realms stays
+  client_delivered : (m : Message) (a : Answer) (w : ClientView) → a ≡ answer p h events.ToClient → Delivered v w m
+      → with_records (realms_of m) (realms h) ≡ realms (delivered a h) → ((f : ℕ) → delivered_row m v f ≡ row_by h events.ToClient a f) → ClientAt (delivered a h) w
+  client_delivered m a w is c now rows = record {
+    clock = c.clock ∙ i.clock;
+    tree = subst (λ tree. TreeAt h tree) (sym c.tree) i.tree;
+    realms = c.realms ∙ (ap (λ ts. with_records (realms_of m) ts) i.realms ∙ now);
+    rows = λ f. c.rows f ∙ (rows f ∙ row_is_by p h events.ToClient a f run is);
+    made = c.made ∙ i.made;
+    live = ap (λ t. t.live) c.refs ∙ i.live;
+    begun = λ d. ap (λ t. begun_of d t) c.refs ∙ i.begun d;
+    operations = c.operations ∙ i.operations;
+    flushes = c.flushes ∙ i.flushes;
+  }
 
-pub first_received : (p : ℕ) (h : List Entry) (m : Message) → IsRun p h → IsFirst m (to_server h) → IsToldServer h m
-first_received p h m run is = received_known p h run m (first_member m (to_server h) is)
+  -- Files whose contexts follow
 
--- so the table has their rows
-pub never_absent : (h : List Entry) (s : State) (f : ℕ) → Refines h s → setup_file h f ≡ true → get nat_cmp s.files f ≡ None → ⊥
-never_absent h s f t known absent = let unknown : setup_file h f ≡ false = row_unknown h s f t absent in cc
+  module _ (number realm : ℕ) (now : List RealmRecord) (rest : List Message) (first : to_client h ≡ messages.Snap number realm now ∷ rest) where
+    abbrev told_of : ℕ → Context
+    told_of f = path_context (client_file_path h f) (with_records now (realms h))
 
--- The realm records that come with a snapshot or a removal name parents that are known.
-pub told_parents : (p : ℕ) (h : List Entry) (number realm : ℕ) (told : List RealmRecord) → IsRun p h → IsFirst (messages.Snap number realm told) (to_client h)
-    → ParentsAreKnown (realms h) told
-told_parents p h number realm told run is =
-    subst (λ q. TellsKnownParents (realms h) q) (first_of (messages.Snap number realm told) (to_client h) is) (run_tells_known p h run)
+    context_is : (f : ℕ) → path_context (path_of v.tree (client_home h f)) (with_records now v.realms) ≡ told_of f
+    context_is f = λ k. path_context (i.tree.paths (client_home h f) k) (with_records now (i.realms k))
 
--- what stands in front of a list of messages
-pub front_is : (m : Message) (items q : List Message) → 0 < length items → m ≡ slice_index_or items 0 m → items ≡ q → IsFirst m q
-front_is m [] q some is same = absurd (omega arith)
-front_is m (x ∷ xs) q some is same = subst (λ ms. IsFirst m ms) same (ap Some (sym is))
+    abbrev needs : ℕ → Bool
+    needs f = needs_at (path_of v.tree) (with_records now v.realms) (get nat_cmp v.files f)
+
+    needs_is : (f : ℕ) → client_knows h f ≡ true → needs f ≡ needs_snap_at (told_of f) (inode h f)
+    needs_is f known = rw (i.rows f, known) (ap (λ c. needs_snap_at c (inode h f)) (context_is f))
+
+    count_told : count_changed (path_of v.tree) (with_records now v.realms) v.files v.made ≡ count_made h told_of (client_files h)
+    count_told =
+        ap (λ fs. count_changed (path_of v.tree) (with_records now v.realms) v.files fs) i.made
+        ∙ sym (count_is p h run told_of needs needs_is)
+
+    rows_told : (made f : ℕ) → option_map (told_row (path_of v.tree) (with_records now v.realms)) (get nat_cmp v.files f)
+        ≡ row_by h events.ToClient (answers.SnapTold number realm made) f
+    rows_told made f = ap (λ o. option_map (told_row (path_of v.tree) (with_records now v.realms)) o) (i.rows f) ∙ at (client_knows h f)
+      where
+        same : path_context (path_of v.tree (client_home h f)) (with_records now v.realms) ≡ context (delivered (answers.SnapTold number realm made) h) f
+        same = context_is f ∙ sym (context_told h number realm made now f (record { rest = rest; first = first }))
+
+        at : (b : Bool) → option_map (told_row (path_of v.tree) (with_records now v.realms)) (cond b (Some (record { inode = inode h f; home = client_home h f })) None)
+            ≡ cond b (Some (record { inode = with_context_at (context (delivered (answers.SnapTold number realm made) h) f) (inode h f); home = client_home h f })) None
+        at true = ap (λ c. Some (let r : ClientFile = record { inode = with_context_at c (inode h f); home = client_home h f } in r)) same
+        at false = refl
+
+  -- The parts after a delivery to the client
+
+  pub told_steps : (m : Message) (a : Answer) (w : ClientView) (s : ServerView) (qs rest : List Message) → to_client h ≡ m ∷ rest → Accepts v m
+      → a ≡ client.message_answer v m → Delivered v w m → ServerAt h s → qs ≡ to_server h → After p h events.ToClient a w s rest qs
+  told_steps (messages.Cap f seq bits end) a w s qs rest first ok said c j there =
+      let P : Answer → Type 0 = λ b. After p h events.ToClient b w s rest qs in
+      let is : answers.Cap f seq bits end ≡ answer p h events.ToClient = sym (ap (λ q. answer_to_client_of h q) first) in
+      let known : P (answers.Cap f seq bits end) = record {
+        answer = is;
+        client =
+            client_delivered (messages.Cap f seq bits end) (answers.Cap f seq bits end) w is c refl
+            (λ g. ap (λ o. at_file f (with_caps bits seq end) g o) (i.rows g) ∙ at_known (f == g) (client_knows h g) (with_caps bits seq end) (inode h g) (client_home h g));
+        server = j;
+        links = record { to_client = sym (ap (λ q. drop 1 q) first); to_server = there };
+      } in
+      subst P (sym said) known
+  told_steps (messages.FlushAck f tid) a w s qs rest first ok said c j there =
+      let P : Answer → Type 0 = λ b. After p h events.ToClient b w s rest qs in
+      let is : answers.FlushAck f tid ≡ answer p h events.ToClient = sym (ap (λ q. answer_to_client_of h q) first) in
+      let known : P (answers.FlushAck f tid) = record {
+        answer = is;
+        client =
+            client_delivered (messages.FlushAck f tid) (answers.FlushAck f tid) w is c refl
+            (λ g. ap (λ o. at_file f (after_ack tid) g o) (i.rows g) ∙ at_known (f == g) (client_knows h g) (after_ack tid) (inode h g) (client_home h g));
+        server = j;
+        links = record { to_client = sym (ap (λ q. drop 1 q) first); to_server = there };
+      } in
+      subst P (sym said) known
+  told_steps (messages.Snap number realm now) a w s qs rest first ok said c j there =
+      let P : Answer → Type 0 = λ b. After p h events.ToClient b w s rest qs in
+      let n : ℕ = count_changed (path_of v.tree) (with_records now v.realms) v.files v.made in
+      let is : answers.SnapTold number realm n ≡ answer p h events.ToClient =
+      ap (λ k. answers.SnapTold number realm k) (count_told number realm now rest first) ∙ sym (ap (λ q. answer_to_client_of h q) first) in
+      let known : P (answers.SnapTold number realm n) = record {
+        answer = is;
+        client =
+            client_delivered (messages.Snap number realm now) (answers.SnapTold number realm n) w is c (sym (ap (λ q. with_first q (realms h)) first))
+            (λ f. rows_told number realm now rest first n f);
+        server = j;
+        links = record { to_client = sym (ap (λ q. drop 1 q) first); to_server = there };
+      } in
+      subst P (sym said) known
+  told_steps (messages.Safe tid) a w s qs rest first ok said c j there = absurd ok
+  told_steps (messages.CapAck f seq bits) a w s qs rest first ok said c j there = absurd ok
+  told_steps (messages.Flush f tid follows meta) a w s qs rest first ok said c j there = absurd ok
+  told_steps (messages.FlushSnap f tid follows meta) a w s qs rest first ok said c j there = absurd ok
+
+-- To the server
+
+-- what the server answers is what the history says
+pub heard_is : (p : ℕ) (h : List Entry) (s : ServerView) (m : Message) → ServerAt h s → server_side.message_answer s m ≡ answer_received h m
+heard_is p h s (messages.CapAck f seq bits) i = ap (λ x. answers.CapAck f seq (held_after x seq bits)) (i.caps f)
+heard_is p h s (messages.Flush f tid follows meta) i = ap (λ rs. answer_flushed rs f tid) (stands p h s i)
+heard_is p h s (messages.FlushSnap f tid follows meta) i = ap (λ rs. answer_flushed rs f tid) (stands p h s i)
+heard_is p h s _ i = refl
+
+pub heard_answer : (p : ℕ) (h : List Entry) (s : ServerView) (m : Message) (rest : List Message) (a : Answer) → ServerAt h s → to_server h ≡ m ∷ rest
+    → a ≡ server_side.message_answer s m → a ≡ answer p h events.ToMds
+heard_answer p h s m rest a i first said = said ∙ (heard_is p h s m i ∙ sym (ap (λ q. answer_to_mds_of h q) first))
+
+abbrev received : Answer → List Entry → List Entry
+received a h = record { event = events.ToMds; answer = a } ∷ h
+
+-- the message is taken off the link
+taken : (h : List Entry) (m : Message) (rest : List Message) (a : Answer) → is_for_client m ≡ false → a ≡ answer_received h m → to_server h ≡ m ∷ rest
+    → rest ≡ to_server (received a h)
+taken h m rest a away said first = sym (ap (λ q. drop 1 q) first) ∙ at m away said
+  where
+    flushed : (b : Bool) (f tid : ℕ) → a ≡ cond b (answers.Flushed f tid) (answers.FlushDup f tid) → drop 1 (to_server h) ≡ to_server (received a h)
+    flushed true f tid is = subst (λ y. drop 1 (to_server h) ≡ to_server (received y h)) (sym is) refl
+    flushed false f tid is = subst (λ y. drop 1 (to_server h) ≡ to_server (received y h)) (sym is) refl
+
+    at : (m : Message) → is_for_client m ≡ false → a ≡ answer_received h m → drop 1 (to_server h) ≡ to_server (received a h)
+    at (messages.CapAck f seq bits) away is = subst (λ y. drop 1 (to_server h) ≡ to_server (received y h)) (sym is) refl
+    at (messages.Flush f tid follows meta) away is = flushed (nat_lt (greatest_tid f (stand h)) tid) f tid is
+    at (messages.FlushSnap f tid follows meta) away is = flushed (nat_lt (greatest_tid f (stand h)) tid) f tid is
+    at (messages.Cap f seq bits end) away is = absurd (true≢false away)
+    at (messages.Safe tid) away is = absurd (true≢false away)
+    at (messages.FlushAck f tid) away is = absurd (true≢false away)
+    at (messages.Snap number realm now) away is = absurd (true≢false away)
+
+-- what is recorded of the message is recorded of all on the link
+pub news_first : (h : List Entry) (m : Message) (rest : List Message) (a : Answer) → to_server h ≡ m ∷ rest
+    → fresh_then events.ToMds a (m ∷ []) (fresh h) ≡ fresh_then events.ToMds a (to_server h) (fresh h)
+news_first h m rest a first = at a ∙ ap (λ q. fresh_then events.ToMds a q (fresh h)) (sym first)
+  where
+    at : (a : Answer) → fresh_then events.ToMds a (m ∷ []) (fresh h) ≡ fresh_then events.ToMds a (m ∷ rest) (fresh h)
+    at (answers.Flushed f tid) = refl
+    at _ = refl
+
+-- a repeated flush may be acknowledged
+again_then : (h : List Entry) (a : Answer) (q new : List Message) → q ++ flush_sent a (durable h) ≡ to_client_then events.ToMds a (λ f. server h f) (durable h) new q
+again_then h (answers.FlushDup f tid) q new = refl
+again_then h _ q new = append-nil q
+
+pub received_steps : (p : ℕ) (h : List Entry) (m : Message) (a : Answer) (v : ClientView) (s t : ServerView) (ms ps rest : List Message) → to_server h ≡ m ∷ rest
+    → is_for_client m ≡ false → ClientAt h v → ServerAt h s → a ≡ server_side.message_answer s m → Served (m ∷ []) s t events.ToMds a → ms ≡ to_client h
+    → ps ≡ ms ++ flush_sent a s.durable → After p h events.ToMds a v t ps rest
+received_steps p h m a v s t ms ps rest first away i j said d there sent = record {
+  answer = heard_answer p h s m rest a j first said;
+  client = i;
+  server = server_after h s t events.ToMds a (m ∷ []) (news_first h m rest a first) j d;
+  links = record {
+    to_client = sent ∙ ((λ k. there k ++ flush_sent a (j.durable k)) ∙ again_then h a (to_client h) _);
+    to_server = taken h m rest a away (said ∙ heard_is p h s m j) first;
+  };
+}

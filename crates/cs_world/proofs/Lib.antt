@@ -1,28 +1,19 @@
-pub mod Absent
-pub mod Applied
-pub mod Begins
-pub mod Changed
-pub mod Chmods
-pub mod Checks
-pub mod Completes
-pub mod ContextChange
-pub mod Counting
-pub mod Delivered
-pub mod Ended
-pub mod FileReads
-pub mod Flushed
-pub mod Fronts
-pub mod Kept
-pub mod Nearest
-pub mod Named
-pub mod NewFiles
-pub mod News
-pub mod Reading
-pub mod Received
-pub mod Refused
+-- What each side answers, keeps and sends is what the history says
 pub mod Rows
+pub mod Answered
+pub mod Numbers
+pub mod Client
+pub mod Serves
+pub mod News
+pub mod Sent
+-- Parts that an event leaves as they are
+pub mod Stays
+pub mod Made
+-- Deliveries
+pub mod Accepted
+pub mod Delivered
+-- Shows
 pub mod Showing
-pub mod TakenIn
-pub mod Touched
-pub mod RecordedAt
-pub mod Written
+-- The devices
+pub mod Stored
+pub mod Halts

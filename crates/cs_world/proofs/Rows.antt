@@ -1,49 +1,98 @@
--- What a row of the table of files says of the history.
-use Rattle.std.proofs.Common.{◌≡◌, ◌∙◌, refl, sym, ap, subst, ℕ, ◌<◌, ◌==◌, Bool, true, false, cond, List, Some, None, length, arith}
-use Rattle.std.proofs.lemmas.Bool.{cond-true, eqb-true}
-use Rattle.std.specs.Ordering.{nat_cmp}
-use Rattle.std.specs.BTreeMap.{get}
+-- The rows of files that the client keeps follow the history.
+use Rattle.std.proofs.Common.{◌≡◌, ◌∙◌, refl, sym, ap, subst, ℕ, ◌+◌, ◌==◌, Bool, true, false, cond, List, ◌∷◌, length, Option, Some, None, is_some}
+use Rattle.std.proofs.lemmas.Bool.{eqb-true}
+use Rattle.std.specs.Option.{option_map}
+use Rattle.cs_parts.specs.declared.references.Live.{Live}
+use Rattle.cs_inode.specs.Calls.{acked, started, stopped}
+use Rattle.cs_inode.specs.Inodes.{FileInode, after_flush, after_flush_snaps, new_inode, with_mode, written}
+use Rattle.cs_laws.specs.declared.events.Event.{Event}
+use Rattle.cs_laws.specs.declared.events.Event.TheVariants as events
+use Rattle.cs_laws.specs.declared.answers.Answer.{Answer}
+use Rattle.cs_laws.specs.declared.answers.Answer.TheVariants as answers
 use Rattle.cs_laws.specs.declared.answers.Entry.{Entry}
-use Rattle.cs_laws.specs.Events.{setup_file}
-use Rattle.cs_theorems.proofs.Growth.{server_seq_small}
-use Rattle.cs_world.specs.declared.state.State.{State}
-use Rattle.cs_world.specs.declared.state.FileState.{FileState}
-use Rattle.cs_world.specs.Tables.{Files, PutsRow, Refines, row, row_of}
+use Rattle.cs_laws.specs.Answers.{answer}
+use Rattle.cs_laws.specs.Context.{path_context}
+use Rattle.cs_laws.specs.Events.{client_knows, clock}
+use Rattle.cs_laws.specs.History.{context, live, realms}
+use Rattle.cs_laws.specs.References.{named}
+use Rattle.cs_laws.specs.Runs.{IsRun}
+use Rattle.cs_laws.specs.Tree.{client_home, client_path}
+use Rattle.cs_client.specs.declared.file.ClientFile.{ClientFile}
+use Rattle.cs_client.specs.Calls.{is_call}
+use Rattle.cs_client.specs.Rows.{at_file, at_ref, row_after, with_inode}
+use Rattle.cs_client.specs.Views.{ClientView}
+use Rattle.cs_files.specs.Rows.{inode}
+use Rattle.cs_files.specs.Steps.{inode_then, on_file}
+use Rattle.cs_files.proofs.Made.{context_made}
+use Rattle.cs_files.proofs.Rows.{row_then}
+use Rattle.cs_world.specs.Parts.{ClientAt, client_row}
 
-found : (b : Bool) (r s : FileState) → cond b (Some r) None ≡ Some s → s ≡ r
-found true r s e = cc
-found false r s e = absurd (cc)
+abbrev pub row_is : Bool → FileInode → ℕ → Option ClientFile
+row_is known i home = cond known (Some (record { inode = i; home = home })) None
 
-has : (b : Bool) (r s : FileState) → cond b (Some r) None ≡ Some s → b ≡ true
-has true r s e = cc
-has false r s e = absurd (cc)
+pub is_known : (known : Bool) (i : FileInode) (home : ℕ) → is_some (row_is known i home) ≡ known
+is_known true i home = refl
+is_known false i home = refl
 
-lacks : (b : Bool) (r : FileState) → cond b (Some r) None ≡ None → b ≡ false
-lacks true r e = absurd (cc)
-lacks false r e = cc
+-- what is done to a file's row is done to what is kept of it
+pub at_known : (b known : Bool) (go : FileInode → FileInode) (i : FileInode) (home : ℕ)
+    → cond b (option_map (with_inode go) (row_is known i home)) (row_is known i home) ≡ row_is known (cond b (go i) i) home
+at_known true true go i home = refl
+at_known true false go i home = refl
+at_known false known go i home = refl
 
--- a file that the table has is known, and the row is that of the history
-pub row_known : (h : List Entry) (s : State) (f : ℕ) (r : FileState) → Refines h s → get nat_cmp s.files f ≡ Some r → setup_file h f ≡ true
-row_known h s f r t is = has (setup_file h f) (row h f) r (sym (t.rows f) ∙ is)
+on_known : (o : Option Live) (known : Bool) (go : Live → FileInode → FileInode) (f : ℕ) (i : FileInode) (home : ℕ)
+    → at_ref o go f (row_is known i home) ≡ row_is known (on_file o go f i) home
+on_known None known go f i home = refl
+on_known (Some r) known go f i home = at_known (r.file == f) known (go r) i home
 
-pub row_is : (h : List Entry) (s : State) (f : ℕ) (r : FileState) → Refines h s → get nat_cmp s.files f ≡ Some r → r ≡ row h f
-row_is h s f r t is = found (setup_file h f) (row h f) r (sym (t.rows f) ∙ is)
+pub all_known : (known : Bool) (go : FileInode → FileInode) (i : FileInode) (home : ℕ) → option_map (with_inode go) (row_is known i home) ≡ row_is known (go i) home
+all_known true go i home = refl
+all_known false go i home = refl
 
--- a file that it hasn't is unknown
-pub row_unknown : (h : List Entry) (s : State) (f : ℕ) → Refines h s → get nat_cmp s.files f ≡ None → setup_file h f ≡ false
-row_unknown h s f t is = lacks (setup_file h f) (row h f) (sym (t.rows f) ∙ is)
+abbrev made_file : List Entry → ℕ → ℕ → ClientFile
+made_file h g d = record { inode = new_inode g (path_context (client_path h d) (realms h)); home = d }
 
--- a row's number has room for one more
-pub row_seq_small : (h : List Entry) (f : ℕ) (r : FileState) → row_of h f ≡ Some r → length h < 10000 → r.server.seq < 99998
-row_seq_small h f r e room = rw (found (setup_file h f) (row h f) r e) (omega (arith, server_seq_small h f))
+-- by an event and its answer: what they make of the row of f
+abbrev pub row_by : List Entry → Event → Answer → ℕ → Option ClientFile
+row_by h e a f =
+    row_is (client_knows (record { event = e; answer = a } ∷ h) f)
+    (inode_then e a (live h) (clock h) (context (record { event = e; answer = a } ∷ h) f) f (inode h f)) (client_home (record { event = e; answer = a } ∷ h) f)
 
--- The row of one file becomes another one, by an entry that leaves those of the others
-pub put_rows : (h after : List Entry) (old new : Files) (f : ℕ) (r : FileState) → ((g : ℕ) → get nat_cmp old g ≡ row_of h g) → ((g : ℕ) → setup_file after g ≡ setup_file h g)
-    → setup_file h f ≡ true → r ≡ row after f → ((g : ℕ) → (f == g) ≡ false → row after g ≡ row h g) → PutsRow old new f r → (g : ℕ) → get nat_cmp new g ≡ row_of after g
-put_rows h after old new f r rows files known is others put g = put g ∙ at (f == g) refl
-  where
-    at : (b : Bool) → (f == g) ≡ b → cond b (Some r) (get nat_cmp old g) ≡ row_of after g
-    at true same =
-        let P : ℕ → Type 0 = λ k. Some r ≡ row_of after k in
-        subst P (eqb-true f g same) (ap (λ x. Some x) is ∙ sym (cond-true (setup_file after f) (Some (row after f)) None (files f ∙ known)))
-    at false other = rows g ∙ (ap (λ b. cond b (Some (row h g)) None) (sym (files g)) ∙ ap (λ x. cond (setup_file after g) (Some x) None) (sym (others g other)))
+-- what they make of it is what they make of what is kept of the file
+pub row_is_by : (p : ℕ) (h : List Entry) (e : Event) (a : Answer) (f : ℕ) → IsRun p h → a ≡ answer p h e → row_by h e a f ≡ client_row (record { event = e; answer = a } ∷ h) f
+row_is_by p h e a f run is =
+    ap (λ i. row_is (client_knows (record { event = e; answer = a } ∷ h) f) i (client_home (record { event = e; answer = a } ∷ h) f)) (sym (row_then p h run e a is f))
+
+module _ (h : List Entry) (v : ClientView) (i : ClientAt h v) (f : ℕ) where
+  made_then : (g d : ℕ) (b : Bool) → (g == f) ≡ b → cond b (Some (made_file h g d)) (client_row h f)
+      ≡ row_is (cond b true (client_knows h f)) (cond b (new_inode f (context (record { event = events.File g d; answer = answers.Made } ∷ h) f)) (inode h f))
+      (cond b d (client_home h f))
+  made_then g d true same =
+      subst (λ k. Some (made_file h g d) ≡ row_is true (new_inode k (context (record { event = events.File g d; answer = answers.Made } ∷ h) k)) d) (eqb-true g f same)
+      (ap (λ c. Some (let r : ClientFile = record { inode = new_inode g c; home = d } in r)) (sym (context_made h g d)))
+  made_then g d false other = refl
+
+  pub rows_then : (e : Event) (a : Answer) → is_call e ≡ true → row_after e a v f ≡ row_by h e a f
+  rows_then (events.File g d) answers.Made call =
+      (λ k. cond (g == f) (Some (let r : ClientFile = record { inode = new_inode g (path_context (i.tree.paths d k) (i.realms k)); home = d } in r)) (i.rows f k))
+      ∙ made_then g d (g == f) refl
+  rows_then (events.Begin c g bits end) (answers.Ref n) call =
+      ap (λ o. at_file g (started bits) f o) (i.rows f) ∙ at_known (g == f) (client_knows h f) (started bits) (inode h f) (client_home h f)
+  rows_then (events.End c name) answers.Ended call =
+      (λ k. at_ref (named c name (i.live k)) (λ r. stopped r.bits) f (i.rows f k))
+      ∙ on_known (named c name (live h)) (client_knows h f) (λ r. stopped r.bits) f (inode h f) (client_home h f)
+  rows_then (events.Write c name off bytes) answers.Wrote call =
+      (λ k. at_ref (named c name (i.live k)) (λ r. written (off + length bytes) (i.clock k)) f (i.rows f k))
+      ∙ on_known (named c name (live h)) (client_knows h f) (λ r. written (off + length bytes) (clock h)) f (inode h f) (client_home h f)
+  rows_then (events.Chmod c name mode) answers.Done call =
+      (λ k. at_ref (named c name (i.live k)) (λ r. with_mode mode) f (i.rows f k))
+      ∙ on_known (named c name (live h)) (client_knows h f) (λ r. with_mode mode) f (inode h f) (client_home h f)
+  rows_then (events.Check g) (answers.Ack seq bits) call =
+      ap (λ o. at_file g (acked seq bits) f o) (i.rows f) ∙ at_known (g == f) (client_knows h f) (acked seq bits) (inode h f) (client_home h f)
+  rows_then (events.Flush g) (answers.Flush tid) call =
+      ap (λ o. at_file g (after_flush tid) f o) (i.rows f) ∙ at_known (g == f) (client_knows h f) (after_flush tid) (inode h f) (client_home h f)
+  rows_then (events.FlushSnaps g) (answers.FlushSnap tid follows) call =
+      ap (λ o. at_file g (after_flush_snaps tid) f o) (i.rows f) ∙ at_known (g == f) (client_knows h f) (after_flush_snaps tid) (inode h f) (client_home h f)
+  rows_then events.ToClient a call = absurd (cc)
+  rows_then _ _ call = i.rows f

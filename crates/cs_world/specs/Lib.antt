@@ -1,9 +1,5 @@
-pub mod Changed
-pub mod Contexts
-pub mod Delivered
+pub mod Devices
+pub mod Parts
 pub mod Seen
-pub mod Sending
-pub mod Shown
-pub mod Storing
+pub mod Serving
 pub mod Tables
-pub mod Touched

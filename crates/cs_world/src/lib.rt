@@ -1,19 +1,18 @@
-//! The world of a run: one client and one server, a step for each event. Each step answers exactly
-//! what the journal's definitions say, and enters the event with its answer.
+//! The world of a run: a client, a metadata server, and the links between them. An event goes to the side
+//! that does it, and what that side sends goes onto a link; the world itself only carries messages. Each
+//! step answers exactly what the journal's definitions say, and enters the event with its answer.
 #![tactic(auto)]
 
-mod client;
-mod contexts;
-mod objects;
-mod recorded;
-mod references;
+mod calls;
+mod deliveries;
+mod laws;
+mod links;
 mod server;
 mod setup;
 mod shows;
-mod snaps;
 mod state;
 mod step;
 mod world;
-mod writes;
 
+pub use laws::{events_call_one_device, steps_that_add_nothing_call_no_device};
 pub use world::{MakeFault, World};

@@ -1,151 +1,67 @@
-// The server's events: grants and revocations, snapshots and commits, and deliveries.
-ghost use Rattle.std.specs.Prelude.{◌≡◌, IfOk, OnErr};
-ghost use Rattle.cs_laws.specs.declared.events.Event.TheVariants as events;
-ghost use Rattle.cs_laws.specs.declared.messages.Message.TheVariants as messages;
-ghost use Rattle.cs_laws.specs.Flushes.{flush_message};
-ghost use Rattle.cs_laws.specs.History.{to_server};
-ghost use Rattle.cs_world.specs.Delivered.{IsFirst};
-ghost use Rattle.cs_world.specs.Tables.{Steps, KeepsJournal, IsReady, past};
+// The server's own events.
+ghost use Rattle.std.specs.Prelude.{◌≡◌, ◌∷◌, ◌++◌, [], true, false, IfOk, OnOk, OnErr, IsErrOf};
+ghost use Rattle.cs_laws.specs.Devices.{FaultsOf};
+ghost use Rattle.cs_laws.specs.Fits.{fits};
+ghost use Rattle.cs_mds.specs.Answers.{served_answer};
+ghost use Rattle.cs_mds.specs.Served.{Halts, LogHolds, Served, is_logged};
+ghost use Rattle.cs_world.specs.Devices.{LogOf};
+ghost use Rattle.cs_world.specs.Parts.{LogAt};
+ghost use Rattle.cs_world.specs.Serving.{HasNumber, event_sent, is_served};
+ghost use Rattle.cs_world.specs.Tables.{IsReady, KeepsJournal, Steps, past};
 
-use crate::state::{State, send_cap};
-use cs_bits::Caps;
-use cs_ids::{FileMeta, Ino, Memory, Name, Seq, Snap, Tid};
-use cs_laws::{Answer, Message};
+use crate::links::send_all;
+use crate::state::State;
+use cs_laws::{Answer, Event, MessageList, StepFault};
+use cs_mds::Mds;
+use cs_mdslog::MdsLog;
 
-pub fn grant(state: &mut State, file: Ino, bits: Caps, max: u32) -> Result<Answer, Memory>
-    requires { IsReady state.old }
-    ensures ok { IfOk result (λ a. Steps state.old state.new (events.Grant file bits max) a) }
-    ensures err { OnErr result (KeepsJournal state.old state.new) }
-{
-    let Some(caps) = state.files.get_mut(&file) else {
-        return Ok(Answer::Unknown);
-    };
-    caps.server.grant(bits, max);
-    send_cap(&mut state.to_client, file, &caps.server)
-}
-
-pub fn revoke(state: &mut State, file: Ino, bits: Caps) -> Result<Answer, Memory>
-    requires { IsReady state.old }
-    ensures ok { IfOk result (λ a. Steps state.old state.new (events.Revoke file bits) a) }
-    ensures err { OnErr result (KeepsJournal state.old state.new) }
-{
-    let Some(caps) = state.files.get_mut(&file) else {
-        return Ok(Answer::Unknown);
-    };
-    caps.server.revoke(bits);
-    send_cap(&mut state.to_client, file, &caps.server)
-}
-
-pub fn snap(state: &mut State, dir: Ino, name: &Name) -> Result<Answer, Memory>
-    requires { IsReady state.old }
-    ensures ok { IfOk result (λ a. Steps state.old state.new (events.Snap dir name.now) a) }
-    ensures err { OnErr result (KeepsJournal state.old state.new) }
-{
-    if !state.directories.contains(dir) {
-        return Ok(Answer::Unknown);
-    }
-    if state.records.has_snap_named(dir, name) {
-        return Ok(Answer::Exists);
-    }
-    let number = state.records.add_snap(dir, name)?;
-    Ok(Answer::Snap { number })
-}
-
-pub fn remove_snap(state: &mut State, snap: Snap) -> Result<Answer, Memory>
-    requires { IsReady state.old }
-    ensures ok { IfOk result (λ a. Steps state.old state.new (events.RmSnap snap) a) }
-    ensures err { OnErr result (KeepsJournal state.old state.new) }
-{
-    if !state.records.has_snap(snap) {
-        return Ok(Answer::NoSnap);
-    }
-    if state.records.is_removed(snap) {
-        return Ok(Answer::Gone);
-    }
-    let number = state.records.add_removal(snap)?;
-    Ok(Answer::Removed { snap, number })
-}
-
-pub fn commit(state: &mut State) -> Result<Answer, Memory>
-    requires { IsReady state.old }
-    ensures ok { IfOk result (λ a. Steps state.old state.new events.Commit a) }
-    ensures err { OnErr result (KeepsJournal state.old state.new) }
-{
-    let count = state
-        .records
-        .commit(&state.directories, &mut state.to_client)?;
-    Ok(Answer::Commit { count })
-}
-
-pub fn to_mds(state: &mut State) -> Result<Answer, Memory>
-    requires { IsReady state.old }
-    ensures ok { IfOk result (λ a. Steps state.old state.new events.ToMds a) }
-    ensures err { OnErr result (KeepsJournal state.old state.new) }
-{
-    let Some(message) = state.to_server.front() else {
-        return Ok(Answer::Idle);
-    };
-    match message {
-        Message::CapAck { file, seq, bits } => {
-            let (file, seq, bits) = (*file, *seq, *bits);
-            Ok(receive_ack(state, file, seq, bits))
-        }
-        Message::Flush {
-            file,
-            tid,
-            follows,
-            meta,
-        } => {
-            let (file, tid, follows, meta) = (*file, *tid, *follows, *meta);
-            receive_flush(state, false, file, tid, follows, meta)
-        }
-        Message::FlushSnap {
-            file,
-            tid,
-            follows,
-            meta,
-        } => {
-            let (file, tid, follows, meta) = (*file, *tid, *follows, *meta);
-            receive_flush(state, true, file, tid, follows, meta)
-        }
-        Message::Cap { .. } | Message::FlushAck { .. } | Message::Snap { .. } => unreachable!(),
-    }
-}
-
-// The client holds only these bits, if the acknowledgement is that of the last message.
-fn receive_ack(state: &mut State, file: Ino, seq: Seq, bits: Caps) -> Answer
+/// The server does the event, and what it sends goes to the client.
+pub fn serve<L: MdsLog>(state: &mut State, log: &mut L, event: &Event) -> Result<Answer, StepFault>
     requires ready { IsReady state.old }
-    requires first { IsFirst (messages.CapAck file seq bits) (to_server (past state.old)) }
-    ensures { Steps state.old state.new events.ToMds result }
+    requires fits { fits event.now ≡ true }
+    requires served { is_served event.now ≡ true }
+    requires logged { LogAt (past state.old) (L.records log.old) (L.durable log.old) }
+    ensures ok { IfOk result (λ a. Steps state.old state.new event.now a) }
+    ensures err { OnErr result (KeepsJournal state.old state.new) }
+    ensures logged { IfOk result (λ a. LogAt (record { event = event.now; answer = a } ∷ past state.old)
+        (L.records log.new) (L.durable log.new)) }
+    ensures log { LogOf (λ l. L.records l) (λ l. L.durable l) (λ l. L.faults l) state.old.pages
+        (past state.old) event.now log.old log.new result }
+    ensures unstored { IsErrOf result StepFault.Store → ⊥ }
 {
-    let Some(row) = state.files.get_mut(&file) else {
-        unreachable!()
-    };
-    row.server.acked(seq, bits);
-    let held = row.server.held();
-    let _ = state.to_server.pop_front();
-    Answer::CapAck { file, seq, held }
+    let mut out = MessageList::new(state.alloc);
+    let answer = serve_by(&mut state.server, log, event, &mut out)?;
+    send_all(state.alloc, &out, &mut state.to_client)?;
+    Ok(answer)
 }
 
-// Records a flush; `snap` tells whether it is that of a cap snap.
-fn receive_flush(
-    state: &mut State,
-    snap: bool,
-    file: Ino,
-    tid: Tid,
-    follows: Seq,
-    meta: FileMeta,
-) -> Result<Answer, Memory>
-    requires ready { IsReady state.old }
-    requires first { IsFirst (flush_message (record { tid = tid; file = file; follows = follows; meta = meta; snap = snap })) (to_server (past state.old)) }
-    ensures ok { IfOk result (λ a. Steps state.old state.new events.ToMds a) }
-    ensures err { OnErr result (KeepsJournal state.old state.new) }
+// The call of the server that the event is.
+fn serve_by<L: MdsLog>(
+    server: &mut Mds,
+    log: &mut L,
+    event: &Event,
+    out: &mut MessageList,
+) -> Result<Answer, StepFault>
+    requires fits { fits event.now ≡ true }
+    requires served { is_served event.now ≡ true }
+    requires number { HasNumber server.old event.now }
+    requires log { LogHolds (L.records log.old) (L.durable log.old) server.old }
+    ensures answer { IfOk result (λ a. a ≡ served_answer server.old event.now) }
+    ensures after { IfOk result (λ a. Served [] server.old server.new event.now a) }
+    ensures sent { IfOk result (λ a. out.new ≡ out.old ++ event_sent event.now a server.old) }
+    ensures log { OnOk result (LogHolds (L.records log.new) (L.durable log.new) server.new) }
+    ensures halted { OnErr result (Halts (L.records log.new) (L.durable log.new) server.old event.now) }
+    ensures faults { FaultsOf StepFault.Log (is_logged server.old event.now) (L.faults log.old)
+        (L.faults log.new) result }
+    ensures quiet { is_logged server.old event.now ≡ false → log.new ≡ log.old }
+    ensures unstored { IsErrOf result StepFault.Store → ⊥ }
 {
-    let Some(row) = state.files.get_mut(&file) else {
-        unreachable!()
-    };
-    state.records.add_flush(snap, file, tid, follows, meta)?;
-    row.recorded.record(follows, meta)?;
-    let _ = state.to_server.pop_front();
-    Ok(Answer::Flushed { file, tid })
+    match event {
+        Event::Grant { file, bits, max } => Ok(server.grant(*file, *bits, *max, out)?),
+        Event::Revoke { file, bits } => Ok(server.revoke(*file, *bits, out)?),
+        Event::Snap { dir, name } => server.snap(*dir, name, log),
+        Event::RmSnap { snap } => server.remove_snap(*snap, log),
+        Event::Commit => server.commit(true, log, out),
+        _ => unreachable!(),
+    }
 }

@@ -1,62 +1,35 @@
-// The lines that stand before all others, and the script's time.
-ghost use Rattle.std.specs.Prelude.{◌≡◌, IfOk, OnErr};
-ghost use Rattle.cs_laws.specs.declared.events.Event.TheVariants as events;
-ghost use Rattle.cs_world.specs.Tables.{Steps, KeepsJournal, IsReady, is_in_tables};
+// The lines that stand before all others: both sides come to know a directory or a file.
+ghost use Rattle.std.specs.Prelude.{◌≡◌, true, IfOk, OnErr, IsErrOf};
+ghost use Rattle.cs_laws.specs.Events.{is_setup};
+ghost use Rattle.cs_laws.specs.Fits.{fits};
+ghost use Rattle.cs_laws.specs.Runs.{all_setup};
+ghost use Rattle.cs_world.specs.Tables.{IsReady, KeepsJournal, Steps, past};
 
-use crate::contexts::file_context;
-use crate::state::{State, add_file};
-use cs_ids::{Ino, Memory};
-use cs_laws::Answer;
+use crate::state::State;
+use cs_laws::{Answer, Event, MessageList, StepFault};
+use cs_objstore::ObjStore;
 
-/// A directory stands before the run.
-pub fn dir(state: &mut State, dir: Ino, parent: Ino) -> Result<Answer, Memory>
-    requires { IsReady state.old }
-    ensures ok { IfOk result (λ a. Steps state.old state.new (events.Dir dir parent) a) }
+/// The server decides whether it stands. The client is told where it does.
+pub fn set_up<O: ObjStore>(
+    state: &mut State,
+    store: &mut O,
+    event: &Event,
+) -> Result<Answer, StepFault>
+    requires ready { IsReady state.old }
+    requires fits { fits event.now ≡ true }
+    requires setup { is_setup event.now ≡ true }
+    requires first { all_setup (past state.old) ≡ true }
+    ensures ok { IfOk result (λ a. Steps state.old state.new event.now a) }
     ensures err { OnErr result (KeepsJournal state.old state.new) }
+    ensures store { store.new ≡ store.old }
+    ensures unstored { IsErrOf result StepFault.Store → ⊥ }
+    ensures unlogged { IsErrOf result StepFault.Log → ⊥ }
 {
-    if is_in_use(state, dir) {
-        return Ok(Answer::Exists);
+    match state.server.setup(event)? {
+        Answer::Made => {
+            let mut out = MessageList::new(state.alloc);
+            Ok(state.client.step_call(event, true, store, &mut out)?)
+        }
+        answer => Ok(answer),
     }
-    if !state.directories.contains(parent) {
-        return Ok(Answer::NoDir);
-    }
-    state.directories.add(dir, parent)?;
-    Ok(Answer::Made)
-}
-
-// Whether a directory or a file has the inode.
-fn is_in_use(state: &State, inode: Ino) -> bool
-    ensures { result ≡ is_in_tables inode state.now }
-{
-    state.directories.contains(inode) || state.files.contains_key(&inode)
-}
-
-/// A file stands before the run.
-pub fn file(state: &mut State, file: Ino, parent: Ino) -> Result<Answer, Memory>
-    requires { IsReady state.old }
-    ensures ok { IfOk result (λ a. Steps state.old state.new (events.File file parent) a) }
-    ensures err { OnErr result (KeepsJournal state.old state.new) }
-{
-    if is_in_use(state, file) {
-        return Ok(Answer::Exists);
-    }
-    if !state.directories.contains(parent) {
-        return Ok(Answer::NoDir);
-    }
-    let context = file_context(state.alloc, &state.directories, &state.realms, parent)?;
-    add_file(state.alloc, &mut state.files, file, parent, context)?;
-    state.made.push(file)?;
-    Ok(Answer::Made)
-}
-
-/// The script's time becomes this one, unless that is past.
-pub fn clock(state: &mut State, time: u64) -> Answer
-    requires { IsReady state.old }
-    ensures { Steps state.old state.new (events.Clock time) result }
-{
-    if time < state.clock {
-        return Answer::Back;
-    }
-    state.clock = time;
-    Answer::Now { time }
 }

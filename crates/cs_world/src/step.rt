@@ -1,80 +1,66 @@
 // One step: the answer to an event, and its entry.
-ghost use Rattle.std.specs.Prelude.{◌≡◌, ◌∷◌, [], ◌++◌, ◌<◌, ◌≤◌, true, false, IfOk, OnOk, OnErr, IsErrOf, vec_len, vec_capacity};
+ghost use Rattle.std.specs.Prelude.{◌≡◌, ◌∷◌, [], ◌++◌, ◌<◌, ◌≤◌, true, false, IfOk, OnOk, OnErr, vec_len, vec_capacity};
 ghost use Rattle.cs_laws.specs.Answers.{answer};
-ghost use Rattle.cs_laws.specs.Devices.{FaultsOf};
-ghost use Rattle.cs_laws.specs.Fits.{fits};
-ghost use Rattle.cs_laws.specs.Runs.{CanFollow};
 ghost use Rattle.cs_laws.specs.Journal.{entry};
 ghost use Rattle.cs_laws.specs.Operations.{applied};
-ghost use Rattle.cs_world.specs.Storing.{AppliesFront, brings, calls_store};
-ghost use Rattle.cs_world.specs.Tables.{Steps, IsReady, IsKept, KeepsJournal, past};
+ghost use Rattle.cs_laws.specs.Runs.{CanFollow};
+ghost use Rattle.cs_world.specs.Devices.{LogOf, StoreOf};
+ghost use Rattle.cs_world.specs.Parts.{LogAt};
+ghost use Rattle.cs_world.specs.Tables.{IsKept, IsReady, KeepsJournal, Steps, past};
 
-use crate::client::{check, to_client};
-use crate::references::{begin, chmod, end};
-use crate::server::{commit, grant, remove_snap, revoke, snap, to_mds};
-use crate::setup::{clock, dir, file};
+use crate::calls::call;
+use crate::deliveries::{to_client, to_server};
+use crate::server::serve;
+use crate::setup::set_up;
 use crate::shows::show;
-use crate::snaps::{flush, flush_snaps};
 use crate::state::State;
-use crate::writes::{read, write};
 use cs_ids::Memory;
 use cs_laws::{Answer, At, Entry, Event, RefName, StepFault};
+use cs_mdslog::MdsLog;
 use cs_objstore::ObjStore;
 
-#[tactic(auto, using(crate::proofs::Fronts::front_none))]
-pub fn answer<O: ObjStore>(
+#[tactic(auto, using(crate::proofs::Stored::front_none, crate::proofs::Halts::halts_before))]
+pub fn answer<O: ObjStore, L: MdsLog>(
     state: &mut State,
     store: &mut O,
+    log: &mut L,
     event: &Event,
 ) -> Result<Answer, StepFault>
     requires ready { IsReady state.old }
-    requires fits { fits event.now ≡ true }
+    requires allowed { CanFollow (past state.old) event.now }
     requires listed { O.ops store.old ≡ applied (past state.old) }
+    requires logged { LogAt (past state.old) (L.records log.old) (L.durable log.old) }
     ensures ok { IfOk result (λ a. Steps state.old state.new event.now a) }
-    ensures listed { IfOk result (λ a. O.ops store.new ≡ applied (record { event = event.now; answer = a } ∷ past state.old)) }
-    ensures quiet { calls_store event.now (answer state.old.pages (past state.old) event.now) ≡ false → store.new ≡ store.old }
     ensures err { OnErr result (KeepsJournal state.old state.new) }
-    ensures front { OnErr result (AppliesFront (brings state.old.pages (past state.old) event.now) (O.ops store.old) (O.ops store.new)) }
-    ensures faults { FaultsOf StepFault.Store (calls_store event.now (answer state.old.pages (past state.old) event.now)) (O.faults store.old) (O.faults store.new) result }
-    ensures unlogged { IsErrOf result StepFault.Log → ⊥ }
+    ensures listed { IfOk result (λ a. O.ops store.new
+        ≡ applied (record { event = event.now; answer = a } ∷ past state.old)) }
+    ensures logged { IfOk result (λ a. LogAt (record { event = event.now; answer = a } ∷ past state.old)
+        (L.records log.new) (L.durable log.new)) }
+    ensures store { StoreOf (λ s. O.ops s) (λ s. O.faults s) state.old.pages (past state.old) event.now
+        store.old store.new result }
+    ensures log { LogOf (λ l. L.records l) (λ l. L.durable l) (λ l. L.faults l) state.old.pages
+        (past state.old) event.now log.old log.new result }
 {
     // The proof of a move of an event needs the type of a reference's name named, here and below.
     let _told: Option<RefName> = None;
-    let _at: Option<At> = None;
     match event {
-        Event::Dir { dir: made, parent } => Ok(dir(state, *made, *parent)?),
-        Event::File { file: made, parent } => Ok(file(state, *made, *parent)?),
-        Event::Clock { time } => Ok(clock(state, *time)),
-        Event::Begin {
-            caller,
-            file,
-            bits,
-            end,
-        } => Ok(begin(state, *caller, *file, *bits, *end)?),
-        Event::End { caller, name } => Ok(end(state, *caller, *name)?),
-        Event::Write {
-            caller,
-            name,
-            off,
-            bytes,
-        } => write(state, store, *caller, *name, *off, bytes),
-        Event::Read {
-            caller,
-            name,
-            off,
-            len,
-        } => read(state, store, *caller, *name, *off, *len),
-        Event::Chmod { caller, name, mode } => Ok(chmod(state, *caller, *name, *mode)?),
-        Event::Check { file } => Ok(check(state, *file)?),
-        Event::Flush { file } => Ok(flush(state, *file)?),
-        Event::FlushSnaps { file } => Ok(flush_snaps(state, *file)?),
+        Event::Dir { .. } | Event::File { .. } => set_up(state, store, event),
+        Event::Clock { .. }
+        | Event::Begin { .. }
+        | Event::End { .. }
+        | Event::Write { .. }
+        | Event::Read { .. }
+        | Event::Chmod { .. }
+        | Event::Check { .. }
+        | Event::Flush { .. }
+        | Event::FlushSnaps { .. } => call(state, store, event),
+        Event::Grant { .. }
+        | Event::Revoke { .. }
+        | Event::Snap { .. }
+        | Event::RmSnap { .. }
+        | Event::Commit => serve(state, log, event),
         Event::ToClient => Ok(to_client(state)?),
-        Event::ToMds => Ok(to_mds(state)?),
-        Event::Grant { file, bits, max } => Ok(grant(state, *file, *bits, *max)?),
-        Event::Revoke { file, bits } => Ok(revoke(state, *file, *bits)?),
-        Event::Snap { dir, name } => Ok(snap(state, *dir, name)?),
-        Event::RmSnap { snap } => Ok(remove_snap(state, *snap)?),
-        Event::Commit => Ok(commit(state)?),
+        Event::ToMds => to_server(state, log),
         Event::Show { file, at, off, len } => show(state, store, *file, at, *off, *len),
     }
 }
@@ -97,31 +83,35 @@ fn enter(entries: &mut Vec<Entry>, event: Event, answer: Answer)
 }
 
 /// Does an event, and enters it with its answer. The room for the entry is taken first.
-#[tactic(auto, using(crate::proofs::Fronts::front_none))]
-pub fn step<O: ObjStore>(
+#[tactic(auto, using(crate::proofs::Stored::front_none, crate::proofs::Halts::halts_before))]
+pub fn step<O: ObjStore, L: MdsLog>(
     state: &mut State,
     store: &mut O,
+    log: &mut L,
     event: &Event,
 ) -> Result<Answer, StepFault>
     requires ready { IsReady state.old }
     requires allowed { CanFollow (past state.old) event.now }
     requires listed { O.ops store.old ≡ applied (past state.old) }
+    requires logged { LogAt (past state.old) (L.records log.old) (L.durable log.old) }
     ensures answer { IfOk result (λ a. a ≡ answer state.old.pages (past state.old) event.now) }
-    ensures history { OnOk result (past state.new ≡ entry state.old.pages (past state.old) event.now ∷ past state.old) }
+    ensures history { OnOk result (past state.new
+        ≡ entry state.old.pages (past state.old) event.now ∷ past state.old) }
     ensures kept { OnOk result (IsKept state.new) }
     ensures listed { OnOk result (O.ops store.new ≡ applied (past state.new)) }
-    ensures quiet { calls_store event.now (answer state.old.pages (past state.old) event.now) ≡ false → store.new ≡ store.old }
+    ensures logged { OnOk result (LogAt (past state.new) (L.records log.new) (L.durable log.new)) }
     ensures pages { state.new.pages ≡ state.old.pages }
     ensures err { OnErr result (past state.new ≡ past state.old) }
-    ensures front { OnErr result (AppliesFront (brings state.old.pages (past state.old) event.now) (O.ops store.old) (O.ops store.new)) }
-    ensures faults { FaultsOf StepFault.Store (calls_store event.now (answer state.old.pages (past state.old) event.now)) (O.faults store.old) (O.faults store.new) result }
-    ensures unlogged { IsErrOf result StepFault.Log → ⊥ }
+    ensures store { StoreOf (λ s. O.ops s) (λ s. O.faults s) state.old.pages (past state.old) event.now
+        store.old store.new result }
+    ensures log { LogOf (λ l. L.records l) (λ l. L.durable l) (λ l. L.faults l) state.old.pages
+        (past state.old) event.now log.old log.new result }
 {
     let _told: Option<RefName> = None;
     let _at: Option<At> = None;
     reserve(&mut state.entries)?;
     let entered = event.copy(state.alloc)?;
-    let answer = answer(state, store, event)?;
+    let answer = answer(state, store, log, event)?;
     let told = answer.copy(state.alloc)?;
     enter(&mut state.entries, entered, told);
     Ok(answer)

@@ -1,39 +1,45 @@
-use Rattle.std.proofs.Common.{◌≡◌, ◌∙◌, suc, ◌+◌, ◌∷◌, sym, ap, refl, subst, length, add-one, arith, Result, Err}
+use Rattle.std.proofs.Common.{◌≡◌, ◌∙◌, suc, ◌+◌, ◌∷◌, sym, ap, refl, subst, length, add-one, arith}
 use Rattle.std.proofs.lemmas.List.{length-reverse}
-use Rattle.cs_laws.specs.declared.answers.Answer.{Answer}
 use Rattle.cs_laws.specs.declared.answers.Entry.{Entry}
 use Rattle.cs_laws.specs.declared.faults.StepFault.{StepFault}
-use Rattle.cs_laws.specs.declared.faults.StepFault.TheVariants as stepping
 use Rattle.std.specs.Io.KnownBytes.{Appends}
 use Rattle.cs_io.specs.Whole.{AppendsFront}
 use Rattle.cs_laws.specs.Journal.{journal, entry, line}
-use Rattle.cs_laws.specs.Operations.{applied}
 use Rattle.ceph_run.specs.declared.run_fault.RunFault.TheVariants as faults
 use Rattle.ceph_run.specs.declared.write_fault.WriteFault.{WriteFault}
+use Rattle.ceph_run.specs.Held.{Held, AgreesAt, IsBlank}
 use Rattle.ceph_run.specs.Statuses.{of_step, of_write}
 use Rattle.ceph_run.proofs.Journals.{line_step, text_step}
-use Rattle.ceph_run.proofs.Agreeing.{agrees}
+use Rattle.ceph_run.proofs.Agreeing.{nothing_agrees}
+use Rattle.ceph_run.proofs.Halting.{step_holds}
 use Rattle.ceph_run.proofs.Runs.{script_run, next_follows}
 use Rattle.ceph_run.proofs.Stopping.{journal_step, journal_all, stops_in_header, stops_in_event, stops_in_line, stops_in_end, stops_of_write, stops_of_step, if_err_is}
 use Rattle.ceph_run.proofs.journal.write_journal.Goals as goal
 
 pub returns-in_err-write_all-clause-err : goal.returns-in_err-write_all-clause-err
 returns-in_err-write_all-clause-err g c =
-    let stopped = stops_in_header c.args.world.now.pages c.args.events.now _ _ (g.O.ObjStore.ops c.args.world.now.store) c.requires.empty c.in_err-write_all.ensures.err in
+    let w = c.args.world.now in
+    let held : Held = record { ops = g.O.ObjStore.ops w.store; records = g.L.MdsLog.records w.log; durable = g.L.MdsLog.durable w.log } in
+    let blank : IsBlank held = record { store = c.requires.store; log = c.requires.log; durable = c.requires.durable } in
+    let stopped = stops_in_header w.pages c.args.events.now _ _ held blank c.in_err-write_all.ensures.err in
     if_err_is _ c.from_residual.result faults.Sink c.from_residual.ensures.1 stopped
 
 pub loop-event-init : goal.loop-event-init
-loop-event-init g c = record {
-  live = c.requires.live;
-  pages = refl;
-  count = ap length c.requires.fresh;
-  done = c.requires.fresh;
-  listed = c.requires.empty ∙ ap (λ h. applied h) (sym c.requires.fresh);
-  log = refl;
-  written = rw c.requires.fresh c.in_ok-write_all.ensures.ok;
-  later = c.in_ok-write_all.ensures.cause.later;
-  stored = omega arith;
-}
+loop-event-init g c =
+    let w = c.args.world.now in
+    let held : Held = record { ops = g.O.ObjStore.ops w.store; records = g.L.MdsLog.records w.log; durable = g.L.MdsLog.durable w.log } in
+    let blank : IsBlank held = record { store = c.requires.store; log = c.requires.log; durable = c.requires.durable } in
+    record {
+      live = c.requires.live;
+      pages = refl;
+      count = ap length c.requires.fresh;
+      done = c.requires.fresh;
+      agrees = subst (λ h. AgreesAt h held) (sym c.requires.fresh) (nothing_agrees held blank);
+      written = rw c.requires.fresh c.in_ok-write_all.ensures.ok;
+      sink = c.in_ok-write_all.ensures.cause.later;
+      store = omega arith;
+      log = omega arith;
+    }
 
 pub step-requires-clause-setup : goal.step-requires-clause-setup
 step-requires-clause-setup g c =
@@ -49,12 +55,16 @@ pub returns-in_err-answer-clause-err : goal.returns-in_err-answer-clause-err
 returns-in_err-answer-clause-err g c =
     let i = c.loop-event.invariant in
     let w = c.loop-event.world in
-    let stopped =
-    stops_in_event c.args.world.now.pages w.pages c.args.events.now c.loop-event.event-index c.event-item.result w.history _ _ (applied w.history)
-    (g.O.ObjStore.ops c.step.new.self.store) c.loop-event-test.true c.event-item.is i.pages i.done i.written refl c.in_err-answer.ensures.front in
     let fault : StepFault = c.in_err-answer.field-0.0 in
-    let unlogged : fault ≡ stepping.Log → ⊥ = λ is. c.in_err-answer.ensures.unlogged (ap (λ f. let r : Result Answer StepFault = Err f in r) is) in
-    if_err_is _ c.from_residual-in_err-answer.result (of_step fault) c.from_residual-in_err-answer.ensures.1 (stops_of_step fault _ _ _ _ _ unlogged stopped)
+    let holds =
+    step_holds g.O.ObjStore.ops g.O.ObjStore.faults g.L.MdsLog.records g.L.MdsLog.durable g.L.MdsLog.faults w.pages w.history c.event-item.result
+    w.store c.step.new.self.store w.log c.step.new.self.log fault i.agrees c.in_err-answer.ensures.store c.in_err-answer.ensures.log in
+    let v = c.step.new.self in
+    let held : Held = record { ops = g.O.ObjStore.ops v.store; records = g.L.MdsLog.records v.log; durable = g.L.MdsLog.durable v.log } in
+    let stopped =
+    stops_in_event fault c.args.world.now.pages w.pages c.args.events.now c.loop-event.event-index c.event-item.result w.history _ _ held
+    c.loop-event-test.true c.event-item.is i.pages i.done i.written holds in
+    if_err_is _ c.from_residual-in_err-answer.result (of_step fault) c.from_residual-in_err-answer.ensures.1 (stops_of_step fault _ _ _ _ _ stopped)
 
 pub returns-in_err-write_entry-clause-err : goal.returns-in_err-write_entry-clause-err
 returns-in_err-write_entry-clause-err g c =
@@ -67,10 +77,11 @@ returns-in_err-write_entry-clause-err g c =
     let answered : record { event = c.event-item.result; answer = c.in_ok-answer.answer } ≡ x = ap (λ a. let y : Entry = record { event = c.event-item.result; answer = a } in y) c.in_ok-answer.ensures.answer in
     let P : Entry → Type 0 = λ y. AppendsFront (g.K.Sink.taken c.loop-event.sink) (g.K.Sink.taken c.write_entry.new.sink) (line (length c.entries.result.now) y) in
     let count : length c.entries.result.now ≡ length w.history + 1 = ap length c.entries.ensures ∙ (length-reverse c.step.new.self.history ∙ (ap length grown ∙ sym (add-one (length w.history)))) in
+    let v = c.step.new.self in
+    let held : Held = record { ops = g.O.ObjStore.ops v.store; records = g.L.MdsLog.records v.log; durable = g.L.MdsLog.durable v.log } in
     let stopped =
-    stops_in_line c.args.world.now.pages c.args.events.now c.loop-event.event-index w.history c.step.new.self.history x _ _ _ _
-    (g.O.ObjStore.ops c.step.new.self.store) c.loop-event-test.true (script_run c.args.world.now.pages c.args.events.now c.requires.script)
-    c.in_ok-answer.ensures.agrees.operations i.done grown stepped count i.written (subst P answered c.in_err-write_entry.ensures.err) in
+    stops_in_line c.args.world.now.pages c.args.events.now c.loop-event.event-index w.history v.history x _ _ _ _ held
+    c.loop-event-test.true c.in_ok-answer.ensures.agrees i.done grown stepped count i.written (subst P answered c.in_err-write_entry.ensures.err) in
     let fault : WriteFault = c.in_err-write_entry.field-0.0 in
     if_err_is _ c.from_residual-in_err-write_entry.result (of_write fault) c.from_residual-in_err-write_entry.ensures.1 (stops_of_write fault _ _ _ _ _ stopped)
 
@@ -91,11 +102,11 @@ loop-event-preserved g c =
       done = rw add-one
           (journal_step c.args.world.now.pages w.pages w.history c.step.new.self.history c.args.events.now c.loop-event.event-index c.event-item.result
           c.loop-event-test.true c.event-item.is i.pages grown i.done);
-      listed = c.in_ok-answer.ensures.agrees.operations;
-      log = ap (λ s. s.log) stepped ∙ i.log;
+      agrees = c.in_ok-answer.ensures.agrees;
       written = line_step _ _ _ w.history _ x _ grown count i.written (subst P answered c.in_ok-write_entry.ensures.ok);
-      later = omega (arith, c.in_ok-write_entry.ensures.later, i.later);
-      stored = omega (arith, c.in_ok-answer.ensures.faults.later, i.stored);
+      sink = omega (arith, c.in_ok-write_entry.ensures.later, i.sink);
+      store = omega (arith, c.in_ok-answer.ensures.store.faults.later, i.store);
+      log = omega (arith, c.in_ok-answer.ensures.log.faults.later, i.log);
     }
 
 pub returns-in_err-write_end-clause-err : goal.returns-in_err-write_end-clause-err
@@ -103,9 +114,10 @@ returns-in_err-write_end-clause-err g c =
     let i = c.loop-event.invariant in
     let w = c.loop-event.world in
     let count : length c.entries-count.result.now ≡ length w.history = ap length c.entries-count.ensures ∙ length-reverse w.history in
+    let held : Held = record { ops = g.O.ObjStore.ops w.store; records = g.L.MdsLog.records w.log; durable = g.L.MdsLog.durable w.log } in
     let stopped =
-    stops_in_end c.args.world.now.pages c.args.events.now c.loop-event.event-index (length c.entries-count.result.now) w.history _ _ _
-    (g.O.ObjStore.ops w.store) (omega (arith, c.loop-event-test.false, c.loop-event.auto.event-index-end)) (script_run c.args.world.now.pages c.args.events.now c.requires.script) i.listed i.done count i.written c.in_err-write_end.ensures.err in
+    stops_in_end c.args.world.now.pages c.args.events.now c.loop-event.event-index (length c.entries-count.result.now) w.history _ _ _ held
+    (omega (arith, c.loop-event-test.false, c.loop-event.auto.event-index-end)) i.agrees i.done count i.written c.in_err-write_end.ensures.err in
     let fault : WriteFault = c.in_err-write_end.field-0.0 in
     if_err_is _ c.from_residual-in_err-write_end.result (of_write fault) c.from_residual-in_err-write_end.ensures.1 (stops_of_write fault _ _ _ _ _ stopped)
 
@@ -120,8 +132,7 @@ returns-clause-ok g c =
 pub returns-clause-agrees : goal.returns-clause-agrees
 returns-clause-agrees g c =
     let i = c.loop-event.invariant in
-    let run = script_run c.args.world.now.pages c.args.events.now c.requires.script in
-    agrees c.args.world.now.pages (journal c.args.world.now.pages c.args.events.now) _ run
-    (i.listed
-    ∙ ap (λ h. applied h)
-    (journal_all c.args.world.now.pages c.loop-event.world.history c.args.events.now c.loop-event.event-index c.loop-event-test.false i.done))
+    let w = c.loop-event.world in
+    let held : Held = record { ops = g.O.ObjStore.ops w.store; records = g.L.MdsLog.records w.log; durable = g.L.MdsLog.durable w.log } in
+    subst (λ h. AgreesAt h held)
+    (journal_all c.args.world.now.pages w.history c.args.events.now c.loop-event.event-index c.loop-event-test.false i.done) i.agrees

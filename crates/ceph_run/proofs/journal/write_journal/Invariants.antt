@@ -1,7 +1,7 @@
 use Rattle.std.proofs.Common.{◌≡◌, ◌≤◌, ◌++◌, true, take, length}
 use Rattle.std.specs.Io.KnownBytes.{Appends}
+use Rattle.cs_laws.specs.Agreement.{Agrees}
 use Rattle.cs_laws.specs.Journal.{journal, header, lines}
-use Rattle.cs_laws.specs.Operations.{applied}
 use Rattle.ceph_run.proofs.journal.write_journal.Given as goal
 
 abbrev pub invariant-loop-event : goal.invariant-loop-event
@@ -10,9 +10,9 @@ invariant-loop-event g l = record {
   pages : l.world.pages ≡ l.fn.world.pages;
   count : length l.world.history ≡ l.event-index;
   done : l.world.history ≡ journal l.fn.world.pages (take l.event-index l.events);
-  listed : g.O.ObjStore.ops l.world.store ≡ applied l.world.history;
-  log : l.world.log ≡ l.fn.world.log;
+  agrees : Agrees (g.O.ObjStore.ops l.world.store) (g.L.MdsLog.records l.world.log) (g.L.MdsLog.durable l.world.log) l.world.history;
   written : Appends (g.K.Sink.taken l.fn.sink) (g.K.Sink.taken l.sink) (header ++ lines l.world.history);
-  later : g.K.Sink.faults l.fn.sink ≤ g.K.Sink.faults l.sink;
-  stored : g.O.ObjStore.faults l.fn.world.store ≤ g.O.ObjStore.faults l.world.store;
+  sink : g.K.Sink.faults l.fn.sink ≤ g.K.Sink.faults l.sink;
+  store : g.O.ObjStore.faults l.fn.world.store ≤ g.O.ObjStore.faults l.world.store;
+  log : g.L.MdsLog.faults l.fn.world.log ≤ g.L.MdsLog.faults l.world.log;
 }

@@ -1,4 +1,4 @@
-use Rattle.cs_theorems.proofs.Numbered.{flushes_numbered}
+use Rattle.cs_theorems.proofs.FlushReplays.{flushes_numbered}
 use Rattle.cs_theorems.proofs.flushes.flushes_are_numbered.Goals as goal
 
 pub returns : goal.returns

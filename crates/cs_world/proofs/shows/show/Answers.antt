@@ -1,49 +1,56 @@
-use Rattle.std.proofs.Common.{rules, ◌≡◌, ◌∙◌, refl, sym, ◌≤◌, true, false}
-use Rattle.std.proofs.lemmas.Bool.{and_parts}
-use Rattle.cs_laws.specs.Fits.{greatest_end, is_shown, is_state}
-use Rattle.cs_laws.specs.History.{stand}
-use Rattle.cs_laws.specs.Metadata.{meta_at}
+use Rattle.std.proofs.Common.{◌≡◌, ◌∙◌, refl, sym, ap, true, false, rules}
+use Rattle.std.proofs.lemmas.Bool.{and_parts, cond-true}
+use Rattle.cs_laws.specs.declared.answers.Answer.TheVariants as answers
+use Rattle.cs_laws.specs.declared.events.Event.TheVariants as events
+use Rattle.cs_laws.specs.Answers.{bytes_from}
+use Rattle.cs_laws.specs.Fits.{is_shown, is_state}
+use Rattle.cs_laws.specs.History.{writes}
+use Rattle.cs_laws.specs.Image.{image}
+use Rattle.cs_laws.specs.Operations.{applied}
 use Rattle.cs_laws.specs.Owed.{owed}
-use Rattle.cs_world.specs.declared.shows.Shown.TheVariants as states
+use Rattle.cs_laws.specs.Shown.{writes_at}
+use Rattle.cs_mds.specs.declared.shown.Shown.TheVariants as states
+use Rattle.cs_mds.specs.Answers.{shown_of}
+use Rattle.cs_world.specs.Devices.{brings}
 use Rattle.cs_world.specs.Tables.{past}
-use Rattle.cs_world.proofs.Rows.{row_known}
-use Rattle.cs_world.proofs.Showing.{absent_is, count_within, gone_is, meta_small, owes, pending_is, calls_by_count, none_counted, some_counted, shown_is, stored_bytes, table_standing, told_meta}
+use Rattle.cs_world.proofs.Showing.{called_by, owes, quiet_by, show_is, shows_it, stored_bytes, within}
+use Rattle.cs_world.proofs.Stored.{any_err, front_none}
 use Rattle.cs_world.proofs.shows.show.Goals as goal
 
 pub returns-in-Absent-clause-ok : goal.returns-in-Absent-clause-ok
 returns-in-Absent-clause-ok g c =
     let s = c.args.state.now in
-    let h = past s in
-    let f = c.args.file in
     let a = c.args.at.now in
-    let ready = c.requires.ready in
-    let has = sym c.in-Some.ensures.value in
-    let known = row_known h s f c.in-Some.row.now ready.tables has in
+    let t = c.requires.ready.parts in
     let state = (and_parts (is_state a) (is_shown c.args.off c.args.len) c.requires.fits).0 in
-    let stands = table_standing h s f a c.in-Some.row.now states.Absent ready.tables has (sym c.in-Absent.is ∙ c.shown_of.ensures) in
+    let is : states.Absent ≡ shown_of s.server c.args.file a = sym c.in-Absent.is ∙ c.shown.ensures in
     record {
-      answer = absent_is s.pages h f a c.args.off c.args.len ready.run known state stands;
+      after = record {
+        answer = sym (show_is s.pages (past s) s.server c.args.file a c.args.off c.args.len states.Absent c.requires.ready.run t.server state is);
+        client = t.client;
+        server = t.server;
+        links = t.links;
+      };
       entries = refl;
       pages = refl;
-      tables = search rules;
     }
 
 pub returns-in-Gone-clause-ok : goal.returns-in-Gone-clause-ok
 returns-in-Gone-clause-ok g c =
     let s = c.args.state.now in
-    let h = past s in
-    let f = c.args.file in
     let a = c.args.at.now in
-    let ready = c.requires.ready in
-    let has = sym c.in-Some.ensures.value in
-    let known = row_known h s f c.in-Some.row.now ready.tables has in
+    let t = c.requires.ready.parts in
     let state = (and_parts (is_state a) (is_shown c.args.off c.args.len) c.requires.fits).0 in
-    let stands = table_standing h s f a c.in-Some.row.now states.Gone ready.tables has (sym c.in-Gone.is ∙ c.shown_of.ensures) in
+    let is : states.Gone ≡ shown_of s.server c.args.file a = sym c.in-Gone.is ∙ c.shown.ensures in
     record {
-      answer = gone_is s.pages h f a c.args.off c.args.len ready.run known state stands;
+      after = record {
+        answer = sym (show_is s.pages (past s) s.server c.args.file a c.args.off c.args.len states.Gone c.requires.ready.run t.server state is);
+        client = t.client;
+        server = t.server;
+        links = t.links;
+      };
       entries = refl;
       pages = refl;
-      tables = search rules;
     }
 
 pub returns-then-owed-clause-ok : goal.returns-then-owed-clause-ok
@@ -52,102 +59,112 @@ returns-then-owed-clause-ok g c =
     let h = past s in
     let f = c.args.file in
     let a = c.args.at.now in
-    let ready = c.requires.ready in
-    let has = sym c.in-Some.ensures.value in
-    let known = row_known h s f c.in-Some.row.now ready.tables has in
+    let t = c.requires.ready.parts in
+    let run = c.requires.ready.run in
     let state = (and_parts (is_state a) (is_shown c.args.off c.args.len) c.requires.fits).0 in
-    let stands = table_standing h s f a c.in-Some.row.now states.There ready.tables has (sym c.in-There.is ∙ c.shown_of.ensures) in
-    let owing : owed h f a ≡ true = owes h s f a c.in-Some.row.now ready.tables ready.run has true (rw c.snapshot_of.ensures at (sym c.owed.ensures ∙ c.if-owed.true)) in
+    let is : states.Meta c.in-Meta.meta ≡ shown_of s.server f a = sym c.in-Meta.is ∙ c.shown.ensures in
+    let owing : owed h f a ≡ true =
+    sym (owes s.pages h s.client s.server f a c.in-Meta.meta run t.client t.server is) ∙ (rw c.snapshot_of.ensures at (sym c.owed.ensures ∙ c.if-owed.true)) in
     record {
-      answer = pending_is s.pages h f a c.args.off c.args.len ready.run known state stands owing;
+      after = record {
+        answer =
+            sym (show_is s.pages h s.server f a c.args.off c.args.len (states.Meta c.in-Meta.meta) run t.server state is ∙ cond-true (owed h f a) answers.Pending _ owing);
+        client = t.client;
+        server = t.server;
+        links = t.links;
+      };
       entries = refl;
       pages = refl;
-      tables = search rules;
     }
 
 pub read_file-requires-clause-within : goal.read_file-requires-clause-within
-read_file-requires-clause-within g c κs within =
+read_file-requires-clause-within g c κs within_them =
     let s = c.args.state.now in
     let h = past s in
     let f = c.args.file in
     let a = c.args.at.now in
-    let ready = c.requires.ready in
-    let has = sym c.in-Some.ensures.value in
-    let free : owed h f a ≡ false = owes h s f a c.in-Some.row.now ready.tables ready.run has false (rw c.snapshot_of.ensures at (sym c.owed.ensures ∙ c.if-owed.false)) in
-    let is : c.at-meta.result ≡ meta_at f a (stand h) = told_meta h s f a c.in-Some.row.now c.at-meta.result ready.tables ready.run has c.at-meta.ensures in
-    let small : c.at-meta.result.size ≤ greatest_end = rw is (meta_small s.pages h f a ready.run free) in
-    let shown = (and_parts (is_state a) (is_shown c.args.off c.args.len) c.requires.fits).1 in
-    rw c.shown_count-count.ensures (count_within c.at-meta.result.size c.args.off c.args.len shown small)
+    let t = c.requires.ready.parts in
+    let run = c.requires.ready.run in
+    let fit = (and_parts (is_state a) (is_shown c.args.off c.args.len) c.requires.fits).1 in
+    let is : states.Meta c.in-Meta.meta ≡ shown_of s.server f a = sym c.in-Meta.is ∙ c.shown.ensures in
+    let free : owed h f a ≡ false =
+    sym (owes s.pages h s.client s.server f a c.in-Meta.meta run t.client t.server is) ∙ (rw c.snapshot_of.ensures at (sym c.owed.ensures ∙ c.if-owed.false)) in
+    rw c.shown_count-count.ensures (within s.pages h s.server f a c.args.off c.args.len c.in-Meta.meta run t.server is free fit)
 
-pub returns-in_err-bytes-in-There-clause-quiet : goal.returns-in_err-bytes-in-There-clause-quiet
-returns-in_err-bytes-in-There-clause-quiet g c = λ none.
+pub returns-in_err-bytes-in-Meta-clause-store : goal.returns-in_err-bytes-in-Meta-clause-store
+returns-in_err-bytes-in-Meta-clause-store g c =
     let s = c.args.state.now in
     let h = past s in
     let f = c.args.file in
     let a = c.args.at.now in
-    let ready = c.requires.ready in
-    let has = sym c.in-Some.ensures.value in
-    let known = row_known h s f c.in-Some.row.now ready.tables has in
+    let t = c.requires.ready.parts in
+    let run = c.requires.ready.run in
     let state = (and_parts (is_state a) (is_shown c.args.off c.args.len) c.requires.fits).0 in
-    let stands = table_standing h s f a c.in-Some.row.now states.There ready.tables has (sym c.in-There.is ∙ c.shown_of.ensures) in
-    let free : owed h f a ≡ false = owes h s f a c.in-Some.row.now ready.tables ready.run has false (rw c.snapshot_of.ensures at (sym c.owed.ensures ∙ c.if-owed.false)) in
-    let is : c.at-meta.result ≡ meta_at f a (stand h) = told_meta h s f a c.in-Some.row.now c.at-meta.result ready.tables ready.run has c.at-meta.ensures in
-    let calls = calls_by_count s.pages h f a c.args.off c.args.len c.at-meta.result c.shown_count-count.result ready.run known state stands free is c.shown_count-count.ensures in
-    c.in_err-bytes-in-There.ensures.quiet (none_counted _ c.args.off c.shown_count-count.result (sym calls ∙ none))
-
-pub returns-in_err-bytes-in-There-clause-faults : goal.returns-in_err-bytes-in-There-clause-faults
-returns-in_err-bytes-in-There-clause-faults g c =
-    let s = c.args.state.now in
-    let h = past s in
-    let f = c.args.file in
-    let a = c.args.at.now in
-    let ready = c.requires.ready in
-    let has = sym c.in-Some.ensures.value in
-    let known = row_known h s f c.in-Some.row.now ready.tables has in
-    let state = (and_parts (is_state a) (is_shown c.args.off c.args.len) c.requires.fits).0 in
-    let stands = table_standing h s f a c.in-Some.row.now states.There ready.tables has (sym c.in-There.is ∙ c.shown_of.ensures) in
-    let free : owed h f a ≡ false = owes h s f a c.in-Some.row.now ready.tables ready.run has false (rw c.snapshot_of.ensures at (sym c.owed.ensures ∙ c.if-owed.false)) in
-    let is : c.at-meta.result ≡ meta_at f a (stand h) = told_meta h s f a c.in-Some.row.now c.at-meta.result ready.tables ready.run has c.at-meta.ensures in
-    let calls = calls_by_count s.pages h f a c.args.off c.args.len c.at-meta.result c.shown_count-count.result ready.run known state stands free is c.shown_count-count.ensures in
+    let is : states.Meta c.in-Meta.meta ≡ shown_of s.server f a = sym c.in-Meta.is ∙ c.shown.ensures in
+    let free : owed h f a ≡ false =
+    sym (owes s.pages h s.client s.server f a c.in-Meta.meta run t.client t.server is) ∙ (rw c.snapshot_of.ensures at (sym c.owed.ensures ∙ c.if-owed.false)) in
+    let shows = shows_it s.pages h s.server f a c.args.off c.args.len c.in-Meta.meta run t.server state is free in
+    let done = c.in_err-bytes-in-Meta.ensures in
     record {
-      later = c.in_err-bytes-in-There.ensures.faults.later;
-      cause = λ e. search rules;
-      called = λ e. calls ∙ some_counted _ c.args.off c.shown_count-count.result (search rules);
+      front =
+          any_err c.from_residual.result
+          (front_none (brings s.pages h (events.Show f a c.args.off c.args.len)) (applied h) (g.O.ObjStore.ops c.read_file.new.store) (done.kept ∙ c.requires.listed));
+      quiet = λ none.
+          done.quiet (quiet_by s.pages h f a c.args.off c.args.len c.shown_count-count.result c.in-Meta.meta shows c.shown_count-count.ensures none);
+      faults = record {
+        later = done.faults.later;
+        cause = λ e. search rules;
+        called = λ e. called_by s.pages h f a c.args.off c.args.len c.shown_count-count.result c.in-Meta.meta shows c.shown_count-count.ensures (search rules);
+      };
     }
 
-pub returns-in_ok-bytes-in-There-clause-quiet : goal.returns-in_ok-bytes-in-There-clause-quiet
-returns-in_ok-bytes-in-There-clause-quiet g c = λ none.
+pub returns-in_ok-bytes-in-Meta-clause-ok : goal.returns-in_ok-bytes-in-Meta-clause-ok
+returns-in_ok-bytes-in-Meta-clause-ok g c =
     let s = c.args.state.now in
     let h = past s in
     let f = c.args.file in
     let a = c.args.at.now in
-    let ready = c.requires.ready in
-    let has = sym c.in-Some.ensures.value in
-    let known = row_known h s f c.in-Some.row.now ready.tables has in
-    let state = (and_parts (is_state a) (is_shown c.args.off c.args.len) c.requires.fits).0 in
-    let stands = table_standing h s f a c.in-Some.row.now states.There ready.tables has (sym c.in-There.is ∙ c.shown_of.ensures) in
-    let free : owed h f a ≡ false = owes h s f a c.in-Some.row.now ready.tables ready.run has false (rw c.snapshot_of.ensures at (sym c.owed.ensures ∙ c.if-owed.false)) in
-    let is : c.at-meta.result ≡ meta_at f a (stand h) = told_meta h s f a c.in-Some.row.now c.at-meta.result ready.tables ready.run has c.at-meta.ensures in
-    let calls = calls_by_count s.pages h f a c.args.off c.args.len c.at-meta.result c.shown_count-count.result ready.run known state stands free is c.shown_count-count.ensures in
-    c.in_ok-bytes-in-There.ensures.quiet (none_counted _ c.args.off c.shown_count-count.result (sym calls ∙ none))
-
-pub returns-in_ok-bytes-in-There-clause-ok : goal.returns-in_ok-bytes-in-There-clause-ok
-returns-in_ok-bytes-in-There-clause-ok g c =
-    let s = c.args.state.now in
-    let h = past s in
-    let f = c.args.file in
-    let a = c.args.at.now in
-    let ready = c.requires.ready in
-    let has = sym c.in-Some.ensures.value in
-    let known = row_known h s f c.in-Some.row.now ready.tables has in
-    let state = (and_parts (is_state a) (is_shown c.args.off c.args.len) c.requires.fits).0 in
-    let stands = table_standing h s f a c.in-Some.row.now states.There ready.tables has (sym c.in-There.is ∙ c.shown_of.ensures) in
-    let free : owed h f a ≡ false = owes h s f a c.in-Some.row.now ready.tables ready.run has false (rw c.snapshot_of.ensures at (sym c.owed.ensures ∙ c.if-owed.false)) in
-    let is : c.at-meta.result ≡ meta_at f a (stand h) = told_meta h s f a c.in-Some.row.now c.at-meta.result ready.tables ready.run has c.at-meta.ensures in
-    let held = c.in_ok-bytes-in-There.ensures.bytes ∙ stored_bytes s.pages h f a (g.O.ObjStore.ops c.args.store.now) c.args.off c.shown_count-count.result ready.run c.requires.listed in
+    let off = c.args.off in
+    let t = c.requires.ready.parts in
+    let run = c.requires.ready.run in
+    let m = c.in-Meta.meta in
+    let state = (and_parts (is_state a) (is_shown off c.args.len) c.requires.fits).0 in
+    let is : states.Meta m ≡ shown_of s.server f a = sym c.in-Meta.is ∙ c.shown.ensures in
+    let free : owed h f a ≡ false =
+    sym (owes s.pages h s.client s.server f a m run t.client t.server is) ∙ (rw c.snapshot_of.ensures at (sym c.owed.ensures ∙ c.if-owed.false)) in
+    let shows = shows_it s.pages h s.server f a off c.args.len m run t.server state is free in
+    let held =
+    c.in_ok-bytes-in-Meta.ensures.bytes
+    ∙ (stored_bytes s.pages h f a (g.O.ObjStore.ops c.args.store.now) off c.shown_count-count.result run c.requires.listed
+    ∙ ap (λ n. bytes_from (image (writes_at a (writes h f))) off n) c.shown_count-count.ensures) in
     record {
-      answer = shown_is s.pages h f a c.args.off c.args.len c.at-meta.result c.in_ok-bytes-in-There.bytes ready.run known state stands free is (rw c.shown_count-count.ensures at held);
+      after = record {
+        answer = ap (λ b. answers.Size m b) held ∙ sym shows;
+        client = t.client;
+        server = t.server;
+        links = t.links;
+      };
       entries = refl;
       pages = refl;
-      tables = search rules;
+    }
+
+pub returns-in_ok-bytes-in-Meta-clause-store : goal.returns-in_ok-bytes-in-Meta-clause-store
+returns-in_ok-bytes-in-Meta-clause-store g c =
+    let s = c.args.state.now in
+    let h = past s in
+    let f = c.args.file in
+    let a = c.args.at.now in
+    let t = c.requires.ready.parts in
+    let run = c.requires.ready.run in
+    let state = (and_parts (is_state a) (is_shown c.args.off c.args.len) c.requires.fits).0 in
+    let is : states.Meta c.in-Meta.meta ≡ shown_of s.server f a = sym c.in-Meta.is ∙ c.shown.ensures in
+    let free : owed h f a ≡ false =
+    sym (owes s.pages h s.client s.server f a c.in-Meta.meta run t.client t.server is) ∙ (rw c.snapshot_of.ensures at (sym c.owed.ensures ∙ c.if-owed.false)) in
+    let shows = shows_it s.pages h s.server f a c.args.off c.args.len c.in-Meta.meta run t.server state is free in
+    let done = c.in_ok-bytes-in-Meta.ensures in
+    record {
+      front = tt;
+      quiet = λ none.
+          done.quiet (quiet_by s.pages h f a c.args.off c.args.len c.shown_count-count.result c.in-Meta.meta shows c.shown_count-count.ensures none);
+      faults = record { later = done.faults.later; cause = λ e. search rules; called = λ e. search rules };
     }

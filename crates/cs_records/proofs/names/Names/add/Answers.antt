@@ -23,5 +23,6 @@ returns-in_ok-insert-in-None-clause-ok c =
     λ d other.
     named old c.insert.new.self c.args.dir c.put-in-None.new.self c.in_ok-key.key.items c.args.number c.in_ok-insert-in-None.ensures.updates
     (λ name. c.in_ok-put-in-None.ensures.ok name
-    ∙ ap (λ o. cond (bytes_eq name c.in_ok-key.key.items) (Some c.args.number) o) (c.new-table.ensures name ∙ ap (λ o. option_and_then (λ t. last_in t name) o) none)) d other
+    ∙ ap (λ o. cond (bytes_eq name c.in_ok-key.key.items) (Some c.args.number) o) (c.new-table.ensures name
+    ∙ ap (λ o. option_and_then (λ t. last_in t name) o) none)) d other
     ∙ (λ i. cond ((c.args.dir == d) && bytes_eq other (bytes i)) (Some c.args.number) (option_and_then (λ t. last_in t other) (get nat_cmp (same i) d)))

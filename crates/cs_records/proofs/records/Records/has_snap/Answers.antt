@@ -9,4 +9,5 @@ pub returns : goal.returns
 returns c =
     let rs = c.self.inside.records.items in
     let whole : all c.args.self.now ≡ rs = ap all (sym c.self.view_is) ∙ take-append-drop c.self.inside.durable rs in
-    c.contains_key.ensures ∙ (ap is_some (c.self.invariant.dirs c.args.snap) ∙ (sym (snap_dir c.args.snap rs) ∙ ap (λ xs. has_snap c.args.snap xs) (sym whole)))
+    c.contains_key.ensures
+    ∙ (ap is_some (c.self.invariant.index.dirs c.args.snap) ∙ (sym (snap_dir c.args.snap rs) ∙ ap (λ xs. has_snap c.args.snap xs) (sym whole)))

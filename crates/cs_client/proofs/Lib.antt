@@ -1,0 +1,13 @@
+pub mod AllTold
+pub mod Counts
+pub mod Draws
+pub mod Likes
+pub mod Made
+pub mod Nearest
+pub mod Once
+pub mod Puts
+pub mod Sends
+pub mod Steps
+pub mod TakenIn
+pub mod Touched
+pub mod Written

@@ -1,0 +1,11 @@
+// What the client keeps of a file.
+use cs_ids::Ino;
+use cs_inode::Inode;
+
+/// What the client keeps of a file.
+#[derive(Drop)]
+pub struct ClientFile {
+    pub inode: Inode,
+    /// The directory of which the client was told with the file.
+    pub home: Ino,
+}

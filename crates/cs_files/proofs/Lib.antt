@@ -1,0 +1,14 @@
+pub mod Begins
+pub mod ByFile
+pub mod Checks
+pub mod Chmods
+pub mod Counting
+pub mod Delivered
+pub mod Ends
+pub mod Flushes
+pub mod Made
+pub mod Owes
+pub mod FileReads
+pub mod Rows
+pub mod Told
+pub mod Writes

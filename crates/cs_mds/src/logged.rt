@@ -1,0 +1,69 @@
+// Calls of the log.
+ghost use Rattle.std.specs.Prelude.{◌≡◌, ◌++◌, ◌∷◌, [], true, length, OnOk, OnErr, IsErrOf};
+ghost use Rattle.cs_laws.specs.Devices.{FaultsOf};
+ghost use Rattle.cs_laws.specs.Logged.{LogHalts};
+ghost use Rattle.cs_laws.specs.Spellings.{record_fits};
+ghost use Rattle.cs_records.specs.Log.{IsNext};
+ghost use Rattle.cs_records.specs.Records.{all};
+ghost use Rattle.cs_mds.specs.Served.{LogHas};
+ghost use Rattle.cs_mds.specs.Views.{AreRecords};
+
+use cs_ids::{Bytes, Failed};
+use cs_laws::{Record, StepFault};
+use cs_mdslog::{LogFault, MdsLog, encode_record};
+use cs_records::Records;
+use std::alloc::Global;
+
+// Appends a record to the log, and then adds it to the others. After a fault these are as before.
+pub fn log_record<L: MdsLog>(
+    alloc: Global,
+    record: Record,
+    records: &mut Records,
+    log: &mut L,
+) -> Result<(), StepFault>
+    requires next { IsNext (all records.old) «record».body }
+    requires fits { record_fits «record» ≡ true }
+    requires log { LogHas (L.records log.old) (L.durable log.old) records.old }
+    ensures durable { records.new.durable ≡ records.old.durable }
+    ensures fresh { OnOk result (records.new.fresh ≡ records.old.fresh ++ «record» ∷ []) }
+    ensures err { OnErr result (records.new.fresh ≡ records.old.fresh) }
+    ensures kept { AreRecords (all records.old) → AreRecords (all records.new) }
+    ensures log { OnOk result (LogHas (L.records log.new) (L.durable log.new) records.new) }
+    ensures halted { OnErr result (LogHalts (L.records log.new) (L.durable log.new) records.old.durable records.old.fresh records.old.durable (records.old.fresh ++ «record» ∷ [])) }
+    ensures faults { FaultsOf StepFault.Log true (L.faults log.old) (L.faults log.new) result }
+    ensures unstored { IsErrOf result StepFault.Store → ⊥ }
+{
+    let mut bytes = Bytes::new(alloc);
+    encode_record(&record, &mut bytes)?;
+    append(bytes.as_slice(), log)?;
+    records.add(record)?;
+    Ok(())
+}
+
+fn append<L: MdsLog>(bytes: &[u8], log: &mut L) -> Result<(), StepFault>
+    ensures ok { OnOk result (L.records log.new ≡ L.records log.old ++ bytes.now ∷ []) }
+    ensures err { OnErr result (L.records log.new ≡ L.records log.old) }
+    ensures durable { L.durable log.new ≡ L.durable log.old }
+    ensures faults { FaultsOf StepFault.Log true (L.faults log.old) (L.faults log.new) result }
+    ensures unstored { IsErrOf result StepFault.Store → ⊥ }
+{
+    match log.append(bytes) {
+        Ok(()) => Ok(()),
+        Err(LogFault::Failed) => Err(StepFault::Log),
+        Err(LogFault::Memory) => Err(StepFault::Memory),
+    }
+}
+
+// Makes all records of the log durable. After a fault they are as before.
+pub fn sync<L: MdsLog>(log: &mut L) -> Result<(), StepFault>
+    ensures records { L.records log.new ≡ L.records log.old }
+    ensures ok { OnOk result (L.durable log.new ≡ length (L.records log.old)) }
+    ensures err { OnErr result (L.durable log.new ≡ L.durable log.old) }
+    ensures faults { FaultsOf StepFault.Log true (L.faults log.old) (L.faults log.new) result }
+    ensures failed { OnErr result (IsErrOf result StepFault.Log) }
+{
+    match log.sync() {
+        Ok(()) => Ok(()),
+        Err(Failed) => Err(StepFault::Log),
+    }
+}

@@ -1,0 +1,3 @@
+pub mod Linewise
+pub mod Places
+pub mod Running

@@ -1,0 +1,9 @@
+pub mod BadLines
+pub mod Fits
+pub mod Grammar
+pub mod Journal
+pub mod Reading
+pub mod RefusedSnapshots
+pub mod Runs
+pub mod Texts
+pub mod TrimmedBetween

@@ -1,0 +1,104 @@
+use Rattle.std.proofs.Common.{◌≡◌, ◌∙◌, ◌++◌, refl, ap, true, rules, arith}
+use Rattle.std.proofs.lemmas.List.{length-reverse}
+use Rattle.cs_laws.specs.Answers.{answer}
+use Rattle.cs_client.specs.Answers.{call_answer, head_byte}
+use Rattle.cs_client.specs.Calls.{call_operations, call_sent}
+use Rattle.cs_world.specs.Tables.{past}
+use Rattle.cs_world.proofs.Answered.{call_answer_is}
+use Rattle.cs_world.proofs.Client.{client_after}
+use Rattle.cs_world.proofs.Numbers.{has_numbers, new_to, operations_are}
+use Rattle.cs_world.proofs.Sent.{called_links}
+use Rattle.cs_world.proofs.Stays.{server_stays}
+use Rattle.cs_world.proofs.Stored.{any_err, front_listed, front_then, store_of, stored_then}
+use Rattle.cs_world.proofs.calls.call.Goals as goal
+
+pub step_call-requires-clause-setup : goal.step_call-requires-clause-setup
+step_call-requires-clause-setup g c κs within = new_to c.args.state.now.client c.args.event.now c.requires.later
+
+pub step_call-requires-clause-numbers : goal.step_call-requires-clause-numbers
+step_call-requires-clause-numbers g c κs within =
+    let s = c.args.state.now in
+    has_numbers s.pages (past s) s.client c.requires.ready.run c.requires.ready.parts.client (omega (arith, c.requires.ready.room, length-reverse s.entries.items))
+
+pub returns-in_err-answer-clause-store : goal.returns-in_err-answer-clause-store
+returns-in_err-answer-clause-store g c =
+    let s = c.args.state.now in
+    let h = past s in
+    let e = c.args.event.now in
+    let t = c.requires.ready.parts in
+    let ops = g.O.ObjStore.ops c.args.store.now in
+    let said = call_answer s.client true (head_byte ops) e in
+    let is : said ≡ answer s.pages h e = call_answer_is s.pages h c.requires.ready.run s.client t.client true e ops c.requires.call c.requires.later c.requires.listed in
+    let done = c.in_err-answer.ensures in
+    store_of (λ x. g.O.ObjStore.ops x) (λ x. g.O.ObjStore.faults x) s.pages h e c.args.store.now c.step_call.new.store c.from_residual.result said c.requires.call is
+    (any_err c.from_residual.result
+    (front_then s.pages h e (call_operations e said s.client) ops (g.O.ObjStore.ops c.step_call.new.store)
+    (ap (λ a. call_operations e a s.client) is ∙ operations_are s.pages h c.requires.ready.run s.client t.client e (answer s.pages h e) c.requires.call refl) c.requires.listed done.front))
+    done.quiet (search rules)
+
+pub returns-in_err-send_all-clause-store : goal.returns-in_err-send_all-clause-store
+returns-in_err-send_all-clause-store g c =
+    let s = c.args.state.now in
+    let h = past s in
+    let e = c.args.event.now in
+    let a = c.in_ok-answer.answer in
+    let t = c.requires.ready.parts in
+    let ops = g.O.ObjStore.ops c.args.store.now in
+    let is = c.in_ok-answer.ensures.answer ∙ call_answer_is s.pages h c.requires.ready.run s.client t.client true e ops c.requires.call c.requires.later c.requires.listed in
+    let done = c.in_ok-answer.ensures in
+    let front =
+    front_listed s.pages h e a (g.O.ObjStore.ops c.step_call.new.store) is
+    (stored_then e a h (call_operations e a s.client) ops (g.O.ObjStore.ops c.step_call.new.store)
+    (operations_are s.pages h c.requires.ready.run s.client t.client e a c.requires.call is) c.requires.listed done.stored) in
+    store_of (λ x. g.O.ObjStore.ops x) (λ x. g.O.ObjStore.faults x) s.pages h e c.args.store.now c.step_call.new.store c.from_residual-in_err-send_all.result
+    (call_answer s.client true (head_byte ops) e) c.requires.call
+    (call_answer_is s.pages h c.requires.ready.run s.client t.client true e ops c.requires.call c.requires.later c.requires.listed)
+    (any_err c.from_residual-in_err-send_all.result front) done.quiet (search rules)
+
+pub returns-clause-ok : goal.returns-clause-ok
+returns-clause-ok g c =
+    let s = c.args.state.now in
+    let h = past s in
+    let e = c.args.event.now in
+    let a = c.in_ok-answer.answer in
+    let t = c.requires.ready.parts in
+    let run = c.requires.ready.run in
+    let done = c.in_ok-answer.ensures in
+    let is : a ≡ answer s.pages h e =
+    done.answer ∙ call_answer_is s.pages h run s.client t.client true e (g.O.ObjStore.ops c.args.store.now) c.requires.call c.requires.later c.requires.listed in
+    record {
+      after = record {
+        answer = is;
+        client = client_after s.pages h run s.client c.step_call.new.self t.client e a c.requires.call is done.after;
+        server = server_stays e a h s.server c.requires.call c.requires.later t.server;
+        links =
+            called_links s.pages h s.client e a s.to_client.items s.to_server.items c.send_all.new.link.items run t.client c.requires.call is t.links
+            (c.in_ok-send_all.ensures ∙ ap (λ ms. s.to_server.items ++ ms) (done.sent ∙ ap (λ ms. ms ++ call_sent e a s.client) c.new-out.ensures));
+      };
+      entries = refl;
+      pages = refl;
+    }
+
+pub returns-clause-listed : goal.returns-clause-listed
+returns-clause-listed g c =
+    let s = c.args.state.now in
+    let h = past s in
+    let e = c.args.event.now in
+    let a = c.in_ok-answer.answer in
+    let t = c.requires.ready.parts in
+    let run = c.requires.ready.run in
+    let ops = g.O.ObjStore.ops c.args.store.now in
+    let done = c.in_ok-answer.ensures in
+    let is : a ≡ answer s.pages h e = done.answer ∙ call_answer_is s.pages h run s.client t.client true e ops c.requires.call c.requires.later c.requires.listed in
+    stored_then e a h (call_operations e a s.client) ops (g.O.ObjStore.ops c.step_call.new.store)
+    (operations_are s.pages h run s.client t.client e a c.requires.call is) c.requires.listed done.stored
+
+pub returns-clause-store : goal.returns-clause-store
+returns-clause-store g c =
+    let s = c.args.state.now in
+    let h = past s in
+    let e = c.args.event.now in
+    let ops = g.O.ObjStore.ops c.args.store.now in
+    store_of (λ x. g.O.ObjStore.ops x) (λ x. g.O.ObjStore.faults x) s.pages h e c.args.store.now c.step_call.new.store _ (call_answer s.client true (head_byte ops) e) c.requires.call
+    (call_answer_is s.pages h c.requires.ready.run s.client c.requires.ready.parts.client true e ops c.requires.call c.requires.later c.requires.listed)
+    tt c.in_ok-answer.ensures.quiet (search rules)

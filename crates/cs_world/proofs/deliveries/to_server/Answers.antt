@@ -1,0 +1,36 @@
+use Rattle.std.proofs.Common.{◌≡◌, ◌∙◌, ◌∷◌, ◌++◌, refl, sym, ap}
+use Rattle.cs_laws.specs.History.{to_server}
+use Rattle.cs_mds.specs.Answers.{flush_sent}
+use Rattle.cs_world.specs.Tables.{past}
+use Rattle.cs_world.proofs.Accepted.{fits_server, is_for_server}
+use Rattle.cs_world.proofs.Delivered.{received_steps}
+use Rattle.cs_world.proofs.deliveries.to_server.Goals as goal
+
+pub step_message-requires-clause-kind : goal.step_message-requires-clause-kind
+step_message-requires-clause-kind g c κs within =
+    let s = c.args.state.now in
+    is_for_server s.pages (past s) c.in-Some.message c.pop_front.new.self.items c.requires.ready.run (sym c.requires.ready.parts.links.to_server ∙ c.in-Some.ensures.items)
+
+pub step_message-requires-clause-fits : goal.step_message-requires-clause-fits
+step_message-requires-clause-fits g c κs within =
+    let s = c.args.state.now in
+    fits_server s.pages (past s) c.in-Some.message c.pop_front.new.self.items c.requires.ready.run (sym c.requires.ready.parts.links.to_server ∙ c.in-Some.ensures.items)
+
+pub returns-clause-ok : goal.returns-clause-ok
+returns-clause-ok g c =
+    let s = c.args.state.now in
+    let h = past s in
+    let m = c.in-Some.message in
+    let rest = c.pop_front.new.self.items in
+    let a = c.in_ok-answer.answer in
+    let t = c.requires.ready.parts in
+    let done = c.in_ok-answer.ensures in
+    let first : to_server h ≡ m ∷ rest = sym t.links.to_server ∙ c.in-Some.ensures.items in
+    record {
+      after =
+          received_steps s.pages h m a s.client s.server c.step_message.new.self s.to_client.items c.send_all.new.link.items rest first
+          (is_for_server s.pages h m rest c.requires.ready.run first) t.client t.server done.answer done.after t.links.to_client
+          (c.in_ok-send_all.ensures ∙ ap (λ ms. s.to_client.items ++ ms) (done.sent ∙ ap (λ ms. ms ++ flush_sent a s.server.durable) c.new-out.ensures));
+      entries = refl;
+      pages = refl;
+    }

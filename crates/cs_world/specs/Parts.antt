@@ -1,0 +1,95 @@
+-- The parts of a world after a history. Each is a record over values of the history, so that an event leaves the fact on a part
+-- that it doesn't touch as it is.
+use Rattle.std.specs.Prelude.{◌≡◌, ℕ, Bool, List, ◌∷◌, Option, Some, None, length, reverse, if◌then◌else◌}
+use Rattle.std.specs.BTreeMap.{get}
+use Rattle.std.specs.Ordering.{nat_cmp}
+use Rattle.cs_parts.specs.declared.capabilities.ServerCaps.{ServerCaps}
+use Rattle.cs_parts.specs.declared.references.Live.{Live}
+use Rattle.cs_snapctx.specs.declared.realm.RealmRecord.{RealmRecord}
+use Rattle.cs_tree.specs.declared.directories.Directory.{Directory}
+use Rattle.cs_tree.specs.Directories.{has_directory, inos, path_of}
+use Rattle.cs_refs.specs.Table.{begun_of}
+use Rattle.cs_laws.specs.declared.answers.Answer.{Answer}
+use Rattle.cs_laws.specs.declared.answers.Entry.{Entry}
+use Rattle.cs_laws.specs.declared.events.Event.{Event}
+use Rattle.cs_laws.specs.declared.messages.Message.{Message}
+use Rattle.cs_laws.specs.declared.records.Record.{Record}
+use Rattle.cs_laws.specs.Answers.{answer}
+use Rattle.cs_laws.specs.Events.{begun, client_files, client_knows, clock, server_knows}
+use Rattle.cs_laws.specs.History.{durable, fresh, live, realms, sent, server, to_client, to_server}
+use Rattle.cs_laws.specs.Logged.{LogIs}
+use Rattle.cs_laws.specs.Operations.{operations_drawn}
+use Rattle.cs_laws.specs.Tree.{client_dir, client_home, client_path, directories, server_dir, server_dirs, server_home, server_path}
+use Rattle.cs_files.specs.Rows.{inode}
+use Rattle.cs_client.specs.declared.file.ClientFile.{ClientFile}
+use Rattle.cs_client.specs.Views.{ClientView}
+use Rattle.cs_mds.specs.Views.{ServerView, caps_of}
+
+-- the tree has these directories, with these paths, in this order
+pub record TreeIs (dir : ℕ → Bool) (up : ℕ → List ℕ) (listed : List ℕ) (tree : List Directory) : Type 0 where
+  pub known : (d : ℕ) → has_directory d tree ≡ dir d
+  pub paths : (d : ℕ) → path_of tree d ≡ up d
+  pub order : inos tree ≡ listed
+
+-- The client
+
+-- what it keeps of a file
+abbrev pub client_row : List Entry → ℕ → Option ClientFile
+client_row h f = if client_knows h f then Some (record { inode = inode h f; home = client_home h f }) else None
+
+-- time: the script's, told: the realms' last records, all: the files in the order in which they were made, rs: the live references,
+-- count: how many a caller has begun, drawn, out: how many operations and flushes were drawn
+pub record ClientIs (time : ℕ) (dir : ℕ → Bool) (up : ℕ → List ℕ) (listed : List ℕ) (told : List RealmRecord) (row : ℕ → Option ClientFile) (all : List ℕ)
+    (rs : List Live) (count : ℕ → ℕ) (drawn out : ℕ) (v : ClientView) : Type 0 where
+  pub clock : v.clock ≡ time
+  pub tree : TreeIs dir up listed v.tree
+  pub realms : v.realms ≡ told
+  pub rows : (f : ℕ) → get nat_cmp v.files f ≡ row f
+  pub made : v.made ≡ all
+  pub live : v.refs.live ≡ rs
+  pub begun : (c : ℕ) → begun_of c v.refs ≡ count c
+  pub operations : v.operations ≡ drawn
+  pub flushes : v.flushes ≡ out
+
+abbrev pub ClientAt : List Entry → ClientView → Type 0
+ClientAt h v =
+    ClientIs (clock h) (λ d. client_dir h d) (λ d. client_path h d) (directories h) (realms h) (λ f. client_row h f) (reverse (client_files h)) (live h)
+    (λ c. begun h c) (operations_drawn h) (length (sent h)) v
+
+-- The server
+
+-- the directory of a file that it knows
+abbrev pub server_home_of : List Entry → ℕ → Option ℕ
+server_home_of h f = if server_knows h f then Some (server_home h f) else None
+
+pub record ServerIs (dir : ℕ → Bool) (up : ℕ → List ℕ) (listed : List ℕ) (home : ℕ → Option ℕ) (end : ℕ → ServerCaps) (ds fs : List Record) (s : ServerView) : Type 0 where
+  pub tree : TreeIs dir up listed s.tree
+  pub homes : (f : ℕ) → get nat_cmp s.homes f ≡ home f
+  pub caps : (f : ℕ) → caps_of f s.caps ≡ end f
+  pub durable : s.durable ≡ ds
+  pub fresh : s.fresh ≡ fs
+
+abbrev pub ServerAt : List Entry → ServerView → Type 0
+ServerAt h s =
+    ServerIs (λ d. server_dir h d) (λ d. server_path h d) (server_dirs h) (λ f. server_home_of h f) (λ f. server h f) (durable h) (fresh h) s
+
+-- The links, and the log
+
+-- p, q: the messages on their way to the client, and to the server
+pub record LinksAre (ps qs p q : List Message) : Type 0 where
+  pub to_client : p ≡ ps
+  pub to_server : q ≡ qs
+
+abbrev pub LinksAt : List Entry → List Message → List Message → Type 0
+LinksAt h p q = LinksAre (to_client h) (to_server h) p q
+
+-- rs, n: the log's records, and how many of them are durable
+abbrev pub LogAt : List Entry → List (List ℕ) → ℕ → Type 0
+LogAt h rs n = LogIs rs n (durable h) (fresh h)
+
+-- the answer to an event, and the parts after it
+pub record After (pages : ℕ) (h : List Entry) (e : Event) (a : Answer) (v : ClientView) (s : ServerView) (p q : List Message) : Type 0 where
+  pub answer : a ≡ answer pages h e
+  pub client : ClientAt (record { event = e; answer = a } ∷ h) v
+  pub server : ServerAt (record { event = e; answer = a } ∷ h) s
+  pub links : LinksAt (record { event = e; answer = a } ∷ h) p q
