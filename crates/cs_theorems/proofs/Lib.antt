@@ -80,9 +80,6 @@ pub mod LastFlush
 pub mod Settled
 pub mod Sizes
 pub mod Owing
-pub mod Recorded
-pub mod RecordedSteps
-pub mod RecordedPlaces
 -- What has a spelling in bytes
 pub mod MetaFits
 pub mod Spelled

@@ -1,9 +1,8 @@
 -- What isn't known as a file has neither capabilities nor writes, no cap snaps and no flushes, and the mode of a new file.
-use Rattle.std.proofs.Common.{◌≡◌, refl, ap, ◌∙◌, subst, ℕ, ◌||◌, not, Bool, true, false, cond, List, [], ◌∷◌, ◌==◌, inl, Option, Some, None}
+use Rattle.std.proofs.Common.{◌≡◌, refl, subst, ℕ, ◌||◌, not, Bool, true, false, cond, List, [], ◌∷◌, ◌==◌, inl, Option, Some, None}
 use Rattle.std.proofs.lemmas.Bool.{cond_both, eqb-true, both_ways, and_left, and_right, or_from, false_from_ne_true}
 use Rattle.cs_bits.specs.declared.Caps.{Caps}
 use Rattle.cs_bits.specs.Bits.{no_caps, is_empty, covers, file_write}
-use Rattle.cs_ids.specs.declared.objects.FileMeta.{FileMeta}
 use Rattle.cs_parts.specs.declared.capabilities.ClientCaps.{ClientCaps}
 use Rattle.cs_parts.specs.declared.capabilities.ServerCaps.{ServerCaps}
 use Rattle.cs_parts.specs.declared.references.Live.{Live}
@@ -22,24 +21,23 @@ use Rattle.cs_laws.specs.declared.messages.Message.TheVariants as messages
 use Rattle.cs_laws.specs.Answers.{answer_check_of, answer_check, answer_grant, answer_revoke, sent_cap}
 use Rattle.cs_laws.specs.CapSnaps.{CapSnap, has_writer, makes}
 use Rattle.cs_laws.specs.Events.{setup_file, setup_file_then, client_knows, server_knows}
-use Rattle.cs_laws.specs.Flushes.{Flush, flush_message}
+use Rattle.cs_laws.specs.Flushes.{Flush}
 use Rattle.cs_laws.specs.History.{client, server, to_client, to_server, live, writes, mode, dirty, queued, context, used}
 use Rattle.cs_laws.specs.Image.{Write}
 use Rattle.cs_laws.specs.Journal.{entry}
 use Rattle.cs_laws.specs.References.{named}
 use Rattle.cs_laws.specs.Runs.{IsRun}
 use Rattle.cs_theorems.specs.Queues.{snaps, with_ended}
-use Rattle.cs_theorems.specs.Recorded.{recorded_meta, with_first, with_message}
 use Rattle.cs_theorems.specs.Unacked.{unacked}
 use Rattle.cs_theorems.specs.Underway.{IsToldClient, IsToldServer}
 use Rattle.cs_theorems.proofs.Inversions.{ChmodIs, chmod_unknown, chmod_no_bit, chmod_snap, chmod_done, chmod_is, WriteIs, write_unknown, write_no_bit, write_past, wrote, write_is, EndIs, end_unknown, ended, end_is, FlushIs, head_unknown, head_snap, head_clean, head_sent, flush_is, FlushSnapsIs, flush_unknown, flush_none, flush_writing, flush_sent, flush_snaps_is, FirstIs, first_idle, first_cap, first_flush_ack, first_snap, first_is, ReceivedIs, received_idle, received_ack, received_flush, received_again, received_is}
 use Rattle.cs_theorems.proofs.Known.{live_known}
 use Rattle.cs_theorems.proofs.Listed.{Each, each_tail}
 use Rattle.cs_theorems.proofs.Runs.{of_run}
-use Rattle.cs_theorems.proofs.Underway.{IsKnown, flush_known, received_known, told_known}
+use Rattle.cs_theorems.proofs.Underway.{received_known, told_known}
 use Rattle.cs_theorems.proofs.Uses.{named_is}
 
-pub record IsUntouched (c : ClientCaps) (s : ServerCaps) (ws : List Write) (m : ℕ) (d : Caps) (qs : List CapSnap) (xs : List Snap) (us : List Sent) (ts : List (ℕ × FileMeta)) : Type 0 where
+pub record IsUntouched (c : ClientCaps) (s : ServerCaps) (ws : List Write) (m : ℕ) (d : Caps) (qs : List CapSnap) (xs : List Snap) (us : List Sent) : Type 0 where
   pub client : c ≡ no_client_caps
   pub server : s ≡ no_server_caps
   pub writes : ws ≡ []
@@ -48,10 +46,9 @@ pub record IsUntouched (c : ClientCaps) (s : ServerCaps) (ws : List Write) (m : 
   pub queued : qs ≡ []
   pub snaps : xs ≡ []
   pub unacked : us ≡ []
-  pub recorded : ts ≡ []
 
 abbrev pub IsUntouchedAt : List Entry → ℕ → Type 0
-IsUntouchedAt h f = IsUntouched (client h f) (server h f) (writes h f) (mode h f) (dirty h f) (queued h f) (snaps h f) (unacked h f) (recorded_meta h f)
+IsUntouchedAt h f = IsUntouched (client h f) (server h f) (writes h f) (mode h f) (dirty h f) (queued h f) (snaps h f) (unacked h f)
 
 abbrev AllUntouched : List Entry → Type 0
 AllUntouched h = (f : ℕ) → setup_file h f ≡ false → IsUntouchedAt h f
@@ -153,7 +150,6 @@ step_end h c name x (ended there) i = λ f unknown.
       queued = was.queued;
       snaps = ended_nothing (named c name (live h)) f _ (writes h f) (snaps h f) was.snaps;
       unacked = was.unacked;
-      recorded = was.recorded;
     }
 
 -- no writer of it lives
@@ -185,35 +181,13 @@ step_to_client h x (first_snap number d realms q is) lives told i = λ f unknown
 received_first : (h : List Entry) (m : Message) (q : List Message) → to_server h ≡ m ∷ q → Each (IsToldServer h) (to_server h) → IsToldServer h m
 received_first h m q is known = known m (rw is (inl refl))
 
--- another file's flush
-untold : (f : ℕ) (y : Flush) (xs : List (ℕ × FileMeta)) → (y.file == f) ≡ false → xs ≡ [] → with_message f (flush_message y) xs ≡ []
-untold f y xs other none = at y.snap
-  where
-    at : (b : Bool) → with_message f (cond b (messages.FlushSnap y.file y.tid y.follows y.meta) (messages.Flush y.file y.tid y.follows y.meta)) xs ≡ []
-    at true = rw other none
-    at false = rw other none
-
 step_to_mds : (h : List Entry) (x : Answer) → ReceivedIs h x → Each (IsToldServer h) (to_server h) → AllUntouched h
     → AllUntouched (record { event = e.ToMds; answer = x } ∷ h)
 step_to_mds h x received_idle received i = i
 step_to_mds h x (received_ack g seq bits q is) received i = λ f unknown.
     let known : setup_file h g ≡ true = (received_first h (messages.CapAck g seq bits) q is received).1 in
     rw (apart h g f known unknown) (i f unknown)
-step_to_mds h x (received_flush y q is first) received i = λ f unknown.
-    let known : setup_file h y.file ≡ true = flush_known (IsKnown h) y (received_first h (flush_message y) q is received).1 in
-    let was : IsUntouchedAt h f = i f unknown in
-    let still : recorded_meta (record { event = e.ToMds; answer = x } ∷ h) f ≡ [] = ap (λ ms. with_first f ms (recorded_meta h f)) is ∙ untold f y (recorded_meta h f) (apart h y.file f known unknown) was.recorded in
-    record {
-      client = was.client;
-      server = was.server;
-      writes = was.writes;
-      mode = was.mode;
-      dirty = was.dirty;
-      queued = was.queued;
-      snaps = was.snaps;
-      unacked = was.unacked;
-      recorded = still;
-    }
+step_to_mds h x (received_flush y q is first) received i = i
 step_to_mds h x (received_again y q is again) received i = i
 
 untouched_step : (p : ℕ) (h : List Entry) (x : Event) → IsRun p h → AllUntouched h → AllUntouched (entry p h x ∷ h)
@@ -232,7 +206,7 @@ untouched_step p h _ run i = i
 
 nothing_touched : AllUntouched []
 nothing_touched = λ f unknown.
-    record { client = refl; server = refl; writes = refl; mode = refl; dirty = refl; queued = refl; snaps = refl; unacked = refl; recorded = refl }
+    record { client = refl; server = refl; writes = refl; mode = refl; dirty = refl; queued = refl; snaps = refl; unacked = refl }
 
 pub untouched : (p : ℕ) (h : List Entry) → IsRun p h → (f : ℕ) → setup_file h f ≡ false → IsUntouchedAt h f
 untouched p h run = of_run p AllUntouched nothing_touched (λ g x fit before i. untouched_step p g x before i) h run

@@ -5,8 +5,6 @@ pub mod Metadata
 pub mod Order
 pub mod Queues
 pub mod Realms
-pub mod Recorded
-pub mod RecordedAt
 pub mod References
 pub mod Refusals
 pub mod Replays

@@ -1,4 +1,3 @@
-pub mod Bytes
 pub mod Fitting
 pub mod Holding
 pub mod Reading

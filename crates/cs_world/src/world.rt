@@ -87,7 +87,8 @@ impl<O: ObjStore, L: MdsLog> World<O, L> {
     /// removal or a delivered flush that would be recorded, and at a commit of some record. No event calls
     /// both. After a fault the history is as before, the store has a front of the event's operations
     /// behind those before, the log is as before or as the event's entry would leave it, and the world is
-    /// no longer live. The room for the entry is taken first.
+    /// no longer live. The room for the entry is taken first. `Memory` may come of any event: of one that adds
+    /// nothing to store or log it leaves both as they were.
     pub fn step(&mut self, event: &Event) -> Result<Answer, StepFault>
         requires live { self.old.live ≡ true }
         requires room { length self.old.history < 10000 }

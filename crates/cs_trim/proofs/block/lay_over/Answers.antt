@@ -1,5 +1,5 @@
 use Rattle.std.proofs.Common.{◌∙◌, ap, min, length}
-use Rattle.cs_trim.proofs.Bytes.{copied}
+use Rattle.cs_objstore.proofs.Bytes.{copied}
 use Rattle.cs_trim.proofs.block.lay_over.Goals as goal
 
 pub returns : goal.returns
