@@ -41,11 +41,18 @@ pub fn serve_trim<S: Source, K: Sink, O: ObjStore, L: MdsLog>(
         }) }
     ensures untouched { (result.store ≡ store) × (result.log ≡ log) }
 {
-    let status = match read_input(alloc, source) {
-        Err(fault) => read_status(fault),
-        Ok(input) => serve_input(alloc, &input, sink),
-    };
-    Finished { status, store, log }
+    match read_input(alloc, source) {
+        Err(fault) => Finished {
+            status: read_status(fault),
+            store,
+            log,
+        },
+        Ok(input) => Finished {
+            status: serve_input(alloc, &input, sink),
+            store,
+            log,
+        },
+    }
 }
 
 // Runs the script that an input is, or refuses the input.

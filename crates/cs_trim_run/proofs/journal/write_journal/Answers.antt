@@ -1,4 +1,4 @@
-use Rattle.std.proofs.Common.{◌≡◌, ap, ◌+◌, [], ◌∷◌, drop, arith}
+use Rattle.std.proofs.Common.{◌≡◌, ap, refl, ◌+◌, [], ◌∷◌, drop, arith}
 use Rattle.std.proofs.lemmas.Grind.{common_steps}
 use Rattle.cs_status.proofs.Fronts.{any_err}
 use Rattle.cs_trim_run.proofs.Running.{goes_on, starts, stops_in_end, stops_in_event, stops_in_header, stops_in_line, writes_all}
@@ -10,8 +10,8 @@ returns-in_err-write_all-clause-err g c = any_err c.from_residual.result (stops_
 pub loop-event-init : goal.loop-event-init
 loop-event-init g c = record {
   written = starts _ _ c.args.events.now c.new-run.result c.in_ok-write_all.ensures.ok c.new-run.ensures;
-  number = ?;
-  sink = ?;
+  number = refl;
+  sink = c.in_ok-write_all.ensures.cause.later;
 }
 
 pub returns-in_err-answer-clause-err : goal.returns-in_err-answer-clause-err
@@ -45,10 +45,10 @@ returns-in_err-write_end-clause-err g c =
     let es = c.args.events.now in
     let none : drop c.loop-event.event-index es ≡ [] = grind (arith, common_steps, c.loop-event-test.false) in
     any_err c.from_residual-in_err-write_end.result
-    (stops_in_end _ _ _ es _ _ _ _ none c.len.ensures c.loop-event.invariant.written c.in_err-write_end.ensures.err)
+    (stops_in_end _ _ _ es _ _ _ _ none refl c.loop-event.invariant.written c.in_err-write_end.ensures.err)
 
 pub returns-clause-ok : goal.returns-clause-ok
 returns-clause-ok g c =
     let es = c.args.events.now in
     let none : drop c.loop-event.event-index es ≡ [] = grind (arith, common_steps, c.loop-event-test.false) in
-    writes_all _ _ _ es _ _ _ _ none c.len.ensures c.loop-event.invariant.written c.in_ok-write_end.ensures.ok
+    writes_all _ _ _ es _ _ _ _ none refl c.loop-event.invariant.written c.in_ok-write_end.ensures.ok
