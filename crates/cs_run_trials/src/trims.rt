@@ -64,6 +64,30 @@ fn trims_write_their_journals(rt: HostRuntime) -> Result<(), Fail> {
     Ok(())
 }
 
+#[test]
+fn bad_lines_are_told(rt: HostRuntime) -> Result<(), Fail> {
+    let mut long = Vec::new(rt.alloc());
+    long.extend_from_slice(b"ceph-trim 1\n#")?;
+    for _ in 0..4_096 {
+        long.push(b'#')?;
+    }
+    let rows: [(&[u8], &[u8]); 4] = [
+        (b"", b"ceph-fault script 1 header\n"),
+        (b"ceph-script 1\n", b"ceph-fault script 1 header\n"),
+        (
+            b"ceph-trim 1\n\n# two lines are skipped\nrmsnap 0\n",
+            b"ceph-fault script 4 range\n",
+        ),
+        (long.as_slice(), b"ceph-fault script 2 long\n"),
+    ];
+    for (input, told) in rows {
+        let (status, sink) = trim(rt.alloc(), input)?;
+        assert_eq!(rt; status, 2);
+        assert_eq!(rt; sink.bytes(), told);
+    }
+    Ok(())
+}
+
 // The bytes of a script of so many events.
 fn script_of(alloc: Global, events: usize) -> Result<Vec<u8>, Fail> {
     let mut script = Vec::new(alloc);
