@@ -4,4 +4,3 @@ pub mod Journals
 pub mod Runs
 pub mod Serving
 pub mod Stopping
-pub mod Writing
