@@ -1,6 +1,6 @@
 -- How a run ends, from what was read and what was written.
 use Rattle.std.proofs.Common.{◌≡◌, ◌≢◌, ◌∙◌, ap, subst, refl, ℕ, ◌<◌, ◌⊎◌, inl, inr, List, Option, Some, None, IfSome, Result, Ok, Err, OnOk, IfErr, IsErrOf, arith}
-use Rattle.std.specs.Io.KnownBytes.{Appends, Keeps}
+use Rattle.std.specs.Io.KnownBytes.{Appends}
 use Rattle.cs_ids.specs.Devices.{Rose}
 use Rattle.cs_io.specs.Whole.{AppendsFront}
 use Rattle.cs_io.specs.declared.whole.ReadFault.{ReadFault}

@@ -1,5 +1,5 @@
 -- The status of what was written.
-use Rattle.std.proofs.Common.{◌≡◌, refl, ℕ, ◌<◌, inl, inr, List, Option, Result, Ok, Err, OnOk, OnErr, IsErrOf, arith}
+use Rattle.std.proofs.Common.{refl, ℕ, ◌<◌, inl, inr, List, Option, Result, Ok, Err, OnOk, OnErr, IsErrOf, arith}
 use Rattle.std.specs.Io.KnownBytes.{Appends}
 use Rattle.cs_ids.specs.Devices.{Rose}
 use Rattle.cs_io.specs.Whole.{AppendsFront}
