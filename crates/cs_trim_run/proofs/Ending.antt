@@ -101,7 +101,8 @@ knows k s (inr (inr w)) (inl e) = inr (inr (inl (e ∙ w)))
 knows k s w (inr stop) = inr (inr (inr (inr stop)))
 
 -- what holds of the input that was judged holds of the bytes that were left
-of_judged : (left : Option (List ℕ)) (input : Input) (P : Input → Type 0) → IfSome left (λ b. input ≡ judged b) → P input → IfSome left (λ b. P (judged b))
+of_judged : (left : Option (List ℕ)) (input : Input) (P : Input → Type 0) → IfSome left (λ b. input ≡ judged b) → P input
+    → IfSome left (λ b. P (judged b))
 of_judged None input P is p = tt
 of_judged (Some b) input P is p = subst P is p
 
@@ -118,6 +119,7 @@ judged_and_written status input left_old left_new taken_old taken_new s t m n ju
   source = λ e. absurd (not_read (status_of input) status (whole_status input) w.known e);
   sink = w.sink;
   cut = λ e. of_judged left_old input (λ x. AppendsFront taken_old taken_new (output x)) judge.is (w.cut e);
-  decided = of_judged left_old input (λ x. (status ≡ status_of x) ⊎ IsFaultStatus status) judge.is (decides (status_of input) status w.known);
+  decided = of_judged left_old input (λ x. (status ≡ status_of x) ⊎ IsFaultStatus status) judge.is
+      (decides (status_of input) status w.known);
   known = knows (status_of input) status (whole_status input) w.known;
 }

@@ -47,7 +47,8 @@ written_after h (events.Clones b) = omega arith
 written_after h (events.Read b a off len) = omega arith
 
 -- one event more
-steps_on : (all left rest : List Event) (e : Event) (n m : ℕ) (old new : TrimRun) (a : Answer) (bytes : List ℕ) → left ≡ e ∷ rest → m ≡ n + 1
+steps_on : (all left rest : List Event) (e : Event) (n m : ℕ) (old new : TrimRun) (a : Answer) (bytes : List ℕ) → left ≡ e ∷ rest
+    → m ≡ n + 1
     → SoFar all left n old bytes → Answers e old new a → SoFar all rest (n + 1) new (bytes ++ line m (record { event = e; answer = a }))
 steps_on all left rest e n m old new a bytes is same so answered =
     let h = so.steps in
@@ -57,7 +58,8 @@ steps_on all left rest e n m old new a bytes is same so answered =
     let before_it : bytes ++ (line (n + 1) x ++ behind) ≡ header ++ lines 1 (entries [] all) =
     sym (ap (λ es. bytes ++ lines (n + 1) (entries h es)) is) ∙ so.lines in
     let line_is : bytes ++ line m (record { event = e; answer = a }) ≡ bytes ++ line (n + 1) x =
-    ap (λ k. bytes ++ line k (record { event = e; answer = a })) same ∙ ap (λ y. bytes ++ line (n + 1) (record { event = e; answer = y })) done.0 in
+    ap (λ k. bytes ++ line k (record { event = e; answer = a })) same
+    ∙ ap (λ y. bytes ++ line (n + 1) (record { event = e; answer = y })) done.0 in
     record {
       steps = after h e;
       runs = done.1;
@@ -71,7 +73,8 @@ length_entries h [] = refl
 length_entries h (e ∷ es) = ap suc (length_entries (after h e) es)
 
 -- no event is left, and the end line comes
-ends : (all : List Event) (n : ℕ) (run : TrimRun) (bytes : List ℕ) → SoFar all [] n run bytes → text (trim_journal all) ≡ bytes ++ end_line (length all)
+ends : (all : List Event) (n : ℕ) (run : TrimRun) (bytes : List ℕ) → SoFar all [] n run bytes
+    → text (trim_journal all) ≡ bytes ++ end_line (length all)
 ends all n run bytes so =
     let done : bytes ≡ header ++ lines 1 (entries [] all) = sym (append-nil bytes) ∙ so.lines in
     let count : end_line (length (entries [] all)) ≡ end_line (length all) = ap end_line (length_entries [] all) in
@@ -98,7 +101,8 @@ pub record Written (old now : Option (List ℕ)) (all left : List Event) (n : �
   pub so_far : SoFar all left n run bytes
 
 -- the header alone
-pub starts : (old now : Option (List ℕ)) (es : List Event) (run : TrimRun) → Appends old now header → RunsFor [] run → Written old now es es 0 run
+pub starts : (old now : Option (List ℕ)) (es : List Event) (run : TrimRun) → Appends old now header → RunsFor [] run
+    → Written old now es es 0 run
 starts old now es run taken runs = record {
   bytes = header;
   taken = taken;
@@ -106,7 +110,8 @@ starts old now es run taken runs = record {
 }
 
 -- the line of one event more
-pub goes_on : (old mid new : Option (List ℕ)) (all left rest : List Event) (e : Event) (n m : ℕ) (before run : TrimRun) (a : Answer) → left ≡ e ∷ rest
+pub goes_on : (old mid new : Option (List ℕ)) (all left rest : List Event) (e : Event) (n m : ℕ) (before run : TrimRun) (a : Answer)
+    → left ≡ e ∷ rest
     → m ≡ n + 1 → Written old mid all left n before → Answers e before run a → Appends mid new (line m (record { event = e; answer = a }))
     → Written old new all rest (n + 1) run
 goes_on old mid new all left rest e n m before run a is number w answered taken =
@@ -120,8 +125,10 @@ goes_on old mid new all left rest e n m before run a is number w answered taken 
 -- Where it stopped the sink took a front of the text.
 
 -- in the header
-pub stops_in_header : (old new : Option (List ℕ)) (all : List Event) → AppendsFront old new header → AppendsFront old new (text (trim_journal all))
-stops_in_header old new all t = longer old new header (lines 1 (trim_journal all) ++ end_line (length (trim_journal all))) (text (trim_journal all)) refl t
+pub stops_in_header : (old new : Option (List ℕ)) (all : List Event) → AppendsFront old new header
+    → AppendsFront old new (text (trim_journal all))
+stops_in_header old new all t =
+    longer old new header (lines 1 (trim_journal all) ++ end_line (length (trim_journal all))) (text (trim_journal all)) refl t
 
 -- in an event
 pub stops_in_event : (old now : Option (List ℕ)) (all left : List Event) (n : ℕ) (run : TrimRun) → Written old now all left n run
@@ -131,12 +138,15 @@ stops_in_event old now all left n run w =
     subst (AppendsFront old now) (sym rest.1) (front_whole old now w.bytes rest.0 w.taken)
 
 -- in the line of an event
-pub stops_in_line : (old mid new : Option (List ℕ)) (all left rest : List Event) (e : Event) (n m : ℕ) (before run : TrimRun) (a : Answer) → left ≡ e ∷ rest
-    → m ≡ n + 1 → Written old mid all left n before → Answers e before run a → AppendsFront mid new (line m (record { event = e; answer = a }))
+pub stops_in_line : (old mid new : Option (List ℕ)) (all left rest : List Event) (e : Event) (n m : ℕ) (before run : TrimRun) (a : Answer)
+    → left ≡ e ∷ rest
+    → m ≡ n + 1 → Written old mid all left n before → Answers e before run a
+    → AppendsFront mid new (line m (record { event = e; answer = a }))
     → AppendsFront old new (text (trim_journal all))
 stops_in_line old mid new all left rest e n m before run a is number w answered taken =
     let x : List ℕ = line m (record { event = e; answer = a }) in
-    let more = begins all rest (n + 1) run (w.bytes ++ x) (steps_on all left rest e n m before run a w.bytes is number w.so_far answered) in
+    let more = begins all rest (n + 1) run (w.bytes ++ x)
+    (steps_on all left rest e n m before run a w.bytes is number w.so_far answered) in
     longer old new (w.bytes ++ x) more.0 (text (trim_journal all)) more.1 (behind_whole old mid new w.bytes x w.taken taken)
 
 -- in the end line
@@ -144,7 +154,8 @@ pub stops_in_end : (old mid new : Option (List ℕ)) (all left : List Event) (n 
     → Written old mid all left n run → AppendsFront mid new (end_line count) → AppendsFront old new (text (trim_journal all))
 stops_in_end old mid new all [] n count run none same w taken =
     let end = subst (λ k. AppendsFront mid new (end_line k)) same taken in
-    subst (AppendsFront old new) (sym (ends all n run w.bytes w.so_far)) (behind_whole old mid new w.bytes (end_line (length all)) w.taken end)
+    subst (AppendsFront old new) (sym (ends all n run w.bytes w.so_far))
+    (behind_whole old mid new w.bytes (end_line (length all)) w.taken end)
 stops_in_end old mid new all (e ∷ left) n count run none same w taken = absurd (cc)
 
 -- all was written

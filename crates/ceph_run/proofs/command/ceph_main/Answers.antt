@@ -21,4 +21,5 @@ pub returns-in-Err-Memory-clause-trimmed : goal.returns-in-Err-Memory-clause-tri
 returns-in-Err-Memory-clause-trimmed g c = λ _. trims.unread reading.Memory _ _ _ _ _ _ (λ is. cc)
 
 pub returns-in-Err-Memory-clause-usage : goal.returns-in-Err-Memory-clause-usage
-returns-in-Err-Memory-clause-usage g c = λ _. writes 1 (Err writing.Memory) usage_line _ _ _ _ (omega arith) tt (took_nothing _ usage_line) (λ e. cc)
+returns-in-Err-Memory-clause-usage g c = λ _.
+    writes 1 (Err writing.Memory) usage_line _ _ _ _ (omega arith) tt (took_nothing _ usage_line) (λ e. cc)

@@ -5,7 +5,8 @@ use Rattle.cs_trim_run.proofs.Running.{goes_on, starts, stops_in_end, stops_in_e
 use Rattle.cs_trim_run.proofs.journal.write_journal.Goals as goal
 
 pub returns-in_err-write_all-clause-err : goal.returns-in_err-write_all-clause-err
-returns-in_err-write_all-clause-err g c = any_err c.from_residual.result (stops_in_header _ _ c.args.events.now c.in_err-write_all.ensures.err)
+returns-in_err-write_all-clause-err g c =
+    any_err c.from_residual.result (stops_in_header _ _ c.args.events.now c.in_err-write_all.ensures.err)
 
 pub loop-event-init : goal.loop-event-init
 loop-event-init g c = record {
@@ -15,7 +16,9 @@ loop-event-init g c = record {
 }
 
 pub returns-in_err-answer-clause-err : goal.returns-in_err-answer-clause-err
-returns-in_err-answer-clause-err g c = any_err c.from_residual-in_err-answer.result (stops_in_event _ _ c.args.events.now _ _ _ c.loop-event.invariant.written)
+returns-in_err-answer-clause-err g c =
+    any_err c.from_residual-in_err-answer.result
+    (stops_in_event _ _ c.args.events.now _ _ _ c.loop-event.invariant.written)
 
 pub returns-in_err-write_entry-clause-err : goal.returns-in_err-write_entry-clause-err
 returns-in_err-write_entry-clause-err g c =
@@ -24,7 +27,8 @@ returns-in_err-write_entry-clause-err g c =
     let e = c.event-item.result in
     let left : drop i es ≡ e ∷ drop (i + 1) es = grind (arith, common_steps, c.event-item.is, c.loop-event-test.true) in
     any_err c.from_residual-in_err-write_entry.result
-    (stops_in_line _ _ _ es (drop i es) (drop (i + 1) es) e i _ _ _ _ left (ap (λ n. n + 1) c.loop-event.invariant.number) c.loop-event.invariant.written
+    (stops_in_line _ _ _ es (drop i es) (drop (i + 1) es) e i _ _ _ _ left
+    (ap (λ n. n + 1) c.loop-event.invariant.number) c.loop-event.invariant.written
     c.in_ok-answer.ensures c.in_err-write_entry.ensures.err)
 
 pub loop-event-preserved : goal.loop-event-preserved
