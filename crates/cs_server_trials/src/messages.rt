@@ -104,21 +104,21 @@ fn flushed_twice(
     rt: &impl Abort,
     alloc: Global,
     out: &mut MessageList,
-) -> Result<[Answer; 3], Fail> {
+) -> Result<(Answer, Answer, Answer), Fail> {
     let mut mds = Mds::new(alloc)?;
     let mut log = MemLog::new(alloc);
     let message = flush()?;
     let first = delivered(rt, &mut mds, &mut log, &message, out)?;
     let commit = committed(rt, &mut mds, &mut log, out)?;
     let again = delivered(rt, &mut mds, &mut log, &message, out)?;
-    Ok([first, commit, again])
+    Ok((first, commit, again))
 }
 
 // It is acknowledged where its record becomes durable, and once more where it comes again.
 #[test]
 fn a_flush_is_recorded_once(rt: HostRuntime) -> Result<(), Fail> {
     let mut out = MessageList::new(rt.alloc());
-    let [first, commit, again] = flushed_twice(&rt, rt.alloc(), &mut out)?;
+    let (first, commit, again) = flushed_twice(&rt, rt.alloc(), &mut out)?;
     assert!(rt; matches!(first, Answer::Flushed { .. }));
     assert!(rt; matches!(commit, Answer::Commit { count: 1 }));
     assert!(rt; matches!(again, Answer::FlushDup { .. }));
