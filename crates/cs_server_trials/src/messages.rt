@@ -1,5 +1,5 @@
 // Messages of the client, and records that become durable.
-ghost use Rattle.std.specs.Prelude.{◌≡◌, IfOk, OnOk, false};
+ghost use Rattle.std.specs.Prelude.{◌≡◌, OnOk, false};
 ghost use Rattle.cs_laws.specs.Carried.{is_for_client};
 ghost use Rattle.cs_mds.specs.Served.{LogHolds};
 
@@ -73,16 +73,23 @@ fn a_cap_snap_is_recorded(rt: HostRuntime) -> Result<(), Fail> {
     Ok(())
 }
 
-// The first flush of file 100.
-fn flush() -> Result<Message, Fail>
-    ensures { IfOk result (λ m. is_for_client m ≡ false) }
+// The answer to the first flush of file 100.
+fn flushed(
+    rt: &impl Abort,
+    mds: &mut Mds,
+    log: &mut MemLog,
+    out: &mut MessageList,
+) -> Result<Answer, Fail>
+    requires { LogHolds log.old.records log.old.durable mds.old }
+    ensures { OnOk result (LogHolds log.new.records log.new.durable mds.new) }
 {
-    Ok(Message::Flush {
+    let message = Message::Flush {
         file: ino(100)?,
         tid: tid(1)?,
         follows: Seq::zero(),
         meta: META,
-    })
+    };
+    delivered(rt, mds, log, &message, out)
 }
 
 // The answer to a commit.
@@ -107,10 +114,9 @@ fn flushed_twice(
 ) -> Result<(Answer, Answer, Answer), Fail> {
     let mut mds = Mds::new(alloc)?;
     let mut log = MemLog::new(alloc);
-    let message = flush()?;
-    let first = delivered(rt, &mut mds, &mut log, &message, out)?;
+    let first = flushed(rt, &mut mds, &mut log, out)?;
     let commit = committed(rt, &mut mds, &mut log, out)?;
-    let again = delivered(rt, &mut mds, &mut log, &message, out)?;
+    let again = flushed(rt, &mut mds, &mut log, out)?;
     Ok((first, commit, again))
 }
 

@@ -11,12 +11,16 @@ use std::alloc::Global;
 use std::process::Abort;
 use std::test::Fail;
 
+fn monday(alloc: Global) -> Result<Name, Fail> {
+    Ok(Name::from_slice(alloc, b"monday")?)
+}
+
 // The answer to a snapshot of the root.
 fn taken(rt: &impl Abort, alloc: Global, mds: &mut Mds, log: &mut MemLog) -> Result<Answer, Fail>
     requires { LogHolds log.old.records log.old.durable mds.old }
     ensures { OnOk result (LogHolds log.new.records log.new.durable mds.new) }
 {
-    let name = Name::from_slice(alloc, b"monday")?;
+    let name = monday(alloc)?;
     let root = ino(1)?;
     assert!(rt; mds.has_room());
     Ok(mds.snap(root, &name, log)?)
