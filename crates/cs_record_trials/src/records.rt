@@ -74,7 +74,15 @@ fn add_removal(rt: &impl Abort, records: &mut Records, snap: Snap) -> Result<(),
     Ok(())
 }
 
-// Makes all of the records durable, and how many weren't.
+// Adds a record of each kind.
+fn add_each(rt: &impl Abort, alloc: Global, records: &mut Records) -> Result<(), Fail> {
+    add_request(alloc, records)?;
+    add_flush(rt, records)?;
+    let number = add_snap(rt, alloc, records)?;
+    add_removal(rt, records, number)
+}
+
+// Makes all of the records durable. How many weren't.
 fn commit(
     rt: &impl Abort,
     alloc: Global,
@@ -86,34 +94,30 @@ fn commit(
     Ok(records.commit(&tree, true, told)?)
 }
 
+fn add_and_commit(
+    rt: &impl Abort,
+    alloc: Global,
+    records: &mut Records,
+    told: &mut MessageList,
+) -> Result<u32, Fail> {
+    add_each(rt, alloc, records)?;
+    commit(rt, alloc, records, told)
+}
+
+// How many of the first records became durable.
+fn first_commit(rt: &impl Abort, alloc: Global, told: &mut MessageList) -> Result<u32, Fail> {
+    let mut records = Records::new(alloc);
+    add_and_commit(rt, alloc, &mut records, told)
+}
+
 #[test]
-fn a_request_is_told(rt: HostRuntime) -> Result<(), Fail> {
-    let mut records = Records::new(rt.alloc());
+fn a_record_of_each_kind_is_told(rt: HostRuntime) -> Result<(), Fail> {
     let mut told = MessageList::new(rt.alloc());
-    add_request(rt.alloc(), &mut records)?;
-    assert_eq!(rt; commit(&rt, rt.alloc(), &mut records, &mut told)?, 1);
+    assert_eq!(rt; first_commit(&rt, rt.alloc(), &mut told)?, 4);
+    assert_eq!(rt; told.len(), 4);
     assert!(rt; matches!(told.get(0), Some(Message::Safe { .. })));
-    Ok(())
-}
-
-#[test]
-fn a_flush_is_told(rt: HostRuntime) -> Result<(), Fail> {
-    let mut records = Records::new(rt.alloc());
-    let mut told = MessageList::new(rt.alloc());
-    add_flush(&rt, &mut records)?;
-    assert_eq!(rt; commit(&rt, rt.alloc(), &mut records, &mut told)?, 1);
-    assert!(rt; matches!(told.get(0), Some(Message::FlushAck { .. })));
-    Ok(())
-}
-
-#[test]
-fn a_snapshot_and_its_removal_are_told(rt: HostRuntime) -> Result<(), Fail> {
-    let mut records = Records::new(rt.alloc());
-    let mut told = MessageList::new(rt.alloc());
-    let number = add_snap(&rt, rt.alloc(), &mut records)?;
-    add_removal(&rt, &mut records, number)?;
-    assert_eq!(rt; commit(&rt, rt.alloc(), &mut records, &mut told)?, 2);
-    assert!(rt; matches!(told.get(0), Some(Message::Snap { .. })));
-    assert!(rt; matches!(told.get(1), Some(Message::Snap { .. })));
+    assert!(rt; matches!(told.get(1), Some(Message::FlushAck { .. })));
+    assert!(rt; matches!(told.get(2), Some(Message::Snap { .. })));
+    assert!(rt; matches!(told.get(3), Some(Message::Snap { .. })));
     Ok(())
 }

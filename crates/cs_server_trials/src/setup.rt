@@ -1,6 +1,7 @@
 // Directories and files that stand before all records.
-ghost use Rattle.std.specs.Prelude.{◌≡◌, true};
+ghost use Rattle.std.specs.Prelude.{◌≡◌, [], true};
 ghost use Rattle.cs_laws.specs.Events.{is_setup};
+ghost use Rattle.cs_mds.specs.Views.{stand};
 
 use crate::numbers::ino;
 use cs_laws::{Answer, Event};
@@ -9,13 +10,21 @@ use std::alloc::Global;
 use std::process::Abort;
 use std::test::Fail;
 
+// The answer of a server without records.
+fn made(rt: &impl Abort, mds: &mut Mds, event: &Event) -> Result<Answer, Fail>
+    requires setup { is_setup event.now ≡ true }
+    requires first { stand mds.old ≡ [] }
+{
+    assert!(rt; event.fits());
+    Ok(mds.setup(event)?)
+}
+
 // The answer of a server that knows the root alone.
 fn first_answer(rt: &impl Abort, alloc: Global, event: &Event) -> Result<Answer, Fail>
     requires { is_setup event.now ≡ true }
 {
-    assert!(rt; event.fits());
     let mut mds = Mds::new(alloc)?;
-    Ok(mds.setup(event)?)
+    made(rt, &mut mds, event)
 }
 
 #[test]
