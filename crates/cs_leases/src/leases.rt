@@ -16,6 +16,19 @@ struct Lease {
     until: u64,
 }
 
+impl Lease {
+    // What it says of its entry at a time.
+    fn answer(&self, now: u64) -> Lookup
+        ensures { result ≡ lookup_answer (Some (self.now.ino, self.now.until)) now }
+    {
+        if now >= self.until {
+            Lookup::Expired { until: self.until }
+        } else {
+            Lookup::Hit(self.ino)
+        }
+    }
+}
+
 /// The leases on entries of directories, at most one on each. The times are of the clock that the
 /// caller goes by. A lease whose time has come stays until it is ended.
 #[derive(Drop)]
@@ -45,8 +58,9 @@ impl Leases {
         }
     }
 
-    /// Takes a lease on the entry of a directory that has the name, of an inode and until a time. It
-    /// takes the place of the one that is on the entry, if any. After `Memory` all leases are as before.
+    /// Takes a lease on the entry of a directory that has the name: it has this inode until this time.
+    /// It takes the place of the lease that is on the entry, if any. After `Memory` all leases are as
+    /// before.
     pub fn take(&mut self, dir: Ino, name: &Name, ino: Ino, until: u64) -> Result<(), Memory>
         ensures ok { OnOk result ((d : ℕ) (n : List ℕ) → lease_on self.new d n
             ≡ (if is_entry dir name.now d n then Some (ino, until) else lease_on self.old d n)) }
@@ -82,18 +96,5 @@ impl Leases {
         ensures { self.new ≡ [] }
     {
         self.leases.clear();
-    }
-}
-
-impl Lease {
-    // What it says of its entry at a time.
-    fn answer(&self, now: u64) -> Lookup
-        ensures { result ≡ lookup_answer (Some (self.now.ino, self.now.until)) now }
-    {
-        if now >= self.until {
-            Lookup::Expired { until: self.until }
-        } else {
-            Lookup::Hit(self.ino)
-        }
     }
 }
