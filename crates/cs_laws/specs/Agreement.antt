@@ -6,7 +6,7 @@ use Rattle.cs_laws.specs.declared.answers.Entry.{Entry}
 use Rattle.cs_laws.specs.declared.objects.At.{At}
 use Rattle.cs_laws.specs.declared.objects.ObjOp.{ObjOp}
 use Rattle.cs_laws.specs.Answers.{covers_file, is_gone, standing_context, stands}
-use Rattle.cs_laws.specs.Events.{server_knows}
+use Rattle.cs_laws.specs.ServerKnows.{server_knows}
 use Rattle.cs_laws.specs.History.{durable, fresh, stand, writes}
 use Rattle.cs_laws.specs.Image.{Write, image}
 use Rattle.cs_laws.specs.Image as images

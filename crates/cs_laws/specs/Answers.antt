@@ -1,5 +1,5 @@
 -- The answer to each event, by tests in the order in which they are made.
-use Rattle.std.specs.Prelude.{ℕ, zero, suc, ◌+◌, ◌-◌, min, ◌==◌, ◌&&◌, Bool, true, false, List, [], ◌∷◌, Option, Some, None, if◌then◌else◌, nat_lt, nat_le, length, ◌||◌}
+use Rattle.std.specs.Prelude.{ℕ, zero, suc, ◌+◌, ◌-◌, min, ◌==◌, ◌&&◌, Bool, true, false, List, [], ◌∷◌, Option, Some, None, if◌then◌else◌, nat_lt, nat_le, length, unwrap_or, ◌||◌}
 use Rattle.cs_bits.specs.declared.Caps.{Caps}
 use Rattle.cs_bits.specs.Bits.{is_empty, covers, auth_excl, file_read, file_write}
 use Rattle.cs_parts.specs.declared.capabilities.ClientCaps.{ClientCaps}
@@ -15,6 +15,9 @@ use Rattle.cs_laws.specs.declared.answers.Entry.{Entry}
 use Rattle.cs_laws.specs.declared.objects.At.{At}
 use Rattle.cs_laws.specs.declared.objects.At.TheVariants as at
 use Rattle.cs_laws.specs.declared.records.Record.{Record}
+use Rattle.cs_laws.specs.declared.requests.OpAnswer.{OpAnswer}
+use Rattle.cs_laws.specs.declared.requests.OpAnswer.TheVariants as replies
+use Rattle.cs_laws.specs.declared.requests.ReqOp.{ReqOp}
 use Rattle.cs_ids.specs.declared.objects.FileMeta.{FileMeta}
 use Rattle.std.specs.List.{list_any}
 use Rattle.cs_laws.specs.declared.answers.Why.TheVariants as why
@@ -25,15 +28,20 @@ use Rattle.cs_snapctx.specs.Records.{with_records}
 use Rattle.cs_laws.specs.CapSnaps.{CapSnap, is_open, is_writing, makes}
 use Rattle.cs_laws.specs.Context.{path_context}
 use Rattle.cs_laws.specs.Realms.{realm_records}
-use Rattle.cs_laws.specs.Tree.{client_file_path, server_dir, server_dirs, server_file_path, server_path}
-use Rattle.cs_laws.specs.Events.{begun, client_files, client_knows, clock, server_knows}
+use Rattle.cs_laws.specs.ClientKnows.{client_file_path, client_files, client_knows}
+use Rattle.cs_laws.specs.ServerKnows.{server_dir, server_dirs, server_file_path, server_knows, server_path}
+use Rattle.cs_laws.specs.Events.{begun, clock}
 use Rattle.cs_laws.specs.History.{client, server, to_client, to_server, realms, context, live, writes, dirty, queued, fresh, stand, sent, used}
 use Rattle.cs_laws.specs.References.{can_end, named}
 use Rattle.cs_laws.specs.Image.{Write, image, size}
+use Rattle.cs_laws.specs.Leases.{lease, looked_up}
 use Rattle.cs_laws.specs.Metadata.{meta_at}
+use Rattle.cs_laws.specs.Names.{listed, names}
+use Rattle.cs_laws.specs.Namespace.{Names, answer_on, has_dir}
 use Rattle.cs_laws.specs.Owed.{owed}
+use Rattle.cs_laws.specs.Requests.{requests}
 use Rattle.cs_laws.specs.Shown.{writes_at}
-use Rattle.cs_laws.specs.Standing.{greatest_number, greatest_tid, has_snap, has_snap_named, is_removed}
+use Rattle.cs_laws.specs.Standing.{answer_kept, greatest_number, greatest_request, greatest_tid, has_snap, has_snap_named, is_removed}
 
 -- a directory or a file has the inode
 abbrev pub is_in_use : List Entry → ℕ → Bool
@@ -141,12 +149,23 @@ abbrev pub count_made : List Entry → (ℕ → Context) → List ℕ → ℕ
 count_made h new [] = 0
 count_made h new (f ∷ fs) = (if makes f (context h f) (new f) (live h) (dirty h f) (queued h f) then 1 else 0) + count_made h new fs
 
+-- the look-up of a name in a directory, without a message
+abbrev pub answer_lookup : List Entry → ℕ → List ℕ → Answer
+answer_lookup h d name = looked_up (lease h d name) (clock h)
+
+-- requests are numbered from 1
+abbrev pub answer_req : List Entry → Answer
+answer_req h = answers.Sent (length (requests h) + 1)
+
 -- the line of a message that is delivered to the client
 abbrev pub answer_told : List Entry → Message → Answer
 answer_told h (messages.Cap f seq bits end) = answers.Cap f seq bits end
 answer_told h (messages.FlushAck f tid) = answers.FlushAck f tid
 answer_told h (messages.Snap number realm realms_told) =
     answers.SnapTold number realm (count_made h (λ f. path_context (client_file_path h f) (with_records realms_told (realms h))) (client_files h))
+answer_told h (messages.Unsafe tid a ttl) = answers.Unsafe tid a
+answer_told h (messages.Safe tid) = answers.Safe tid
+answer_told h (messages.Unlease d name) = answers.Unlease d name
 answer_told h _ = answers.Idle
 
 abbrev pub answer_to_client_of : List Entry → List Message → Answer
@@ -164,11 +183,18 @@ held_after s seq bits = if s.seq == seq then bits else s.held
 abbrev pub answer_flushed : List Record → ℕ → ℕ → Answer
 answer_flushed rs f tid = if nat_lt (greatest_tid f rs) tid then answers.Flushed f tid else answers.FlushDup f tid
 
+-- The line of a request that is delivered to the server: it is done where its number is above those that stand. One that came again has the
+-- answer with which it stands.
+abbrev pub answer_requested : List Record → Names → ℕ → ReqOp → Answer
+answer_requested rs ns tid op =
+    if nat_lt (greatest_request rs) tid then answers.Req tid (answer_on ns op) else answers.ReqDup tid (unwrap_or (answer_kept tid rs) replies.Missing)
+
 -- the line of a message that is delivered to the server
 abbrev pub answer_received : List Entry → Message → Answer
 answer_received h (messages.CapAck f seq bits) = answers.CapAck f seq (held_after (server h f) seq bits)
 answer_received h (messages.Flush f tid follows meta) = answer_flushed (stand h) f tid
 answer_received h (messages.FlushSnap f tid follows meta) = answer_flushed (stand h) f tid
+answer_received h (messages.Req tid ino op) = answer_requested (stand h) (names h) tid op
 answer_received h _ = answers.Idle
 
 abbrev pub answer_to_mds_of : List Entry → List Message → Answer
@@ -191,7 +217,7 @@ answer_revoke h f bits = if server_knows h f then sent_cap (revoked (server h f)
 -- the number of a new snapshot of a directory
 abbrev pub answer_snap : List Entry → ℕ → List ℕ → Answer
 answer_snap h d name =
-    if server_dir h d then
+    if has_dir (names h) d then
     (if has_snap_named d name (stand h) then answers.Exists else answers.Snap (greatest_number (stand h) + 1))
     else answers.Unknown
 
@@ -201,6 +227,14 @@ answer_remove h s =
     if has_snap s (stand h) then
     (if is_removed s (stand h) then answers.Gone else answers.Removed s (greatest_number (stand h) + 1))
     else answers.NoSnap
+
+-- the client is told that its lease on an entry ends
+abbrev pub answer_unlease : List Entry → ℕ → Answer
+answer_unlease h d = if has_dir (names h) d then answers.SentUnlease else answers.Unknown
+
+-- the names in a directory, if it stands
+abbrev pub answer_names : List Entry → ℕ → Answer
+answer_names h d = if has_dir (names h) d then answers.Names (listed d (names h)) else answers.Unknown
 
 -- the state is the head, or that of a snapshot that stands
 abbrev pub stands : At → List Record → Bool
@@ -249,11 +283,15 @@ answer pages h (events.Chmod caller name mode) = answer_chmod h caller name
 answer pages h (events.Check f) = answer_check h f
 answer pages h (events.Flush f) = answer_flush h f
 answer pages h (events.FlushSnaps f) = answer_flush_snaps h f
+answer pages h (events.Lookup caller d name) = answer_lookup h d name
+answer pages h (events.Req caller op) = answer_req h
 answer pages h events.ToClient = answer_to_client h
 answer pages h events.ToMds = answer_to_mds h
 answer pages h (events.Grant f bits end) = answer_grant h f bits end
 answer pages h (events.Revoke f bits) = answer_revoke h f bits
 answer pages h (events.Snap d name) = answer_snap h d name
 answer pages h (events.RmSnap s) = answer_remove h s
+answer pages h (events.Unlease d name) = answer_unlease h d
 answer pages h events.Commit = answers.Commit (length (fresh h))
 answer pages h (events.Show f a off len) = answer_show h f a off len
+answer pages h (events.Names d) = answer_names h d

@@ -13,6 +13,8 @@ is_for_client (messages.Cap f seq bits end) = true
 is_for_client (messages.Safe tid) = true
 is_for_client (messages.FlushAck f tid) = true
 is_for_client (messages.Snap number realm realms) = true
+is_for_client (messages.Unsafe tid a ttl) = true
+is_for_client (messages.Unlease d name) = true
 is_for_client _ = false
 
 -- the file that it is of

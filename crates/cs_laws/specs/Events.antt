@@ -32,18 +32,6 @@ abbrev pub files : List Entry → List ℕ
 files [] = []
 files (x ∷ h) = files_then x.event x.answer (files h)
 
--- What each side knows: what setup lines made
-
-abbrev pub client_knows : List Entry → ℕ → Bool
-client_knows h f = setup_file h f
-
--- the files that the client knows, the last one first
-abbrev pub client_files : List Entry → List ℕ
-client_files h = files h
-
-abbrev pub server_knows : List Entry → ℕ → Bool
-server_knows h f = setup_file h f
-
 -- the time that was told last
 abbrev pub clock_then : Event → Answer → ℕ → ℕ
 clock_then (events.Clock t) (answers.Now u) was = u

@@ -18,6 +18,8 @@ use Rattle.cs_laws.specs.declared.objects.At.TheVariants as at
 use Rattle.cs_laws.specs.declared.faults.Kind.{Kind}
 use Rattle.cs_laws.specs.declared.faults.Kind.TheVariants as kinds
 use Rattle.cs_laws.specs.declared.faults.ScriptFault.{ScriptFault}
+use Rattle.cs_laws.specs.declared.requests.ReqOp.{ReqOp}
+use Rattle.cs_laws.specs.declared.requests.ReqOp.TheVariants as ops
 use Rattle.cs_laws.specs.Fits.{is_built, greatest_end, greatest_time, most_written, most_shown}
 
 abbrev pub Words : Type 0
@@ -215,11 +217,53 @@ show_of ws = do
   n ← number_at 4 1 most_shown ws
   only 5 (events.Show f a o n) ws
 
--- The first words of events that aren't built yet
+unfoldable pub lookup_of : Words → Result Event Kind
+lookup_of ws = do
+  c ← number_at 1 0 32 ws
+  d ← number_at 2 1 99999 ws
+  n ← name_field 3 ws
+  only 4 (events.Lookup c d n) ws
 
-abbrev pub is_later_caller_word : List ℕ → Bool
-is_later_caller_word w =
-    bytes_eq w (codes "lookup") || (bytes_eq w (codes "req") || bytes_eq w (codes "names"))
+-- a request on one name in a directory
+unfoldable pub name_req_of : (ℕ → List ℕ → ReqOp) → ℕ → Words → Result Event Kind
+name_req_of op c ws = do
+  d ← number_at 3 1 99999 ws
+  n ← name_field 4 ws
+  only 5 (events.Req c (op d n)) ws
+
+unfoldable pub rename_req_of : ℕ → Words → Result Event Kind
+rename_req_of c ws = do
+  d ← number_at 3 1 99999 ws
+  n ← name_field 4 ws
+  m ← name_field 5 ws
+  only 6 (events.Req c (ops.Rename d n m)) ws
+
+unfoldable pub req_by : ℕ → Words → List ℕ → Result Event Kind
+req_by c ws w =
+    if bytes_eq w (codes "mkdir") then name_req_of ops.Mkdir c ws
+    else if bytes_eq w (codes "create") then name_req_of ops.Create c ws
+    else if bytes_eq w (codes "unlink") then name_req_of ops.Unlink c ws
+    else if bytes_eq w (codes "rename") then rename_req_of c ws
+    else if bytes_eq w (codes "lookup") then name_req_of ops.Lookup c ws
+    else Err kinds.Word
+
+unfoldable pub req_of : Words → Result Event Kind
+req_of ws = do
+  c ← number_at 1 0 32 ws
+  word_in (req_by c ws) (slice_get ws 2)
+
+unfoldable pub unlease_of : Words → Result Event Kind
+unlease_of ws = do
+  d ← number_at 1 1 99999 ws
+  n ← name_field 2 ws
+  only 3 (events.Unlease d n) ws
+
+unfoldable pub names_of : Words → Result Event Kind
+names_of ws = do
+  d ← number_at 1 1 99999 ws
+  only 2 (events.Names d) ws
+
+-- The first words of events that aren't built yet
 
 abbrev pub is_later_client_word : List ℕ → Bool
 is_later_client_word w =
@@ -228,10 +272,10 @@ is_later_client_word w =
 
 abbrev pub is_later_server_word : List ℕ → Bool
 is_later_server_word w =
-    bytes_eq w (codes "drop") || (bytes_eq w (codes "reconnect") || (bytes_eq w (codes "unlease") || bytes_eq w (codes "failover")))
+    bytes_eq w (codes "drop") || (bytes_eq w (codes "reconnect") || bytes_eq w (codes "failover"))
 
 abbrev pub is_later_word : List ℕ → Bool
-is_later_word w = is_later_caller_word w || (is_later_client_word w || is_later_server_word w)
+is_later_word w = is_later_client_word w || is_later_server_word w
 
 unfoldable pub event_by : List ℕ → Words → Result Event Kind
 event_by w ws =
@@ -246,14 +290,18 @@ event_by w ws =
     else if bytes_eq w (codes "check") then check_of ws
     else if bytes_eq w (codes "flush") then flush_of ws
     else if bytes_eq w (codes "flushsnaps") then flush_snaps_of ws
+    else if bytes_eq w (codes "lookup") then lookup_of ws
+    else if bytes_eq w (codes "req") then req_of ws
     else if bytes_eq w (codes "toclient") then only 1 events.ToClient ws
     else if bytes_eq w (codes "tomds") then only 1 events.ToMds ws
     else if bytes_eq w (codes "grant") then grant_of ws
     else if bytes_eq w (codes "revoke") then revoke_of ws
     else if bytes_eq w (codes "snap") then snap_of ws
     else if bytes_eq w (codes "rmsnap") then remove_of ws
+    else if bytes_eq w (codes "unlease") then unlease_of ws
     else if bytes_eq w (codes "commit") then only 1 events.Commit ws
     else if bytes_eq w (codes "show") then show_of ws
+    else if bytes_eq w (codes "names") then names_of ws
     else if is_later_word w then Err kinds.NotBuilt
     else Err kinds.Word
 

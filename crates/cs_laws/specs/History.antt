@@ -23,7 +23,8 @@ use Rattle.cs_laws.specs.Flushes.{Flush, flush_present, flush_snap, sent_then}
 use Rattle.cs_laws.specs.Image.{Write}
 use Rattle.cs_laws.specs.References.{dirty_then, first_mode, live_then, mode_then}
 use Rattle.cs_laws.specs.Standing.{durable_then, fresh_then, last_sent_then, news}
-use Rattle.cs_laws.specs.Tree.{client_file_path, server_dirs, server_path}
+use Rattle.cs_laws.specs.ClientKnows.{client_file_path}
+use Rattle.cs_laws.specs.Made.{dirs_by, path_by}
 use Rattle.cs_laws.specs.Writes.{writes_then}
 
 abbrev mutual
@@ -41,7 +42,8 @@ abbrev mutual
   pub to_client : List Entry → List Message
   to_client [] = []
   to_client (x ∷ h) =
-      to_client_then x.event x.answer (λ f. server h f) (durable h) (news (λ d. server_path h d) (server_dirs h) (last_sent h) (durable h) (fresh h)) (to_client h)
+      to_client_then x.event x.answer (λ f. server h f) (durable h)
+      (news (λ d. path_by (durable h ++ fresh h) h d) (dirs_by (durable h ++ fresh h) h) (last_sent h) (durable h) (fresh h)) (to_client h)
 
   -- the messages on their way to the server
   pub to_server : List Entry → List Message
@@ -59,7 +61,8 @@ abbrev mutual
   pub last_sent : List Entry → List RealmRecord
   last_sent [] = root_record ∷ []
   last_sent (x ∷ h) =
-      last_sent_then x.event x.answer (news (λ d. server_path h d) (server_dirs h) (last_sent h) (durable h) (fresh h)) (last_sent h)
+      last_sent_then x.event x.answer
+      (news (λ d. path_by (durable h ++ fresh h) h d) (dirs_by (durable h ++ fresh h) h) (last_sent h) (durable h) (fresh h)) (last_sent h)
 
   -- the records of the server's log that are durable
   pub durable : List Entry → List Record

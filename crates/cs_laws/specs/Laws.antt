@@ -1,4 +1,5 @@
 -- The laws of a journal.
+use Rattle.std.specs.Option.{option_map}
 use Rattle.std.specs.Prelude.{◌≡◌, ℕ, ◌+◌, ◌==◌, ◌⊎◌, Bool, true, false, List, [], ◌∷◌, ◌++◌, Option, Some, None, flat_map, if◌then◌else◌}
 use Rattle.cs_bits.specs.declared.Caps.{Caps}
 use Rattle.cs_bits.specs.Bits.{covers, meet, minus, no_caps}
@@ -11,13 +12,22 @@ use Rattle.cs_laws.specs.declared.answers.Answer.{Answer}
 use Rattle.cs_laws.specs.declared.answers.Answer.TheVariants as answers
 use Rattle.cs_laws.specs.declared.answers.Entry.{Entry}
 use Rattle.cs_laws.specs.declared.records.Record.{Record}
+use Rattle.cs_laws.specs.declared.records.RecordBody.{RecordBody}
+use Rattle.cs_laws.specs.declared.records.RecordBody.TheVariants as bodies
+use Rattle.cs_laws.specs.declared.requests.OpAnswer.{OpAnswer}
 use Rattle.cs_laws.specs.Answers.{may_change_mode, may_read, may_write}
 use Rattle.cs_laws.specs.Carried.{flush_in}
+use Rattle.cs_laws.specs.Events.{clock}
 use Rattle.cs_laws.specs.Flushes.{Flush}
 use Rattle.cs_laws.specs.History.{client, context, live, sent, server, stand, used}
 use Rattle.cs_laws.specs.Lists.{Each, Member, RisesFrom}
 use Rattle.cs_laws.specs.Owed.{is_acked}
-use Rattle.cs_laws.specs.Sessions.{is_broken, server_state}
+use Rattle.cs_laws.specs.Leases.{lease, looked_up}
+use Rattle.cs_laws.specs.Names.{names}
+use Rattle.cs_laws.specs.Namespace.{entry_at}
+use Rattle.cs_laws.specs.Requests.{Reply, is_saved, replies}
+use Rattle.cs_laws.specs.Sessions.{is_active, is_broken, server_state}
+use Rattle.cs_laws.specs.Standing.{answer_kept}
 
 -- Histories have the newest entry first, so what is before an entry is what stands behind it in the list.
 
@@ -109,6 +119,53 @@ IsCovered h = is_broken (server_state h) ≡ false → (f : ℕ) → covers (ser
 abbrev pub HeldCoversImplemented : List Entry → Type 0
 HeldCoversImplemented h = InEveryPrefix IsCovered h
 
+-- Requests stand once, in order.
+
+abbrev pub request_tids_of : RecordBody → List ℕ
+request_tids_of (bodies.Request tid op answer) = tid ∷ []
+request_tids_of _ = []
+
+-- the numbers of the requests among these records, in order
+abbrev pub request_tids : List Record → List ℕ
+request_tids rs = flat_map (λ r. request_tids_of r.body) rs
+
+-- the numbers of the standing requests rise strictly
+abbrev pub RequestsRise : List Entry → Type 0
+RequestsRise h = RisesFrom 0 (request_tids (stand h))
+
+-- the request of a number stands exactly once in the history, with this answer
+pub record StandsOnce (h : List Entry) (t : ℕ) (answer : OpAnswer) : Type 0 where
+  pub once : times t (request_tids (stand h)) ≡ 1
+  pub answered : answer_kept t (stand h) ≡ Some answer
+
+-- of a request the client was told in the first history that its record is durable: it stands exactly once in the later one, with the
+-- answer with which it stands in the first one
+abbrev pub SavedStandOnce : List Entry → List Entry → Type 0
+SavedStandOnce h later = (t : ℕ) → is_saved h t ≡ true → (a : OpAnswer) × (StandsOnce h t a × StandsOnce later t a)
+
+pub record RequestsStandOnce (h : List Entry) : Type 0 where
+  pub rise : InEveryPrefix RequestsRise h
+  pub once : InEveryPrefix (λ later. InEveryPrefix (λ before. SavedStandOnce before later) later) h
+
+-- Replies stand: while the server's session is active, each request to which an answer was delivered stands once, with that answer.
+
+abbrev pub AnsweredStand : List Entry → Type 0
+AnsweredStand h = is_active (server_state h) ≡ true → Each (λ r. StandsOnce h r.tid r.answer) (replies h)
+
+abbrev pub RepliesStand : List Entry → Type 0
+RepliesStand h = InEveryPrefix AnsweredStand h
+
+-- Leases stand: while the server's session is active, an entry on which the client has a lease that a look-up would tell stands in the
+-- namespace, with the inode that it would tell.
+
+abbrev pub LeasedStand : List Entry → Type 0
+LeasedStand h =
+    is_active (server_state h) ≡ true → (d : ℕ) (name : List ℕ) (i : ℕ) → looked_up (lease h d name) (clock h) ≡ answers.Hit i
+    → option_map (λ e. e.ino) (entry_at (names h) d name) ≡ Some i
+
+abbrev pub LeasesStand : List Entry → Type 0
+LeasesStand h = InEveryPrefix LeasedStand h
+
 -- All of them
 
 pub record Laws (h : List Entry) : Type 0 where
@@ -116,3 +173,6 @@ pub record Laws (h : List Entry) : Type 0 where
   pub acks_are_free : AcksAreFree h
   pub flushes_stand_once : FlushesStandOnce h
   pub held_covers_implemented : HeldCoversImplemented h
+  pub requests_stand_once : RequestsStandOnce h
+  pub replies_stand : RepliesStand h
+  pub leases_stand : LeasesStand h

@@ -8,7 +8,7 @@ use Rattle.cs_parts.specs.References.{is_writer_of}
 use Rattle.cs_laws.specs.declared.answers.Entry.{Entry}
 use Rattle.cs_laws.specs.declared.objects.At.{At}
 use Rattle.cs_laws.specs.declared.objects.At.TheVariants as at
-use Rattle.cs_laws.specs.Events.{client_knows}
+use Rattle.cs_laws.specs.ClientKnows.{client_knows}
 use Rattle.cs_laws.specs.Flushes.{Flush, acked}
 use Rattle.cs_laws.specs.History.{context, dirty, live, mode, queued, sent}
 use Rattle.cs_laws.specs.Shown.{is_before}

@@ -1,11 +1,19 @@
 -- The realms, by the records of the server's log, the oldest first.
-use Rattle.std.specs.Prelude.{ℕ, ◌==◌, ◌||◌, not, Bool, false, List, [], ◌∷◌, Option, Some, None, drop, filter, find, if◌then◌else◌}
+use Rattle.std.specs.Prelude.{ℕ, ◌+◌, ◌==◌, ◌||◌, not, Bool, false, List, [], ◌∷◌, Option, Some, None, drop, filter, find, max, if◌then◌else◌}
 use Rattle.std.specs.List.{list_any, filter_map}
 use Rattle.cs_snapctx.specs.declared.realm.RealmRecord.{RealmRecord}
 use Rattle.cs_snapctx.specs.Records.{changed_record, record_of}
 use Rattle.cs_laws.specs.declared.records.Record.{Record}
 use Rattle.cs_laws.specs.declared.records.RecordBody.{RecordBody}
 use Rattle.cs_laws.specs.declared.records.RecordBody.TheVariants as bodies
+use Rattle.cs_laws.specs.Made.{made_of, makes_dir}
+
+-- the number that a snapshot or a removal drew
+abbrev pub number_of : RecordBody → ℕ
+number_of (bodies.Request tid op answer) = 0
+number_of (bodies.Flush snap f tid follows meta) = 0
+number_of (bodies.Snap number d name) = number
+number_of (bodies.Removal s number) = number
 
 -- What the records say of one directory
 
@@ -42,10 +50,15 @@ own d rs = own_after d (record { seq = 0; snaps = [] }) rs
 
 -- Realm records
 
+-- n: the greatest number before these records
+abbrev pub since_from : ℕ → ℕ → List Record → ℕ
+since_from d n [] = 1
+since_from d n (r ∷ rs) = if makes_dir d (made_of r.body) then n + 1 else since_from d (max n (number_of r.body)) rs
+
 -- A snapshot of a realm above covers a directory where its number is at least this one: one more than the greatest number that
--- stood when the directory was made. All directories are made before the first snapshot.
+-- stood when the directory was made. A directory of a setup line was made before them all.
 abbrev pub since_of : List Record → ℕ → ℕ
-since_of rs d = 1
+since_of rs d = since_from d 0 rs
 
 -- the realm of a directory, whose way up is the path
 abbrev pub realm_record : List ℕ → List Record → ℕ → Option RealmRecord

@@ -18,6 +18,10 @@ abbrev pub server_state : List Entry → ServerState
 server_state [] = active
 server_state (x ∷ h) = server_state_then x.event x.answer (server_state h)
 
+abbrev pub is_active : ServerState → Bool
+is_active active = true
+is_active _ = false
+
 abbrev pub is_broken : ServerState → Bool
 is_broken broken = true
 is_broken _ = false

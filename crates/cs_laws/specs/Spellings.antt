@@ -1,5 +1,5 @@
 -- How records of the log are spelled in bytes, and which messages and records have a spelling.
-use Rattle.std.specs.Prelude.{ℕ, ◌==◌, ◌&&◌, not, nat_lt, nat_le, Bool, true, List, [], ◌∷◌, ◌++◌, Option, Some, None, length}
+use Rattle.std.specs.Prelude.{ℕ, ◌==◌, ◌&&◌, ◌||◌, not, nat_lt, nat_le, Bool, true, false, List, [], ◌∷◌, ◌++◌, Option, Some, None, length}
 use Rattle.std.specs.List.{list_all}
 use Rattle.cs_bits.specs.Bits as sets
 use Rattle.cs_codec.specs.Fields.{flag_bytes, is_in, name_bytes, number_bytes}
@@ -120,11 +120,23 @@ realm_fits r = has_parent r.realm r.parent && (nat_le 1 r.since && (snaps_fit r.
 abbrev pub realms_fit : List RealmRecord → Bool
 realms_fit rs = nat_le (length rs) most_items && list_all realm_fits rs
 
+abbrev pub gives_lease : OpAnswer → Bool
+gives_lease (replies.Made i) = true
+gives_lease (replies.Found i) = true
+gives_lease _ = false
+
+-- an answer that tells of an entry may give a lease of 60 seconds
+abbrev pub lease_fits : OpAnswer → ℕ → Bool
+lease_fits a ttl = (ttl == 0) || ((ttl == 60) && gives_lease a)
+
 abbrev pub message_fits : Message → Bool
 message_fits (messages.Cap f seq bits end) = sets.fits bits && nat_le end greatest_end
 message_fits (messages.Safe tid) = true
 message_fits (messages.FlushAck f tid) = true
 message_fits (messages.Snap number realm realms) = nat_le 1 number && realms_fit realms
+message_fits (messages.Unsafe tid a ttl) = lease_fits a ttl
+message_fits (messages.Unlease d name) = true
+message_fits (messages.Req tid ino op) = true
 message_fits (messages.CapAck f seq bits) = sets.fits bits
 message_fits (messages.Flush f tid follows meta) = meta_fits meta
 message_fits (messages.FlushSnap f tid follows meta) = meta_fits meta

@@ -15,7 +15,8 @@ use Rattle.cs_laws.specs.declared.records.RecordBody.TheVariants as bodies
 use Rattle.cs_snapctx.specs.Records.{with_records}
 use Rattle.cs_laws.specs.Carried.{flush_in, flush_on, realms_of}
 use Rattle.cs_laws.specs.Flushes.{Flush, flush_record}
-use Rattle.cs_laws.specs.Realms.{differing, realm_records}
+use Rattle.cs_laws.specs.declared.requests.OpAnswer.{OpAnswer}
+use Rattle.cs_laws.specs.Realms.{differing, number_of, realm_records}
 
 -- the record of a flush
 abbrev pub recorded_of : Option Flush → List Record
@@ -27,8 +28,14 @@ abbrev pub recorded : List Message → List Record
 recorded [] = []
 recorded (m ∷ q) = recorded_of (flush_on m)
 
+-- and where it is a request that is answered so
+abbrev pub requested : OpAnswer → List Message → List Record
+requested a (messages.Req tid ino op ∷ q) = record { body = bodies.Request tid op a } ∷ []
+requested a _ = []
+
 -- q: the messages to the server before the entry
 abbrev pub fresh_then : Event → Answer → List Message → List Record → List Record
+fresh_then events.ToMds (answers.Req tid a) q rs = rs ++ requested a q
 fresh_then events.ToMds (answers.Flushed f tid) q rs = rs ++ recorded q
 fresh_then (events.Snap d name) (answers.Snap number) q rs = rs ++ record { body = bodies.Snap number d name } ∷ []
 fresh_then (events.RmSnap s) (answers.Removed t number) q rs = rs ++ record { body = bodies.Removal s number } ∷ []
@@ -128,14 +135,36 @@ is_snap_named d name rs _ = false
 abbrev pub has_snap_named : ℕ → List ℕ → List Record → Bool
 has_snap_named d name rs = list_any (λ r. is_snap_named d name rs r.body) rs
 
--- the number that a snapshot or a removal drew
-abbrev pub number_of : RecordBody → ℕ
-number_of (bodies.Request tid op answer) = 0
-number_of (bodies.Flush snap f tid follows meta) = 0
-number_of (bodies.Snap number d name) = number
-number_of (bodies.Removal s number) = number
-
--- the greatest of them, or 0 where there is none
+-- the greatest number that a snapshot or a removal drew, or 0 where there is none
 abbrev pub greatest_number : List Record → ℕ
 greatest_number [] = 0
 greatest_number (r ∷ rs) = max (number_of r.body) (greatest_number rs)
+
+-- Requests among the records
+
+-- the number of a request, or 0 where it is none
+abbrev pub request_tid : RecordBody → ℕ
+request_tid (bodies.Request tid op answer) = tid
+request_tid _ = 0
+
+-- the greatest number of a request, or 0 where there is none
+abbrev pub greatest_request : List Record → ℕ
+greatest_request [] = 0
+greatest_request (r ∷ rs) = max (request_tid r.body) (greatest_request rs)
+
+abbrev pub is_request : ℕ → RecordBody → Bool
+is_request t (bodies.Request tid op answer) = tid == t
+is_request t _ = false
+
+-- the request of this number stands
+abbrev pub has_request : ℕ → List Record → Bool
+has_request t rs = list_any (λ r. is_request t r.body) rs
+
+abbrev pub answer_in : ℕ → RecordBody → Option OpAnswer → Option OpAnswer
+answer_in t (bodies.Request tid op answer) later = if tid == t then Some answer else later
+answer_in t _ later = later
+
+-- the answer with which it stands
+abbrev pub answer_kept : ℕ → List Record → Option OpAnswer
+answer_kept t [] = None
+answer_kept t (r ∷ rs) = answer_in t r.body (answer_kept t rs)

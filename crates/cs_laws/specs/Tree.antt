@@ -1,4 +1,4 @@
--- The tree of directories, as the setup lines make it, and what each side knows of it. The root is directory 1.
+-- The tree of directories, as the setup lines make it. The root is directory 1.
 use Rattle.std.specs.Prelude.{ℕ, ◌==◌, ◌&&◌, ◌||◌, Bool, true, false, List, [], ◌∷◌, length, nat_lt, if◌then◌else◌}
 use Rattle.cs_laws.specs.declared.events.Event.{Event}
 use Rattle.cs_laws.specs.declared.events.Event.TheVariants as events
@@ -56,34 +56,3 @@ directories_then _ _ depth ds = ds
 abbrev pub directories : List Entry → List ℕ
 directories [] = 1 ∷ []
 directories (x ∷ h) = directories_then x.event x.answer (λ d. length (path (x ∷ h) d)) (directories h)
-
--- What each side knows: what setup lines made
-
-abbrev pub client_dir : List Entry → ℕ → Bool
-client_dir h d = is_directory h d
-
-abbrev pub server_dir : List Entry → ℕ → Bool
-server_dir h d = is_directory h d
-
-abbrev pub client_path : List Entry → ℕ → List ℕ
-client_path h d = path h d
-
-abbrev pub server_path : List Entry → ℕ → List ℕ
-server_path h d = path h d
-
-abbrev pub client_home : List Entry → ℕ → ℕ
-client_home h f = home h f
-
-abbrev pub server_home : List Entry → ℕ → ℕ
-server_home h f = home h f
-
--- the directories that hold a file, the nearest first
-abbrev pub client_file_path : List Entry → ℕ → List ℕ
-client_file_path h f = client_path h (client_home h f)
-
-abbrev pub server_file_path : List Entry → ℕ → List ℕ
-server_file_path h f = server_path h (server_home h f)
-
--- all directories that the server knows, parents first
-abbrev pub server_dirs : List Entry → List ℕ
-server_dirs h = directories h

@@ -2,9 +2,11 @@
 ghost use Rattle.std.specs.Prelude.{◌≡◌, IfOk};
 ghost use Rattle.cs_laws.specs.Refusals.{not_yet};
 
-use crate::Event;
+use crate::names::copy_names;
+use crate::requests::copy_name;
+use crate::{Event, NameList, OpAnswer};
 use cs_bits::Caps;
-use cs_ids::{Bytes, FileMeta, Ino, Memory, RefNo, Seq, Snap, Tid};
+use cs_ids::{Bytes, FileMeta, Ino, Memory, Name, RefNo, Seq, Snap, Tid};
 use std::alloc::Global;
 
 /// Why an event has to wait.
@@ -84,6 +86,20 @@ pub enum Answer {
         tid: Tid,
         follows: Seq,
     },
+    /// The client has no lease on the name.
+    Absent,
+    /// The lease on the name ended at this time, in seconds.
+    Expired {
+        until: u64,
+    },
+    /// By its lease the client takes the name for that of this inode.
+    Hit {
+        ino: Ino,
+    },
+    /// A request was sent under this number.
+    Sent {
+        tid: Tid,
+    },
     /// A capability message was delivered: the client may have these bits, and the file may grow up
     /// to `max` bytes.
     Cap {
@@ -102,6 +118,30 @@ pub enum Answer {
         number: Snap,
         realm: Ino,
         made: u32,
+    },
+    /// The answer to a request was delivered; its record may not be durable yet.
+    Unsafe {
+        tid: Tid,
+        answer: OpAnswer,
+    },
+    /// The client was told that the record of a request is durable.
+    Safe {
+        tid: Tid,
+    },
+    /// The client was told that its lease on a name in a directory ends.
+    Unlease {
+        dir: Ino,
+        name: Name,
+    },
+    /// A request was delivered and done, and its record stands.
+    Req {
+        tid: Tid,
+        answer: OpAnswer,
+    },
+    /// A request was delivered again, whose record stands with this answer.
+    ReqDup {
+        tid: Tid,
+        answer: OpAnswer,
     },
     /// The client's acknowledgement was delivered, after which these bits are held.
     CapAck {
@@ -124,6 +164,8 @@ pub enum Answer {
         seq: Seq,
         held: Caps,
     },
+    /// The end of a lease was sent.
+    SentUnlease,
     /// A snapshot was taken under this number.
     Snap {
         number: Snap,
@@ -148,6 +190,8 @@ pub enum Answer {
         meta: FileMeta,
         bytes: Bytes,
     },
+    /// The names in a directory with their inodes, in the order of bytes.
+    Names(NameList),
 }
 
 impl Answer {
@@ -155,8 +199,9 @@ impl Answer {
     pub fn copy(&self, alloc: Global) -> Result<Answer, Memory>
         ensures { IfOk result (λ a. a ≡ self.now) }
     {
-        // The proof of the match needs the type of the reason named.
+        // The proof of the match needs the types of the reason and of a request's answer named.
         let _told: Option<Why> = None;
+        let _reply: Option<OpAnswer> = None;
         Ok(match self {
             Answer::Unknown => Answer::Unknown,
             Answer::Exists => Answer::Exists,
@@ -188,6 +233,10 @@ impl Answer {
                 tid: *tid,
                 follows: *follows,
             },
+            Answer::Absent => Answer::Absent,
+            Answer::Expired { until } => Answer::Expired { until: *until },
+            Answer::Hit { ino } => Answer::Hit { ino: *ino },
+            Answer::Sent { tid } => Answer::Sent { tid: *tid },
             Answer::Cap {
                 file,
                 seq,
@@ -216,6 +265,23 @@ impl Answer {
                     made: *made,
                 }
             }
+            Answer::Unsafe { tid, answer } => Answer::Unsafe {
+                tid: *tid,
+                answer: *answer,
+            },
+            Answer::Safe { tid } => Answer::Safe { tid: *tid },
+            Answer::Unlease { dir, name } => Answer::Unlease {
+                dir: *dir,
+                name: copy_name(alloc, name)?,
+            },
+            Answer::Req { tid, answer } => Answer::Req {
+                tid: *tid,
+                answer: *answer,
+            },
+            Answer::ReqDup { tid, answer } => Answer::ReqDup {
+                tid: *tid,
+                answer: *answer,
+            },
             Answer::CapAck { file, seq, held } => Answer::CapAck {
                 file: *file,
                 seq: *seq,
@@ -233,6 +299,7 @@ impl Answer {
                 seq: *seq,
                 held: *held,
             },
+            Answer::SentUnlease => Answer::SentUnlease,
             Answer::Snap { number } => Answer::Snap { number: *number },
             Answer::Removed { snap, number } => Answer::Removed {
                 snap: *snap,
@@ -246,6 +313,7 @@ impl Answer {
                 meta: *meta,
                 bytes: Bytes::from_slice(alloc, bytes.as_slice())?,
             },
+            Answer::Names(names) => Answer::Names(copy_names(alloc, names)?),
         })
     }
 }

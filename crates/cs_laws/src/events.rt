@@ -2,7 +2,8 @@
 ghost use Rattle.std.specs.Prelude.{◌≡◌, ◌&&◌, nat_le, IfOk};
 ghost use Rattle.cs_laws.specs.Fits.{fits, is_built, is_mode, is_shown, is_state, is_write};
 
-use crate::At;
+use crate::requests::copy_name;
+use crate::{At, ReqOp};
 use cs_bits::Caps;
 use cs_ids::{Bytes, Caller, Ino, Memory, Name, RefNo, Snap};
 use std::alloc::Global;
@@ -81,6 +82,17 @@ pub enum Event {
     FlushSnaps {
         file: Ino,
     },
+    /// A caller looks a name up in a directory, by a lease that the client has on it.
+    Lookup {
+        caller: Caller,
+        dir: Ino,
+        name: Name,
+    },
+    /// A caller has the client send a request.
+    Req {
+        caller: Caller,
+        op: ReqOp,
+    },
     /// The oldest message on its way to the client is delivered.
     ToClient,
     /// The oldest message on its way to the server is delivered.
@@ -105,6 +117,11 @@ pub enum Event {
     RmSnap {
         snap: Snap,
     },
+    /// The server ends the client's lease on a name in a directory.
+    Unlease {
+        dir: Ino,
+        name: Name,
+    },
     /// The server makes all of its records durable, and tells the client of those that were not.
     Commit,
     /// What the store and the server's records hold of a file at a snapshot, or at present: its
@@ -115,6 +132,10 @@ pub enum Event {
         at: At,
         off: u32,
         len: u32,
+    },
+    /// The names that stand in a directory.
+    Names {
+        dir: Ino,
     },
 }
 
@@ -187,6 +208,15 @@ impl Event {
             Event::Check { file } => Event::Check { file: *file },
             Event::Flush { file } => Event::Flush { file: *file },
             Event::FlushSnaps { file } => Event::FlushSnaps { file: *file },
+            Event::Lookup { caller, dir, name } => Event::Lookup {
+                caller: *caller,
+                dir: *dir,
+                name: copy_name(alloc, name)?,
+            },
+            Event::Req { caller, op } => Event::Req {
+                caller: *caller,
+                op: op.copy(alloc)?,
+            },
             Event::ToClient => Event::ToClient,
             Event::ToMds => Event::ToMds,
             Event::Grant { file, bits, max } => {
@@ -202,9 +232,13 @@ impl Event {
             },
             Event::Snap { dir, name } => Event::Snap {
                 dir: *dir,
-                name: Name::from_slice(alloc, name.as_slice())?,
+                name: copy_name(alloc, name)?,
             },
             Event::RmSnap { snap } => Event::RmSnap { snap: *snap },
+            Event::Unlease { dir, name } => Event::Unlease {
+                dir: *dir,
+                name: copy_name(alloc, name)?,
+            },
             Event::Commit => Event::Commit,
             Event::Show { file, at, off, len } => {
                 Event::Show {
@@ -214,6 +248,7 @@ impl Event {
                     len: *len,
                 }
             }
+            Event::Names { dir } => Event::Names { dir: *dir },
         })
     }
 
@@ -238,10 +273,14 @@ impl Event {
             | Event::Check { .. }
             | Event::Flush { .. }
             | Event::FlushSnaps { .. }
+            | Event::Lookup { .. }
+            | Event::Req { .. }
             | Event::ToClient
             | Event::ToMds
             | Event::Snap { .. }
-            | Event::Commit => true,
+            | Event::Unlease { .. }
+            | Event::Commit
+            | Event::Names { .. } => true,
         }
     }
 }

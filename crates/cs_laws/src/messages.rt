@@ -1,17 +1,18 @@
 // The messages between client and server.
 ghost use Rattle.std.specs.Prelude.{◌≡◌, IfOk};
 ghost use Rattle.std.specs.List.{list_all};
-ghost use Rattle.cs_laws.specs.Spellings.{descends, message_fits, realm_fits, realms_fit, snaps_fit};
+ghost use Rattle.cs_laws.specs.Spellings.{descends, lease_fits, message_fits, realm_fits, realms_fit, snaps_fit};
 
-use crate::RealmRecordList;
 use crate::records::meta_fits;
+use crate::requests::copy_name;
+use crate::{OpAnswer, RealmRecordList, ReqOp};
 use cs_bits::Caps;
-use cs_ids::{FileMeta, Ino, Items, Memory, Seq, Snap, Tid};
+use cs_ids::{FileMeta, Ino, Items, Memory, Name, Seq, Snap, Tid};
 use cs_snapctx::RealmRecord;
 use std::alloc::Global;
 
-/// A message. `Cap`, `Safe`, `FlushAck` and `Snap` go to the client, `CapAck`, `Flush` and `FlushSnap` to the
-/// server.
+/// A message. `Cap`, `Unsafe`, `Safe`, `FlushAck`, `Snap` and `Unlease` go to the client, `Req`, `CapAck`, `Flush`
+/// and `FlushSnap` to the server.
 #[derive(Drop)]
 pub enum Message {
     /// The bits that the client may have from now on, and the file's greatest end in bytes.
@@ -20,6 +21,13 @@ pub enum Message {
         seq: Seq,
         bits: Caps,
         max: u32,
+    },
+    /// The answer to a request, whose record may not be durable yet. `ttl` is 60, the seconds of the lease that
+    /// it gives, where it tells of an entry for the first time, and else 0.
+    Unsafe {
+        tid: Tid,
+        answer: OpAnswer,
+        ttl: u32,
     },
     /// The record of a request is durable.
     Safe {
@@ -36,6 +44,17 @@ pub enum Message {
         number: Snap,
         realm: Ino,
         realms: RealmRecordList,
+    },
+    /// The lease on a name in a directory ends.
+    Unlease {
+        dir: Ino,
+        name: Name,
+    },
+    /// A request. One that is sent again after its answer came has the inode of that answer.
+    Req {
+        tid: Tid,
+        ino: Option<Ino>,
+        op: ReqOp,
     },
     /// The client has only these bits from now on, since the message of this number.
     CapAck {
@@ -67,6 +86,9 @@ impl Message {
     pub fn copy(&self, alloc: Global) -> Result<Message, Memory>
         ensures { IfOk result (λ m. m ≡ self.now) }
     {
+        // The proof of the match needs the types of the answer and of the inode named.
+        let _told: Option<OpAnswer> = None;
+        let _made: Option<Ino> = None;
         Ok(match self {
             Message::Cap {
                 file,
@@ -78,6 +100,11 @@ impl Message {
                 seq: *seq,
                 bits: *bits,
                 max: *max,
+            },
+            Message::Unsafe { tid, answer, ttl } => Message::Unsafe {
+                tid: *tid,
+                answer: *answer,
+                ttl: *ttl,
             },
             Message::Safe { tid } => Message::Safe { tid: *tid },
             Message::FlushAck { file, tid } => Message::FlushAck {
@@ -92,6 +119,15 @@ impl Message {
                 number: *number,
                 realm: *realm,
                 realms: copy_realms(alloc, realms)?,
+            },
+            Message::Unlease { dir, name } => Message::Unlease {
+                dir: *dir,
+                name: copy_name(alloc, name)?,
+            },
+            Message::Req { tid, ino, op } => Message::Req {
+                tid: *tid,
+                ino: *ino,
+                op: op.copy(alloc)?,
             },
             Message::CapAck { file, seq, bits } => Message::CapAck {
                 file: *file,
@@ -129,7 +165,11 @@ impl Message {
     {
         match self {
             Message::Cap { bits, max, .. } => bits.fits() && *max <= 1_048_576,
-            Message::Safe { .. } | Message::FlushAck { .. } => true,
+            Message::Unsafe { answer, ttl, .. } => lease_fits(*answer, *ttl),
+            Message::Safe { .. }
+            | Message::FlushAck { .. }
+            | Message::Unlease { .. }
+            | Message::Req { .. } => true,
             Message::Snap { number, realms, .. } => number.get() >= 1 && realms_fit(realms),
             Message::CapAck { bits, .. } => bits.fits(),
             Message::Flush { meta, .. } | Message::FlushSnap { meta, .. } => meta_fits(meta),
@@ -188,4 +228,11 @@ fn descends(snaps: &[Snap]) -> bool
         [last] => last.get() >= 1,
         [first, rest @ ..] => rest[0] < *first && descends(rest),
     }
+}
+
+// Whether an answer may come with a lease of so many seconds.
+fn lease_fits(answer: OpAnswer, ttl: u32) -> bool
+    ensures { result ≡ lease_fits answer ttl }
+{
+    ttl == 0 || ttl == 60 && matches!(answer, OpAnswer::Made(_) | OpAnswer::Found(_))
 }

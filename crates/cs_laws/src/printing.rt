@@ -1,10 +1,10 @@
 // The texts of events and answers.
-ghost use Rattle.std.specs.Prelude.{Some};
+ghost use Rattle.std.specs.Prelude.{◌++◌, Some, codes, decimal};
 ghost use Rattle.std.specs.Fmt.{DisplaysOnOk};
-ghost use Rattle.cs_laws.specs.Texts.{event_text, answer_text, at_text, mode_text, shown_text, why_text, name_text, kind_text};
+ghost use Rattle.cs_laws.specs.Texts.{event_text, answer_text, at_text, item_text, items_text, mode_text, op_text, reply_text, shown_text, why_text, name_text, kind_text};
 
-use crate::{Answer, At, Event, Kind, RefName, Why};
-use cs_ids::Name;
+use crate::{Answer, At, Event, Kind, NameItem, OpAnswer, RefName, ReqOp, Why};
+use cs_ids::{Ino, Name};
 use cs_text::HexText;
 use std::{fmt, str};
 
@@ -95,6 +95,88 @@ fn write_shown<W: fmt::Write>(bytes: &[u8], f: &mut fmt::Formatter<W>) -> fmt::R
     }
 }
 
+// Two words behind a word that says what is asked for.
+fn write_entry<W: fmt::Write>(dir: Ino, name: &Name, f: &mut fmt::Formatter<W>) -> fmt::Result
+    ensures { DisplaysOnOk W.write_str_gives f.old result (Some (decimal dir ++ codes " " ++ name.now)) f.new }
+{
+    write!(f, "{} ", dir.get())?;
+    write_name(name, f)
+}
+
+impl fmt::Display for ReqOp {
+    ghost output = { λ x. Some (op_text x) };
+
+    fn fmt<W: fmt::Write>(&self, f: &mut fmt::Formatter<W>) -> fmt::Result {
+        match self {
+            ReqOp::Mkdir { dir, name } => {
+                write!(f, "mkdir ")?;
+                write_entry(*dir, name, f)
+            }
+            ReqOp::Create { dir, name } => {
+                write!(f, "create ")?;
+                write_entry(*dir, name, f)
+            }
+            ReqOp::Unlink { dir, name } => {
+                write!(f, "unlink ")?;
+                write_entry(*dir, name, f)
+            }
+            ReqOp::Rename {
+                dir,
+                name,
+                new_name,
+            } => {
+                write!(f, "rename ")?;
+                write_entry(*dir, name, f)?;
+                write!(f, " ")?;
+                write_name(new_name, f)
+            }
+            ReqOp::Lookup { dir, name } => {
+                write!(f, "lookup ")?;
+                write_entry(*dir, name, f)
+            }
+        }
+    }
+}
+
+impl fmt::Display for OpAnswer {
+    ghost output = { λ x. Some (reply_text x) };
+
+    fn fmt<W: fmt::Write>(&self, f: &mut fmt::Formatter<W>) -> fmt::Result {
+        match self {
+            OpAnswer::Made(ino) => write!(f, "made {}", ino.get()),
+            OpAnswer::Found(ino) => write!(f, "found {}", ino.get()),
+            OpAnswer::Gone => write!(f, "gone"),
+            OpAnswer::Moved => write!(f, "moved"),
+            OpAnswer::Exists => write!(f, "exists"),
+            OpAnswer::Missing => write!(f, "missing"),
+            OpAnswer::NotEmpty => write!(f, "notempty"),
+            OpAnswer::NotDir => write!(f, "notdir"),
+        }
+    }
+}
+
+impl fmt::Display for NameItem {
+    ghost output = { λ x. Some (item_text x) };
+
+    fn fmt<W: fmt::Write>(&self, f: &mut fmt::Formatter<W>) -> fmt::Result {
+        write_name(&self.name, f)?;
+        write!(f, "={}", self.ino.get())
+    }
+}
+
+fn write_items<W: fmt::Write>(items: &[NameItem], f: &mut fmt::Formatter<W>) -> fmt::Result
+    ensures { DisplaysOnOk W.write_str_gives f.old result (Some (items_text items.now)) f.new }
+{
+    match items {
+        [] => write!(f, "-"),
+        [item] => write!(f, "{item}"),
+        [item, rest @ ..] => {
+            write!(f, "{item} ")?;
+            write_items(rest, f)
+        }
+    }
+}
+
 impl fmt::Display for Event {
     ghost output = { λ x. Some (event_text x) };
 
@@ -132,19 +214,29 @@ impl fmt::Display for Event {
             Event::Check { file } => write!(f, "check {}", file.get()),
             Event::Flush { file } => write!(f, "flush {}", file.get()),
             Event::FlushSnaps { file } => write!(f, "flushsnaps {}", file.get()),
+            Event::Lookup { caller, dir, name } => {
+                write!(f, "lookup {} ", caller.get())?;
+                write_entry(*dir, name, f)
+            }
+            Event::Req { caller, op } => write!(f, "req {} {op}", caller.get()),
             Event::ToClient => write!(f, "toclient"),
             Event::ToMds => write!(f, "tomds"),
             Event::Grant { file, bits, max } => write!(f, "grant {} {bits} {max}", file.get()),
             Event::Revoke { file, bits } => write!(f, "revoke {} {bits}", file.get()),
             Event::Snap { dir, name } => {
-                write!(f, "snap {} ", dir.get())?;
-                write_name(name, f)
+                write!(f, "snap ")?;
+                write_entry(*dir, name, f)
             }
             Event::RmSnap { snap } => write!(f, "rmsnap {}", snap.get()),
+            Event::Unlease { dir, name } => {
+                write!(f, "unlease ")?;
+                write_entry(*dir, name, f)
+            }
             Event::Commit => write!(f, "commit"),
             Event::Show { file, at, off, len } => {
                 write!(f, "show {} {at} {off} {len}", file.get())
             }
+            Event::Names { dir } => write!(f, "names {}", dir.get()),
         }
     }
 }
@@ -183,6 +275,10 @@ impl fmt::Display for Answer {
             Answer::FlushSnap { tid, follows } => {
                 write!(f, "flushsnap {} {}", tid.get(), follows.get())
             }
+            Answer::Absent => write!(f, "absent"),
+            Answer::Expired { until } => write!(f, "expired {until}"),
+            Answer::Hit { ino } => write!(f, "hit {}", ino.get()),
+            Answer::Sent { tid } => write!(f, "sent {}", tid.get()),
             Answer::Cap {
                 file,
                 seq,
@@ -195,12 +291,21 @@ impl fmt::Display for Answer {
                 realm,
                 made,
             } => { write!(f, "snap {} {} {made}", number.get(), realm.get()) }
+            Answer::Unsafe { tid, answer } => write!(f, "unsafe {} {answer}", tid.get()),
+            Answer::Safe { tid } => write!(f, "safe {}", tid.get()),
+            Answer::Unlease { dir, name } => {
+                write!(f, "unlease ")?;
+                write_entry(*dir, name, f)
+            }
+            Answer::Req { tid, answer } => write!(f, "req {} {answer}", tid.get()),
+            Answer::ReqDup { tid, answer } => write!(f, "reqdup {} {answer}", tid.get()),
             Answer::CapAck { file, seq, held } => {
                 write!(f, "capack {} {} held {held}", file.get(), seq.get())
             }
             Answer::Flushed { file, tid } => write!(f, "flushed {} {}", file.get(), tid.get()),
             Answer::FlushDup { file, tid } => write!(f, "flushdup {} {}", file.get(), tid.get()),
             Answer::SentCap { seq, held } => write!(f, "sent {} held {held}", seq.get()),
+            Answer::SentUnlease => write!(f, "sent"),
             Answer::Snap { number } => write!(f, "snap {}", number.get()),
             Answer::Removed { snap, number } => {
                 write!(f, "removed {} {}", snap.get(), number.get())
@@ -214,6 +319,10 @@ impl fmt::Display for Answer {
                 write_mode(meta.mode, f)?;
                 write!(f, " bytes ")?;
                 write_shown(bytes.as_slice(), f)
+            }
+            Answer::Names(names) => {
+                write!(f, "names ")?;
+                write_items(names.as_slice(), f)
             }
         }
     }

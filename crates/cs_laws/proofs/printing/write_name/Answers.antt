@@ -1,5 +1,5 @@
 use Rattle.std.proofs.lemmas.Str.{IsUtf8-from_ascii}
-use Rattle.cs_laws.proofs.Names.{name_ascii}
+use Rattle.cs_laws.proofs.Ascii.{name_ascii}
 use Rattle.cs_laws.proofs.printing.write_name.Goals as goal
 
 pub unreachable-requires : goal.unreachable-requires
