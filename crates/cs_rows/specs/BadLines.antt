@@ -119,13 +119,45 @@ capabilities_and_flushes =
 abbrev pub first_words : List Row
 first_words =
     (codes " check 100", kinds.Word) ∷
-    (codes "names", kinds.NotBuilt) ∷
-    (codes "lookup 1 1 x", kinds.NotBuilt) ∷
-    (codes "lookup ", kinds.NotBuilt) ∷
+    (codes "reconnect", kinds.NotBuilt) ∷
+    (codes "writeback 100", kinds.NotBuilt) ∷
+    (codes "failover ", kinds.NotBuilt) ∷
     (codes "osdlose 0 x", kinds.NotBuilt) ∷
     (codes "upgrade", kinds.Word) ∷
     (codes "toserver", kinds.Word) ∷
     (codes "Clock 1", kinds.Word) ∷
+    []
+
+abbrev pub requests_and_leases : List Row
+requests_and_leases =
+    (codes "names", kinds.Word) ∷
+    (codes "names ", kinds.Number) ∷
+    (codes "names 0", kinds.Range) ∷
+    (codes "names 1 x", kinds.Extra) ∷
+    (codes "lookup ", kinds.Number) ∷
+    (codes "lookup 33 1 x", kinds.Range) ∷
+    (codes "lookup 1 0 x", kinds.Range) ∷
+    (codes "lookup 1 1", kinds.Word) ∷
+    (codes "lookup 1 1 X", kinds.Word) ∷
+    (codes "lookup 1 1 x y", kinds.Extra) ∷
+    (codes "unlease 1", kinds.Word) ∷
+    (codes "unlease 100000 x", kinds.Range) ∷
+    (codes "unlease 1 .x", kinds.Word) ∷
+    (codes "unlease 1 x ", kinds.Extra) ∷
+    (codes "req", kinds.Word) ∷
+    (codes "req 33 make 1 x", kinds.Range) ∷
+    (codes "req 1", kinds.Word) ∷
+    (codes "req 1 ", kinds.Word) ∷
+    (codes "req 1 make 1 x", kinds.Word) ∷
+    (codes "req 1 mkdir", kinds.Word) ∷
+    (codes "req 1 mkdir x x", kinds.Number) ∷
+    (codes "req 1 create 0 x", kinds.Range) ∷
+    (codes "req 1 create 1 _x", kinds.Word) ∷
+    (codes "req 1 unlink 1 x y", kinds.Extra) ∷
+    (codes "req 1 rename 1 x", kinds.Word) ∷
+    (codes "req 1 rename 1 x Y", kinds.Word) ∷
+    (codes "req 1 rename 1 x y z", kinds.Extra) ∷
+    (codes "req 1 lookup 1 abcdefghijklmnopqrstuvwxyz0123456", kinds.Word) ∷
     []
 
 abbrev pub snapshots : List Row

@@ -5,6 +5,7 @@ use Rattle.cs_laws.specs.declared.events.Event.TheVariants as events
 use Rattle.cs_laws.specs.declared.events.RefName.TheVariants as names
 use Rattle.cs_laws.specs.declared.faults.ScriptFault.{ScriptFault}
 use Rattle.cs_laws.specs.declared.objects.At.TheVariants as at
+use Rattle.cs_laws.specs.declared.requests.ReqOp.TheVariants as ops
 use Rattle.cs_laws.specs.Grammar.{script_of}
 use Rattle.cs_laws.specs.Texts.{event_text}
 
@@ -48,6 +49,13 @@ rows =
     (codes "check 99999", events.Check 99999) ∷
     (codes "flush 1", events.Flush 1) ∷
     (codes "flushsnaps 99999", events.FlushSnaps 99999) ∷
+    (codes "lookup 0 99999 x", events.Lookup 0 99999 (codes "x")) ∷
+    (codes "lookup 32 1 9", events.Lookup 32 1 (codes "9")) ∷
+    (codes "req 0 mkdir 1 a-dir", events.Req 0 (ops.Mkdir 1 (codes "a-dir"))) ∷
+    (codes "req 32 create 99999 a", events.Req 32 (ops.Create 99999 (codes "a"))) ∷
+    (codes "req 1 unlink 1 a", events.Req 1 (ops.Unlink 1 (codes "a"))) ∷
+    (codes "req 1 rename 10000 a a", events.Req 1 (ops.Rename 10000 (codes "a") (codes "a"))) ∷
+    (codes "req 1 lookup 1 a", events.Req 1 (ops.Lookup 1 (codes "a"))) ∷
     (codes "toclient", events.ToClient) ∷
     (codes "tomds", events.ToMds) ∷
     (codes "grant 1 Frw 0", events.Grant 1 (record { 0 = 6144 }) 0) ∷
@@ -55,9 +63,12 @@ rows =
     (codes "snap 99999 0-to_9.of-32-bytes-abcdefghijklm", events.Snap 99999 (codes "0-to_9.of-32-bytes-abcdefghijklm")) ∷
     (codes "rmsnap 1", events.RmSnap 1) ∷
     (codes "rmsnap 99999", events.RmSnap 99999) ∷
+    (codes "unlease 1 0-to_9.of-32-bytes-abcdefghijklm", events.Unlease 1 (codes "0-to_9.of-32-bytes-abcdefghijklm")) ∷
     (codes "commit", events.Commit) ∷
     (codes "show 1 head 0 1", events.Show 1 at.Head 0 1) ∷
     (codes "show 99999 99999 1048575 4096", events.Show 99999 (at.Snap 99999) 1048575 4096) ∷
+    (codes "names 1", events.Names 1) ∷
+    (codes "names 99999", events.Names 99999) ∷
     []
 
 -- the most bytes that one write has

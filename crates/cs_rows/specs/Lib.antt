@@ -1,6 +1,7 @@
 pub mod AfterASnapshot
 pub mod BadLines
 pub mod CleanFile
+pub mod CreateAndLookup
 pub mod Delivered
 pub mod EmptyScript
 pub mod Faults
@@ -10,7 +11,9 @@ pub mod HeadFlush
 pub mod HoldThenAck
 pub mod LastByte
 pub mod LaterWrites
+pub mod Leases
 pub mod OneCapSnap
+pub mod RealmBehindASnapshot
 pub mod RealmBetween
 pub mod Realms
 pub mod RefusedEvents

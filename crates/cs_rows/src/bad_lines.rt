@@ -28,6 +28,11 @@ pub fn first_words()
     ensures { AreRefused lines.first_words }
 {}
 
+/// Requests, look-ups and leases, and the names in a directory.
+pub fn requests_and_leases()
+    ensures { AreRefused lines.requests_and_leases }
+{}
+
 /// Snapshots, and what is shown.
 pub fn snapshots()
     ensures { AreRefused lines.snapshots }

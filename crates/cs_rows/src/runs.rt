@@ -8,6 +8,7 @@ ghost use Rattle.cs_laws.specs.Journal.{journal, text};
 ghost use Rattle.cs_laws.specs.Operations.{applied};
 ghost use Rattle.cs_rows.specs.AfterASnapshot as after;
 ghost use Rattle.cs_rows.specs.CleanFile as clean;
+ghost use Rattle.cs_rows.specs.CreateAndLookup as made;
 ghost use Rattle.cs_rows.specs.Delivered as delivered;
 ghost use Rattle.cs_rows.specs.EmptyScript as empty;
 ghost use Rattle.cs_rows.specs.FullTable as full;
@@ -15,7 +16,9 @@ ghost use Rattle.cs_rows.specs.HeadFlush as head;
 ghost use Rattle.cs_rows.specs.HoldThenAck as held;
 ghost use Rattle.cs_rows.specs.LastByte as last;
 ghost use Rattle.cs_rows.specs.LaterWrites as later;
+ghost use Rattle.cs_rows.specs.Leases as leased;
 ghost use Rattle.cs_rows.specs.OneCapSnap as shared;
+ghost use Rattle.cs_rows.specs.RealmBehindASnapshot as behind_one;
 ghost use Rattle.cs_rows.specs.RealmBetween as between;
 ghost use Rattle.cs_rows.specs.Realms as trees;
 ghost use Rattle.cs_rows.specs.RefusedEvents as refused;
@@ -135,4 +138,24 @@ pub fn realm_between()
     ensures read { script_of between.input ≡ Ok between.events_read }
     ensures written { text (journal 256 between.events_read) ≡ between.written }
     ensures covered { context (journal 256 between.events_read) 100 ≡ between.at_end }
+{}
+
+/// A request makes a file. Its answer, which isn't durable yet, gives the client a lease on the name.
+pub fn create_and_lookup()
+    ensures read { script_of made.input ≡ Ok made.events_read }
+    ensures written { text (journal 256 made.events_read) ≡ made.written }
+{}
+
+/// A lease expires, and its name is looked up by a request, which ends it and whose answer gives another
+/// one. The server ends that.
+pub fn leases()
+    ensures read { script_of leased.input ≡ Ok leased.events_read }
+    ensures written { text (journal 256 leased.events_read) ≡ leased.written }
+{}
+
+/// A directory is made behind a snapshot of the root, which covers the file in it as long as the directory
+/// is no realm. Once a snapshot makes it one, it was made too late for the first.
+pub fn realm_behind_a_snapshot()
+    ensures read { script_of behind_one.input ≡ Ok behind_one.events_read }
+    ensures written { text (journal 256 behind_one.events_read) ≡ behind_one.written }
 {}
