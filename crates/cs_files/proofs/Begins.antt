@@ -14,7 +14,8 @@ use Rattle.cs_laws.specs.declared.answers.Why.TheVariants as why
 use Rattle.cs_laws.specs.declared.answers.Entry.{Entry}
 use Rattle.cs_laws.specs.Answers.{answer_begin, may_write}
 use Rattle.cs_laws.specs.CapSnaps.{is_writing}
-use Rattle.cs_laws.specs.Events.{begun, client_knows}
+use Rattle.cs_laws.specs.ClientKnows.{client_knows}
+use Rattle.cs_laws.specs.Events.{begun}
 use Rattle.cs_laws.specs.History.{client, context, live, queued}
 use Rattle.cs_laws.specs.Runs.{IsRun}
 use Rattle.cs_theorems.proofs.QueueAnswers.{queue_writing}

@@ -13,11 +13,11 @@ use Rattle.cs_laws.specs.declared.answers.Entry.{Entry}
 use Rattle.cs_laws.specs.Answers.{answer_made, is_in_use}
 use Rattle.cs_laws.specs.CapSnaps.{has_writer}
 use Rattle.cs_laws.specs.Context.{path_context}
-use Rattle.cs_laws.specs.Events.{client_knows, server_knows}
+use Rattle.cs_laws.specs.ClientKnows.{client_knows, client_file_path, client_home, client_path}
+use Rattle.cs_laws.specs.ServerKnows.{server_knows, server_dir}
 use Rattle.cs_laws.specs.History.{context, live, realms}
 use Rattle.cs_laws.specs.References.{named}
 use Rattle.cs_laws.specs.Runs.{IsRun}
-use Rattle.cs_laws.specs.Tree.{client_file_path, client_home, client_path, server_dir}
 use Rattle.cs_theorems.proofs.Course.{course_run}
 use Rattle.cs_theorems.proofs.Known.{live_known}
 use Rattle.cs_theorems.proofs.Paths.{dir_path}

@@ -6,7 +6,7 @@ use Rattle.cs_inode.specs.Inodes.{has_any}
 use Rattle.cs_laws.specs.declared.answers.Entry.{Entry}
 use Rattle.cs_laws.specs.declared.objects.At.{At}
 use Rattle.cs_laws.specs.declared.objects.At.TheVariants as at
-use Rattle.cs_laws.specs.Events.{client_knows}
+use Rattle.cs_laws.specs.ClientKnows.{client_knows}
 use Rattle.cs_laws.specs.History.{live}
 use Rattle.cs_laws.specs.Owed.{owed}
 use Rattle.cs_laws.specs.Runs.{IsRun}

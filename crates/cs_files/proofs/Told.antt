@@ -18,8 +18,7 @@ use Rattle.cs_laws.specs.declared.answers.Entry.{Entry}
 use Rattle.cs_laws.specs.Answers.{answer_to_client, count_made}
 use Rattle.cs_laws.specs.CapSnaps.{has_writer, makes}
 use Rattle.cs_laws.specs.Context.{differs, path_context, with_first}
-use Rattle.cs_laws.specs.Events.{client_files, client_knows}
-use Rattle.cs_laws.specs.Tree.{client_file_path}
+use Rattle.cs_laws.specs.ClientKnows.{client_files, client_knows, client_file_path}
 use Rattle.cs_laws.specs.Flushes.{written_meta}
 use Rattle.cs_laws.specs.History.{context, dirty, live, mode, queued, realms, to_client, writes}
 use Rattle.cs_laws.specs.Runs.{IsRun}

@@ -26,14 +26,14 @@ use Rattle.cs_laws.specs.Answers.{answer_begin, answer_check, answer_chmod, answ
 use Rattle.cs_laws.specs.Answers.{answer_read, bytes_from, count_made, may_change_mode, may_read, may_write}
 use Rattle.cs_laws.specs.CapSnaps.{is_writing, makes}
 use Rattle.cs_laws.specs.Context.{differs, path_context}
-use Rattle.cs_laws.specs.Events.{begun, client_files, client_knows, clock}
+use Rattle.cs_laws.specs.ClientKnows.{client_files, client_knows, client_file_path, client_path}
+use Rattle.cs_laws.specs.Events.{begun, clock}
 use Rattle.cs_laws.specs.Fits.{greatest_end}
 use Rattle.cs_laws.specs.History.{context, dirty, live, present, queued, realms, sent, snap as snap_flush, to_client}
 use Rattle.cs_laws.specs.Objects.{object_byte}
 use Rattle.cs_laws.specs.Operations.{applied, brought, operations_drawn}
 use Rattle.cs_laws.specs.Owed as history
 use Rattle.cs_laws.specs.References.{named}
-use Rattle.cs_laws.specs.Tree.{client_file_path, client_path}
 use Rattle.cs_theorems.specs.Unacked.{sent_of}
 use Rattle.cs_files.specs.Rows.{inode}
 use Rattle.cs_files.specs.Steps.{inode_then}

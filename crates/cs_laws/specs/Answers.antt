@@ -29,8 +29,8 @@ use Rattle.cs_laws.specs.CapSnaps.{CapSnap, is_open, is_writing, makes}
 use Rattle.cs_laws.specs.Context.{path_context}
 use Rattle.cs_laws.specs.Realms.{realm_records}
 use Rattle.cs_laws.specs.ClientKnows.{client_file_path, client_files, client_knows}
-use Rattle.cs_laws.specs.ServerKnows.{server_dir, server_dirs, server_file_path, server_knows, server_path}
-use Rattle.cs_laws.specs.Events.{begun, clock}
+use Rattle.cs_laws.specs.ServerKnows.{server_dirs, server_file_path, server_knows, server_path}
+use Rattle.cs_laws.specs.Events.{begun, clock, setup_file}
 use Rattle.cs_laws.specs.History.{client, server, to_client, to_server, realms, context, live, writes, dirty, queued, fresh, stand, sent, used}
 use Rattle.cs_laws.specs.References.{can_end, named}
 use Rattle.cs_laws.specs.Image.{Write, image, size}
@@ -41,15 +41,16 @@ use Rattle.cs_laws.specs.Namespace.{Names, answer_on, has_dir}
 use Rattle.cs_laws.specs.Owed.{owed}
 use Rattle.cs_laws.specs.Requests.{requests}
 use Rattle.cs_laws.specs.Shown.{writes_at}
+use Rattle.cs_laws.specs.Tree.{is_directory}
 use Rattle.cs_laws.specs.Standing.{answer_kept, greatest_number, greatest_request, greatest_tid, has_snap, has_snap_named, is_removed}
 
--- a directory or a file has the inode
+-- A directory or a file has the inode. Setup lines come first, so that no request made one yet.
 abbrev pub is_in_use : List Entry → ℕ → Bool
-is_in_use h i = server_dir h i || server_knows h i
+is_in_use h i = is_directory h i || setup_file h i
 
 -- the answer to a line that makes a directory or a file, i, in another
 abbrev pub answer_made : List Entry → ℕ → ℕ → Answer
-answer_made h i p = if is_in_use h i then answers.Exists else if server_dir h p then answers.Made else answers.NoDir
+answer_made h i p = if is_in_use h i then answers.Exists else if is_directory h p then answers.Made else answers.NoDir
 
 abbrev pub answer_clock : List Entry → ℕ → Answer
 answer_clock h t = if nat_lt t (clock h) then answers.Back else answers.Now t

@@ -50,7 +50,7 @@ with_files (m ∷ ms) fs = with_files ms (if m.is_dir then fs else m.ino ∷ fs)
 
 -- up: the path of each directory before it was made
 abbrev pub with_made : Made → (ℕ → List ℕ) → ℕ → List ℕ
-with_made m up d = if is_made_dir d m then d ∷ up m.dir else up d
+with_made m up d = if is_made_dir d m then m.ino ∷ up m.dir else up d
 
 abbrev pub path_with : List Made → (ℕ → List ℕ) → ℕ → List ℕ
 path_with [] up = up

@@ -6,7 +6,8 @@ use Rattle.std.proofs.lemmas.List.{length-append, length-drop, take-append-drop,
 use Rattle.std.proofs.Math.Seq.{drop-cons, take-suc}
 use Rattle.cs_laws.specs.declared.records.Record.{Record}
 use Rattle.cs_laws.specs.declared.records.RecordBody.TheVariants as bodies
-use Rattle.cs_laws.specs.Standing.{dir_in, dir_of, greatest_number, greatest_tid, is_removal, is_removed, number_of}
+use Rattle.cs_laws.specs.Standing.{dir_in, dir_of, greatest_number, greatest_tid, is_removal, is_removed}
+use Rattle.cs_laws.specs.Realms.{number_of}
 use Rattle.cs_laws.specs.declared.messages.Message.{Message}
 use Rattle.cs_tree.specs.declared.directories.Directory.{Directory}
 use Rattle.cs_tree.specs.Directories.{AreDistinct, inos, path_of}

@@ -6,9 +6,9 @@ use Rattle.std.proofs.lemmas.List.Folds.{list_any-append}
 use Rattle.cs_laws.specs.declared.records.Record.{Record}
 use Rattle.cs_laws.specs.declared.records.RecordBody.{RecordBody}
 use Rattle.cs_laws.specs.declared.records.RecordBody.TheVariants as bodies
-use Rattle.cs_laws.specs.Realms.{Own, is_snap_of, own, own_after, own_then}
+use Rattle.cs_laws.specs.Realms.{Own, is_snap_of, own, own_after, own_then, number_of}
 use Rattle.cs_laws.specs.Realms as realms
-use Rattle.cs_laws.specs.Standing.{dir_in, dir_of, greatest_number, has_snap, is_removal, is_removed, is_snap, number_of}
+use Rattle.cs_laws.specs.Standing.{dir_in, dir_of, greatest_number, has_snap, is_removal, is_removed, is_snap}
 use Rattle.cs_records.specs.Log.{IsLog, IsLogAfter, IsNext}
 use Rattle.cs_records.specs.Names.{last_named, named_after, named_then}
 use Rattle.cs_records.specs.OwnTable.{no_own}

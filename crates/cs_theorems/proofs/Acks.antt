@@ -13,23 +13,26 @@ use Rattle.cs_laws.specs.declared.messages.Message.TheVariants as messages
 use Rattle.cs_laws.specs.declared.records.Record.{Record}
 use Rattle.cs_laws.specs.declared.records.RecordBody.{RecordBody}
 use Rattle.cs_laws.specs.declared.records.RecordBody.TheVariants as bodies
-use Rattle.cs_laws.specs.Flight.{acked_again, cap_message}
+use Rattle.cs_laws.specs.Flight.{acked_again, cap_message, answered_again, unsafe_message}
 use Rattle.cs_laws.specs.Flushes.{acked}
 use Rattle.cs_laws.specs.History.{durable, fresh, last_sent, server, to_client}
 use Rattle.cs_laws.specs.Journal.{entry}
 use Rattle.cs_laws.specs.Carried.{realms_of}
 use Rattle.cs_laws.specs.Standing.{news, news_of, news_on}
 use Rattle.cs_snapctx.specs.Records.{with_records}
-use Rattle.cs_laws.specs.Tree.{directories, path}
 use Rattle.cs_laws.specs.Realms.{differing, realm_records}
 use Rattle.cs_laws.specs.Laws.{tids}
 use Rattle.cs_laws.specs.Runs.{IsRun}
 use Rattle.cs_theorems.proofs.Listed.{Member, Each, each_nil, each_cons, each_append, each_end, each_tail, member_left, member_right}
-use Rattle.cs_theorems.proofs.News.{each_again}
+use Rattle.cs_theorems.proofs.News.{each_again, each_answered}
 use Rattle.cs_theorems.proofs.Rising.{at_first}
 use Rattle.cs_theorems.proofs.Standing.{flush_stands, tids_append}
 use Rattle.cs_theorems.proofs.Runs.{of_run}
-use Rattle.cs_theorems.proofs.Inversions.{FirstIs, first_idle, first_cap, first_flush_ack, first_snap, first_is, GrantIs, grant_unknown, grant_sent, grant_is, revoke_is, ReceivedIs, received_idle, received_ack, received_flush, received_again, received_is}
+use Rattle.cs_theorems.proofs.Inversions.{FirstIs, first_idle, first_cap, first_flush_ack, first_unsafe, first_safe, first_unlease, first_snap, first_is, GrantIs, grant_unknown, grant_sent, grant_is, revoke_is, ReceivedIs, received_idle, received_ack, received_flush, received_again, received_req, received_req_again, received_is, UnleaseIs, unlease_unknown, unlease_sent, unlease_is}
+use Rattle.cs_laws.specs.declared.requests.OpAnswer.{OpAnswer}
+use Rattle.cs_laws.specs.Names.{names}
+use Rattle.cs_laws.specs.Namespace.{answer_on}
+use Rattle.cs_laws.specs.ServerKnows.{server_dirs, server_path}
 
 -- an acknowledgement of a flush is of one among these records
 abbrev AckStands : List Record → Message → Type 0
@@ -104,6 +107,11 @@ acks_again f g tid ds q was i = record {
   told = i.told;
 }
 
+-- a request did
+acks_answered : (f tid : ℕ) (o : OpAnswer) (ds : List Record) (q : List Message) (was : ℕ → Bool) → Acks f ds q was → Acks f ds (q ++ answered_again tid o ds) was
+acks_answered f tid o ds q was i =
+    record { flying = each_append (λ m. AckStands ds m) q (answered_again tid o ds) i.flying (each_answered (λ m. AckStands ds m) tid o ds tt tt); told = i.told }
+
 -- Steps
 
 abbrev pub AllAcked : List Entry → Type 0
@@ -133,6 +141,18 @@ step_to_client h x (first_flush_ack g tid q is) i = λ f.
     let was : ℕ → Bool = λ n. acked h f n in
     at_first (λ p. Left h f was p) (λ p. Left h f (λ n. cond ((g == f) && (tid == n)) true (was n)) p) (messages.FlushAck g tid) q (to_client h) is
     (λ j. acks_told f g tid (durable h) q was j) (i f)
+step_to_client h x (first_unsafe tid r ttl q is) i = λ f.
+    let was : ℕ → Bool = λ n. acked h f n in
+    at_first (λ p. Left h f was p) (λ p. Left h f was p) (messages.Unsafe tid r ttl) q (to_client h) is
+    (λ j. acks_taken f (durable h) q was (messages.Unsafe tid r ttl) j) (i f)
+step_to_client h x (first_safe tid q is) i = λ f.
+    let was : ℕ → Bool = λ n. acked h f n in
+    at_first (λ p. Left h f was p) (λ p. Left h f was p) (messages.Safe tid) q (to_client h) is
+    (λ j. acks_taken f (durable h) q was (messages.Safe tid) j) (i f)
+step_to_client h x (first_unlease d name q is) i = λ f.
+    let was : ℕ → Bool = λ n. acked h f n in
+    at_first (λ p. Left h f was p) (λ p. Left h f was p) (messages.Unlease d name) q (to_client h) is
+    (λ j. acks_taken f (durable h) q was (messages.Unlease d name) j) (i f)
 step_to_client h x (first_snap number realm now q is) i = λ f.
     let was : ℕ → Bool = λ n. acked h f n in
     at_first (λ p. Left h f was p) (λ p. Left h f was p) (messages.Snap number realm now) q (to_client h) is
@@ -143,14 +163,21 @@ step_server h x received_idle i = i
 step_server h x (received_ack g seq bits q is) i = i
 step_server h x (received_flush y q is first) i = i
 step_server h x (received_again y q is again) i = λ f. acks_again f y.file y.tid (durable h) (to_client h) (λ n. acked h f n) (i f)
+step_server h x (received_req tid ino op q is first) i = λ f. acks_message f (durable h) (to_client h) (λ n. acked h f n) (unsafe_message tid (answer_on (names h) op)) tt (i f)
+step_server h x (received_req_again tid ino op q is again) i = λ f. acks_answered f tid _ (durable h) (to_client h) (λ n. acked h f n) (i f)
+
+step_unlease : (h : List Entry) (d : ℕ) (name : List ℕ) (x : Answer) → UnleaseIs h x → AllAcked h → AllAcked (record { event = e.Unlease d name; answer = x } ∷ h)
+step_unlease h d name x unlease_unknown i = i
+step_unlease h d name x unlease_sent i = λ f. acks_message f (durable h) (to_client h) (λ n. acked h f n) (messages.Unlease d name) tt (i f)
 
 pub acked_step : (p : ℕ) (h : List Entry) (x : Event) → AllAcked h → AllAcked (entry p h x ∷ h)
 acked_step p h (e.Grant g bits end) i = step_grant h g bits end _ (grant_is h g bits end) i
 acked_step p h (e.Revoke g bits) i = step_revoke h g bits _ (revoke_is h g bits) i
 acked_step p h e.ToClient i = step_to_client h _ (first_is h) i
 acked_step p h e.ToMds i = step_server h _ (received_is h) i
+acked_step p h (e.Unlease d name) i = step_unlease h d name _ (unlease_is h d) i
 acked_step p h e.Commit i =
-    λ f. acks_commit f (λ d. path h d) (directories h) (last_sent h) (durable h) (fresh h) (to_client h) (λ n. acked h f n) (i f)
+    λ f. acks_commit f (λ d. server_path h d) (server_dirs h) (last_sent h) (durable h) (fresh h) (to_client h) (λ n. acked h f n) (i f)
 acked_step p h _ i = i
 
 pub acked_first : AllAcked []

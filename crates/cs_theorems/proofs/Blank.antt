@@ -16,7 +16,7 @@ use Rattle.cs_laws.specs.Events.{setup_file, setup_file_then}
 use Rattle.cs_laws.specs.History.{context, dirty, live, queued, sent, writes}
 use Rattle.cs_laws.specs.Image.{Write}
 use Rattle.cs_laws.specs.Journal.{entry}
-use Rattle.cs_theorems.proofs.Inversions.{ChmodIs, chmod_unknown, chmod_no_bit, chmod_snap, chmod_done, chmod_is, FlushIs, head_unknown, head_snap, head_clean, head_sent, flush_is, FirstIs, first_idle, first_cap, first_flush_ack, first_snap, first_is, FlushSnapsIs, flush_unknown, flush_none, flush_writing, flush_sent, flush_snaps_is, WriteIs, write_unknown, write_no_bit, write_past, wrote, write_is}
+use Rattle.cs_theorems.proofs.Inversions.{ChmodIs, chmod_unknown, chmod_no_bit, chmod_snap, chmod_done, chmod_is, FlushIs, head_unknown, head_snap, head_clean, head_sent, flush_is, FirstIs, first_idle, first_cap, first_flush_ack, first_unsafe, first_safe, first_unlease, first_snap, first_is, FlushSnapsIs, flush_unknown, flush_none, flush_writing, flush_sent, flush_snaps_is, WriteIs, write_unknown, write_no_bit, write_past, wrote, write_is}
 use Rattle.cs_theorems.proofs.Known.{LiveAreKnown, known_then}
 use Rattle.cs_theorems.proofs.Modes.{Change, changes}
 use Rattle.cs_theorems.proofs.Listed.{Each, each_end, each_nil, each_tail}

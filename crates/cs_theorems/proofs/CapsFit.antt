@@ -1,5 +1,5 @@
 -- Only capabilities that exist are given, issued and on their way.
-use Rattle.std.proofs.Common.{◌≡◌, ℕ, ◌==◌, true, List, [], ◌∷◌, nat_le}
+use Rattle.std.proofs.Common.{◌≡◌, ℕ, ◌==◌, true, List, [], ◌∷◌, None, nat_le}
 use Rattle.std.proofs.lemmas.Bool.{and_parts, cond_both}
 use Rattle.cs_bits.specs.declared.Caps.{Caps}
 use Rattle.cs_bits.specs.Bits as sets
@@ -21,17 +21,17 @@ use Rattle.cs_laws.specs.declared.records.RecordBody.TheVariants as bodies
 use Rattle.cs_laws.specs.Answers.{answer}
 use Rattle.cs_laws.specs.Capabilities.{client_then, server_then}
 use Rattle.cs_laws.specs.Fits.{fits, greatest_end, is_built}
-use Rattle.cs_laws.specs.Flight.{acked_again, cap_message, to_client_then, to_server_then}
+use Rattle.cs_laws.specs.Flight.{acked_again, answered_again, cap_message, to_client_then, to_server_then, unsafe_message}
 use Rattle.cs_laws.specs.Flushes.{Flush, flush_message}
 use Rattle.cs_laws.specs.History.{client, durable, fresh, last_sent, present, server, snap, to_client, to_server}
 use Rattle.cs_laws.specs.Journal.{entry}
 use Rattle.cs_laws.specs.Runs.{IsRun}
 use Rattle.cs_laws.specs.Standing.{news, news_of}
-use Rattle.cs_laws.specs.Tree.{server_dirs, server_path}
+use Rattle.cs_laws.specs.ServerKnows.{server_dirs, server_path}
 use Rattle.cs_theorems.proofs.Held.{Within, minus_within, none_within, union_within}
-use Rattle.cs_theorems.proofs.Inversions.{CheckIs, check_unknown, check_nothing, check_hold, check_ack, check_is, FirstIs, first_idle, first_cap, first_flush_ack, first_snap, first_is}
+use Rattle.cs_theorems.proofs.Inversions.{CheckIs, check_unknown, check_nothing, check_hold, check_ack, check_is, FirstIs, first_idle, first_cap, first_flush_ack, first_unsafe, first_safe, first_unlease, first_snap, first_is}
 use Rattle.cs_theorems.proofs.Listed.{Each, each_append, each_drop, each_end, each_nil, member_first}
-use Rattle.cs_theorems.proofs.News.{each_again, each_news}
+use Rattle.cs_theorems.proofs.News.{each_again, each_answered, each_news}
 use Rattle.cs_theorems.proofs.Runs.{of_run}
 
 abbrev pub Exist : Caps → Type 0
@@ -86,6 +86,13 @@ told_then e.ToMds (a.FlushDup f tid) s ds new q fit given news i =
 told_then e.ToClient (a.Cap g seq bits end) s ds new q fit given news i = each_drop BitsExist q i
 told_then e.ToClient (a.FlushAck f tid) s ds new q fit given news i = each_drop BitsExist q i
 told_then e.ToClient (a.SnapTold number realm made) s ds new q fit given news i = each_drop BitsExist q i
+told_then e.ToClient (a.Unsafe tid o) s ds new q fit given news i = each_drop BitsExist q i
+told_then e.ToClient (a.Safe tid) s ds new q fit given news i = each_drop BitsExist q i
+told_then e.ToClient (a.Unlease d name) s ds new q fit given news i = each_drop BitsExist q i
+told_then e.ToMds (a.Req tid o) s ds new q fit given news i = each_end BitsExist q (unsafe_message tid o) i tt
+told_then e.ToMds (a.ReqDup tid o) s ds new q fit given news i =
+    each_append BitsExist q (answered_again tid o ds) i (each_answered BitsExist tid o ds tt tt)
+told_then (e.Unlease d name) a.SentUnlease s ds new q fit given news i = each_end BitsExist q (messages.Unlease d name) i tt
 told_then _ _ s ds new q fit given news i = i
 
 -- What the client is issued, and acknowledges
@@ -106,6 +113,9 @@ of_first : (h : List Entry) (x : Answer) → FirstIs h x → CapsFit h → Answe
 of_first h x first_idle i = tt
 of_first h x (first_cap g seq bits end q is) i = i.told (messages.Cap g seq bits end) (member_first (messages.Cap g seq bits end) q (to_client h) is)
 of_first h x (first_flush_ack f tid q is) i = tt
+of_first h x (first_unsafe tid r ttl q is) i = tt
+of_first h x (first_safe tid q is) i = tt
+of_first h x (first_unlease d name q is) i = tt
 of_first h x (first_snap number realm now q is) i = tt
 
 answer_exists : (p : ℕ) (h : List Entry) (x : Event) → CapsFit h → AnswerExists x (answer p h x)
@@ -131,6 +141,9 @@ received_then (e.FlushSnaps f) (a.FlushSnap tid follows) now old q new i =
 received_then e.ToMds (a.CapAck f seq held) now old q new i = each_drop BitsExist q i
 received_then e.ToMds (a.Flushed f tid) now old q new i = each_drop BitsExist q i
 received_then e.ToMds (a.FlushDup f tid) now old q new i = each_drop BitsExist q i
+received_then e.ToMds (a.Req tid o) now old q new i = each_drop BitsExist q i
+received_then e.ToMds (a.ReqDup tid o) now old q new i = each_drop BitsExist q i
+received_then (e.Req c op) (a.Sent tid) now old q new i = each_end BitsExist q (messages.Req tid None op) i tt
 received_then _ _ now old q new i = i
 
 -- After each event

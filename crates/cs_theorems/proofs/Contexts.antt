@@ -14,15 +14,15 @@ use Rattle.cs_laws.specs.declared.answers.Entry.{Entry}
 use Rattle.cs_laws.specs.declared.messages.Message.{Message}
 use Rattle.cs_laws.specs.declared.messages.Message.TheVariants as messages
 use Rattle.cs_laws.specs.Context.{path_context, realms_then, with_first}
-use Rattle.cs_laws.specs.Events.{client_knows, is_setup, setup_file}
+use Rattle.cs_laws.specs.ClientKnows.{client_knows, client_file_path}
+use Rattle.cs_laws.specs.Events.{is_setup, setup_file}
 use Rattle.cs_laws.specs.History.{context, realms, to_client}
 use Rattle.cs_laws.specs.Journal.{entry}
 use Rattle.cs_laws.specs.Owed.{had_reached}
 use Rattle.cs_laws.specs.Runs.{CanFollow, all_setup}
-use Rattle.cs_laws.specs.Tree.{client_file_path}
 use Rattle.cs_theorems.specs.Contexts.{ContextsNeverFall, HadContext, Rises}
 use Rattle.cs_theorems.proofs.Linked.{told_rises}
-use Rattle.cs_theorems.proofs.Inversions.{FirstIs, first_idle, first_cap, first_flush_ack, first_snap, first_is}
+use Rattle.cs_theorems.proofs.Inversions.{FirstIs, first_idle, first_cap, first_flush_ack, first_unsafe, first_safe, first_unlease, first_snap, first_is}
 use Rattle.cs_theorems.proofs.Known.{known_then}
 use Rattle.cs_theorems.proofs.Paths.{path_stays}
 use Rattle.cs_theorems.proofs.Settings.{Setting}

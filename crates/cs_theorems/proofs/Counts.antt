@@ -14,10 +14,13 @@ use Rattle.cs_laws.specs.Events.{files, files_then}
 use Rattle.cs_laws.specs.Flushes.{Flush, sent_then}
 use Rattle.cs_laws.specs.History.{present, sent, snap, stand, durable, fresh, to_server}
 use Rattle.cs_laws.specs.Journal.{entry}
-use Rattle.cs_laws.specs.Standing.{recorded, greatest_number, fresh_then}
+use Rattle.cs_laws.specs.Standing.{recorded, greatest_number, fresh_then, requested}
 use Rattle.cs_laws.specs.Runs.{IsRun}
-use Rattle.cs_theorems.proofs.Inversions.{ReceivedIs, received_idle, received_ack, received_flush, received_again, received_is, SnapIs, snap_unknown, snap_exists, snap_taken, snap_is, RemoveIs, remove_none, remove_gone, removed, remove_is}
+use Rattle.cs_theorems.proofs.Inversions.{ReceivedIs, received_idle, received_ack, received_flush, received_again, received_req, received_req_again, received_is, SnapIs, snap_unknown, snap_exists, snap_taken, snap_is, RemoveIs, remove_none, remove_gone, removed, remove_is}
 use Rattle.cs_theorems.proofs.Runs.{of_run}
+use Rattle.cs_laws.specs.declared.requests.OpAnswer.{OpAnswer}
+use Rattle.cs_laws.specs.Names.{names}
+use Rattle.cs_laws.specs.Namespace.{answer_on}
 
 one_more : {A : Type 0} (xs : List A) (x : A) (n : ℕ) → length xs ≤ n → length (xs ++ x ∷ []) ≤ n + 1
 one_more xs x n few = omega (arith, few, length-append xs (x ∷ []))
@@ -53,6 +56,12 @@ recorded_none (messages.Flush f tid follows meta ∷ q) = refl
 recorded_none (messages.FlushSnap f tid follows meta ∷ q) = refl
 recorded_none (_ ∷ q) = refl
 
+-- nor is a request
+requested_none : (o : OpAnswer) (q : List Message) → greatest_number (requested o q) ≡ 0
+requested_none o [] = refl
+requested_none o (messages.Req tid ino op ∷ q) = refl
+requested_none o (_ ∷ q) = refl
+
 greatest_behind : (ds fs more : List Record) → greatest_number (ds ++ (fs ++ more)) ≡ max (greatest_number (ds ++ fs)) (greatest_number more)
 greatest_behind ds fs more = ap greatest_number (sym (append_assoc ds fs more)) ∙ greatest_append (ds ++ fs) more
 
@@ -80,6 +89,9 @@ step_to_mds h x (received_ack g seq bits q is) i = omega (arith, i)
 step_to_mds h x (received_flush y q is first) i =
     omega (arith, i, greatest_behind (durable h) (fresh h) (recorded (to_server h)), recorded_none (to_server h))
 step_to_mds h x (received_again y q is again) i = omega (arith, i)
+step_to_mds h x (received_req tid ino op q is first) i =
+    omega (arith, i, greatest_behind (durable h) (fresh h) (requested (answer_on (names h) op) (to_server h)), requested_none (answer_on (names h) op) (to_server h))
+step_to_mds h x (received_req_again tid ino op q is again) i = omega (arith, i)
 
 step_commit : (h : List Entry) (x : Answer) → SnapsAreFew h → greatest_number ((durable h ++ fresh h) ++ []) ≤ length h + 1
 step_commit h x i = omega (arith, i, ap greatest_number (append-nil (durable h ++ fresh h)))
@@ -102,8 +114,14 @@ recorded_few (messages.Flush f tid follows meta ∷ q) = omega arith
 recorded_few (messages.FlushSnap f tid follows meta ∷ q) = omega arith
 recorded_few (_ ∷ q) = omega arith
 
+requested_few : (o : OpAnswer) (q : List Message) → length (requested o q) ≤ 1
+requested_few o [] = omega arith
+requested_few o (messages.Req tid ino op ∷ q) = omega arith
+requested_few o (_ ∷ q) = omega arith
+
 fresh_then_few : (x : Event) (y : Answer) (q : List Message) (rs : List Record) (n : ℕ) → length rs ≤ n → length (fresh_then x y q rs) ≤ n + 1
 fresh_then_few e.ToMds (a.Flushed f tid) q rs n few = omega (arith, few, recorded_few q, length-append rs (recorded q))
+fresh_then_few e.ToMds (a.Req tid o) q rs n few = omega (arith, few, requested_few o q, length-append rs (requested o q))
 fresh_then_few (e.Snap d name) (a.Snap number) q rs n few = let r : Record = record { body = bodies.Snap number d name } in omega (arith, few, length-append rs (r ∷ []))
 fresh_then_few (e.RmSnap t) (a.Removed s number) q rs n few = let r : Record = record { body = bodies.Removal t number } in omega (arith, few, length-append rs (r ∷ []))
 fresh_then_few e.Commit (a.Commit count) q rs n few = omega arith

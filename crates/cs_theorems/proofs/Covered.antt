@@ -15,7 +15,7 @@ use Rattle.cs_laws.specs.declared.answers.Entry.{Entry}
 use Rattle.cs_laws.specs.Answers.{may_write}
 use Rattle.cs_laws.specs.CapSnaps.{CapSnap, is_writing, makes, queued_mode, writers}
 use Rattle.cs_laws.specs.Context.{with_first, path_context}
-use Rattle.cs_laws.specs.Tree.{client_file_path}
+use Rattle.cs_laws.specs.ClientKnows.{client_file_path}
 use Rattle.cs_laws.specs.Events.{begun, clock, setup_file}
 use Rattle.cs_laws.specs.Flushes.{Flush, flush_snap, written_meta}
 use Rattle.cs_laws.specs.History.{context, dirty, live, mode, present, queued, realms, sent, snap, to_client, writes}
@@ -30,7 +30,7 @@ use Rattle.cs_theorems.proofs.Blank.{none_sent}
 use Rattle.cs_theorems.proofs.Contexts.{dir_stays, file_stays, told_moves}
 use Rattle.cs_theorems.proofs.Course.{Course}
 use Rattle.cs_theorems.proofs.Covers.{Between, Covers, IsCovered, Made, covers_begin, covers_blank, covers_change, covers_fewer, covers_head, covers_made, covers_other, covers_sent, covers_unmade, covers_write}
-use Rattle.cs_theorems.proofs.Inversions.{ChmodIs, chmod_unknown, chmod_no_bit, chmod_snap, chmod_done, chmod_is, FlushIs, head_unknown, head_snap, head_clean, head_sent, flush_is, BeginIs, begin_unknown, begin_caps, begin_snap, begin_max, begin_full, begun_ref, begin_is, EndIs, end_unknown, ended, end_is, WriteIs, write_unknown, write_no_bit, write_past, wrote, write_is, FlushSnapsIs, flush_unknown, flush_none, flush_writing, flush_sent, flush_snaps_is, FirstIs, first_idle, first_cap, first_flush_ack, first_snap, first_is}
+use Rattle.cs_theorems.proofs.Inversions.{ChmodIs, chmod_unknown, chmod_no_bit, chmod_snap, chmod_done, chmod_is, FlushIs, head_unknown, head_snap, head_clean, head_sent, flush_is, BeginIs, begin_unknown, begin_caps, begin_snap, begin_max, begin_full, begun_ref, begin_is, EndIs, end_unknown, ended, end_is, WriteIs, write_unknown, write_no_bit, write_past, wrote, write_is, FlushSnapsIs, flush_unknown, flush_none, flush_writing, flush_sent, flush_snaps_is, FirstIs, first_idle, first_cap, first_flush_ack, first_unsafe, first_safe, first_unlease, first_snap, first_is}
 use Rattle.cs_theorems.proofs.Listed.{Each, Member, each_nil}
 use Rattle.cs_theorems.proofs.Modes.{Change, changes, last_mode, mode_is, with_change}
 use Rattle.cs_theorems.proofs.Numbered.{Numbered, upto_numbered}

@@ -14,10 +14,11 @@ use Rattle.cs_laws.specs.declared.records.RecordBody.TheVariants as bodies
 use Rattle.cs_laws.specs.declared.objects.At.TheVariants as at
 use Rattle.cs_laws.specs.Answers.{covers_file, standing_context}
 use Rattle.cs_laws.specs.History.{durable, fresh, stand}
-use Rattle.cs_laws.specs.Realms.{Own, has_snap, is_realm, own, own_after, own_then, realm_record, realm_records}
-use Rattle.cs_laws.specs.Standing.{dir_in, dir_of, is_removal, is_removed, is_snap, number_of}
+use Rattle.cs_laws.specs.Realms.{Own, has_snap, is_realm, own, own_after, own_then, realm_record, realm_records, number_of}
+use Rattle.cs_laws.specs.Standing.{dir_in, dir_of, is_removal, is_removed, is_snap}
 use Rattle.cs_laws.specs.Standing.{has_snap as snap_stands}
-use Rattle.cs_laws.specs.Tree.{directories, client_file_path, home, is_directory, path}
+use Rattle.cs_laws.specs.ClientKnows.{client_file_path}
+use Rattle.cs_laws.specs.Tree.{directories, home, is_directory, path}
 use Rattle.cs_laws.specs.Runs.{IsRun}
 use Rattle.cs_theorems.proofs.Course.{course_run}
 use Rattle.cs_theorems.proofs.Drawn.{AllDraw, Draws}

@@ -11,8 +11,11 @@ use Rattle.cs_laws.specs.declared.records.RecordBody.{RecordBody}
 use Rattle.cs_laws.specs.declared.records.RecordBody.TheVariants as bodies
 use Rattle.cs_laws.specs.History.{durable, fresh, stand}
 use Rattle.cs_laws.specs.Journal.{entry}
-use Rattle.cs_laws.specs.Standing.{greatest_number, has_snap, is_snap, number_of, recorded}
-use Rattle.cs_theorems.proofs.Inversions.{ReceivedIs, received_idle, received_ack, received_flush, received_again, received_is, SnapIs, snap_unknown, snap_exists, snap_taken, snap_is, RemoveIs, remove_none, remove_gone, removed, remove_is}
+use Rattle.cs_laws.specs.Names.{names}
+use Rattle.cs_laws.specs.Namespace.{answer_on}
+use Rattle.cs_laws.specs.Standing.{greatest_number, has_snap, is_snap, recorded, requested}
+use Rattle.cs_laws.specs.Realms.{number_of}
+use Rattle.cs_theorems.proofs.Inversions.{ReceivedIs, received_idle, received_ack, received_flush, received_again, received_req, received_req_again, received_is, SnapIs, snap_unknown, snap_exists, snap_taken, snap_is, RemoveIs, remove_none, remove_gone, removed, remove_is}
 use Rattle.cs_laws.specs.Flushes.{flush_record}
 use Rattle.cs_theorems.proofs.Standing.{recorded_one}
 
@@ -75,6 +78,10 @@ step_server h x (received_flush y q there first) i =
     subst (λ p. AllDraw 0 (durable h ++ (fresh h ++ recorded p))) (sym there)
     (subst (λ rs. AllDraw 0 (durable h ++ (fresh h ++ rs))) (sym (recorded_one y)) (more h (flush_record y) tt i))
 step_server h x (received_again y q there again) i = i
+step_server h x (received_req tid ino op q there first) i =
+    subst (λ p. AllDraw 0 (durable h ++ (fresh h ++ requested (answer_on (names h) op) p))) (sym there)
+    (more h (record { body = bodies.Request tid op (answer_on (names h) op) }) tt i)
+step_server h x (received_req_again tid ino op q there again) i = i
 
 step_snap : (h : List Entry) (d : ℕ) (name : List ℕ) (x : Answer) → SnapIs h d name x → DrawnAt h → DrawnAt (record { event = e.Snap d name; answer = x } ∷ h)
 step_snap h d name x snap_unknown i = i

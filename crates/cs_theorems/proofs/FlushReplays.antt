@@ -17,11 +17,14 @@ use Rattle.cs_laws.specs.History.{durable, fresh, present, sent, snap, stand, to
 use Rattle.cs_laws.specs.Journal.{entry}
 use Rattle.cs_laws.specs.Laws.{FlushesRise}
 use Rattle.cs_laws.specs.Runs.{IsRun}
-use Rattle.cs_laws.specs.Standing.{greatest_tid, recorded}
+use Rattle.cs_laws.specs.declared.records.RecordBody.TheVariants as bodies
+use Rattle.cs_laws.specs.Names.{names}
+use Rattle.cs_laws.specs.Namespace.{answer_on}
+use Rattle.cs_laws.specs.Standing.{greatest_tid, recorded, requested}
 use Rattle.cs_theorems.specs.Flushes.{FlushesAreNumbered, FlushesReplay, IsMessageSent, IsRecordSent, flushes_in, flushes_on, is_whole}
 use Rattle.cs_theorems.specs.Replays.{last_tid, Replay}
 use Rattle.cs_theorems.proofs.Ascending.{member_upto}
-use Rattle.cs_theorems.proofs.Inversions.{FlushIs, head_unknown, head_snap, head_clean, head_sent, flush_is, CheckIs, check_unknown, check_nothing, check_hold, check_ack, check_is, FlushSnapsIs, flush_unknown, flush_none, flush_writing, flush_sent, flush_snaps_is, ReceivedIs, received_idle, received_ack, received_flush, received_again, received_is, SnapIs, snap_unknown, snap_exists, snap_taken, snap_is, RemoveIs, remove_none, remove_gone, removed, remove_is}
+use Rattle.cs_theorems.proofs.Inversions.{FlushIs, head_unknown, head_snap, head_clean, head_sent, flush_is, CheckIs, check_unknown, check_nothing, check_hold, check_ack, check_is, FlushSnapsIs, flush_unknown, flush_none, flush_writing, flush_sent, flush_snaps_is, ReceivedIs, received_idle, received_ack, received_flush, received_again, received_req, received_req_again, received_is, SnapIs, snap_unknown, snap_exists, snap_taken, snap_is, RemoveIs, remove_none, remove_gone, removed, remove_is}
 use Rattle.cs_theorems.proofs.Listed.{Each, Member}
 use Rattle.cs_theorems.proofs.Numbered.{Numbered, last_numbered, run_numbered}
 use Rattle.cs_theorems.proofs.Replays as replays
@@ -128,6 +131,13 @@ step_server h x (received_again y q is again) i =
     at_first (λ p. Left h p) (λ p. Left h p) (flush_message y) q (to_server h) is
     (λ j. (flies_again (is_whole h) (sent h) (stand h) q y j (ltb-false (greatest_tid y.file (stand h)) y.tid again)).0) i
 
+step_server h x (received_req tid ino op q is first) i =
+    subst (λ p. Flies (is_whole h) (sent h) (durable h ++ (fresh h ++ requested (answer_on (names h) op) p)) (drop 1 p)) (sym is)
+    (flies_record (is_whole h) (sent h) (durable h) (fresh h) q (record { body = bodies.Request tid op (answer_on (names h) op) }) refl
+    (subst (λ p. Flies (is_whole h) (sent h) (stand h) p) is i))
+step_server h x (received_req_again tid ino op q is again) i =
+    at_first (λ p. Left h p) (λ p. Left h p) (messages.Req tid ino op) q (to_server h) is (λ j. j) i
+
 step_snap : (h : List Entry) (d : ℕ) (name : List ℕ) (x : Answer) → SnapIs h d name x → FlushesReplay h
     → FlushesReplay (record { event = e.Snap d name; answer = x } ∷ h)
 step_snap h d name x snap_unknown i = i
@@ -143,6 +153,7 @@ pub replay_step : (p : ℕ) (h : List Entry) (x : Event) → Numbered (sent h) �
 replay_step p h (e.Check g) numbered i = step_check h g _ (check_is h g) i
 replay_step p h (e.Flush g) numbered i = step_flush h g _ (flush_is h g) numbered i
 replay_step p h (e.FlushSnaps g) numbered i = step_flush_snaps h g _ (flush_snaps_is h g) numbered i
+replay_step p h (e.Req c op) numbered i = flies_message (is_whole h) (sent h) (stand h) (to_server h) _ refl i
 replay_step p h e.ToMds numbered i = step_server h _ (received_is h) i
 replay_step p h (e.Snap d name) numbered i = step_snap h d name _ (snap_is h d name) i
 replay_step p h (e.RmSnap t) numbered i = step_remove h t _ (remove_is h t) i

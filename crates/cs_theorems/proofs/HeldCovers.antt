@@ -1,5 +1,5 @@
 -- What the server takes for held covers what the client implements.
-use Rattle.std.proofs.Common.{◌≡◌, refl, sym, ap, subst, ℕ, Bool, true, false, cond, List, [], ◌∷◌, ◌++◌, ◌==◌, length, arith}
+use Rattle.std.proofs.Common.{◌≡◌, refl, sym, ap, subst, ℕ, Bool, true, false, cond, List, [], ◌∷◌, ◌++◌, ◌==◌, length, arith, None, unwrap_or}
 use Rattle.std.proofs.lemmas.Bool.{cond_both, eqb-true}
 use Rattle.std.proofs.lemmas.Bool.Decides.{nat_tests}
 use Rattle.cs_bits.specs.declared.Caps.{Caps}
@@ -20,23 +20,28 @@ use Rattle.cs_laws.specs.declared.records.Record.{Record}
 use Rattle.cs_laws.specs.declared.records.RecordBody.{RecordBody}
 use Rattle.cs_laws.specs.declared.records.RecordBody.TheVariants as bodies
 use Rattle.cs_laws.specs.Answers.{held_after}
-use Rattle.cs_laws.specs.Flight.{acked_again, cap_message}
+use Rattle.cs_laws.specs.Flight.{acked_again, cap_message, answered_again, unsafe_message}
 use Rattle.cs_laws.specs.Flushes.{flush_message}
-use Rattle.cs_laws.specs.History.{client, durable, fresh, last_sent, server, to_client, to_server}
+use Rattle.cs_laws.specs.History.{client, durable, fresh, last_sent, server, to_client, to_server, stand}
 use Rattle.cs_laws.specs.Carried.{realms_of}
 use Rattle.cs_laws.specs.Journal.{entry}
 use Rattle.cs_laws.specs.Realms.{differing, realm_records}
 use Rattle.cs_laws.specs.Runs.{IsRun}
-use Rattle.cs_laws.specs.Standing.{has_flush, news, news_of, news_on}
+use Rattle.cs_laws.specs.Standing.{has_flush, news, news_of, news_on, answer_kept, has_request}
 use Rattle.cs_snapctx.specs.Records.{with_records}
-use Rattle.cs_laws.specs.Tree.{directories, path}
 use Rattle.cs_laws.specs.Laws.{HeldCoversImplemented, IsCovered}
 use Rattle.cs_theorems.proofs.Listed.{each_nil, each_cons}
-use Rattle.cs_theorems.proofs.News.{each_again, each_news}
+use Rattle.cs_theorems.proofs.News.{each_again, each_news, each_answered}
 use Rattle.cs_theorems.proofs.Rising.{at_first}
 use Rattle.cs_theorems.proofs.Runs.{in_every_prefix, of_run}
 use Rattle.cs_theorems.proofs.Held.{Holds, Moves, Flying, Acked, cap_seq, cap_seqs, moves_granted, moves_revoked, none_within, holds_told, holds_beside, holds_delivered, holds_passed, holds_ack, holds_sent, holds_taken, holds_received}
-use Rattle.cs_theorems.proofs.Inversions.{FlushIs, head_unknown, head_snap, head_clean, head_sent, flush_is, CheckIs, check_unknown, check_nothing, check_hold, check_ack, check_is, FlushSnapsIs, flush_unknown, flush_none, flush_writing, flush_sent, flush_snaps_is, FirstIs, first_idle, first_cap, first_flush_ack, first_snap, first_is, ReceivedIs, received_idle, received_ack, received_flush, received_again, received_is, GrantIs, grant_unknown, grant_sent, grant_is, revoke_is}
+use Rattle.cs_theorems.proofs.Inversions.{FlushIs, head_unknown, head_snap, head_clean, head_sent, flush_is, CheckIs, check_unknown, check_nothing, check_hold, check_ack, check_is, FlushSnapsIs, flush_unknown, flush_none, flush_writing, flush_sent, flush_snaps_is, FirstIs, first_idle, first_cap, first_flush_ack, first_unsafe, first_safe, first_unlease, first_snap, first_is, ReceivedIs, received_idle, received_ack, received_flush, received_again, received_req, received_req_again, received_is, GrantIs, grant_unknown, grant_sent, grant_is, revoke_is, UnleaseIs, unlease_unknown, unlease_sent, unlease_is}
+use Rattle.cs_laws.specs.declared.requests.OpAnswer.{OpAnswer}
+use Rattle.cs_laws.specs.declared.requests.OpAnswer.TheVariants as replies
+use Rattle.cs_laws.specs.declared.requests.ReqOp.{ReqOp}
+use Rattle.cs_laws.specs.Names.{names}
+use Rattle.cs_laws.specs.Namespace.{answer_on}
+use Rattle.cs_laws.specs.ServerKnows.{server_dirs, server_path}
 
 differs : (g f : ℕ) → (g == f) ≡ false → g ≡ f → ⊥
 differs g f t same = grind (arith, nat_tests)
@@ -94,6 +99,9 @@ told_flies f s before realms (bodies.Removal t number) = tt
 no_seq_again : (f g tid : ℕ) (ds : List Record) → cap_seqs f (acked_again g tid ds) ≡ []
 no_seq_again f g tid ds = cond_both (has_flush g tid ds) _ _ (λ q. cap_seqs f q ≡ []) (λ _. refl) (λ _. refl)
 
+no_seq_answered : (f tid : ℕ) (o : OpAnswer) (ds : List Record) → cap_seqs f (answered_again tid o ds) ≡ []
+no_seq_answered f tid o ds = cond_both (has_request tid ds) _ _ (λ q. cap_seqs f q ≡ []) (λ _. refl) (λ _. refl)
+
 -- Steps
 
 abbrev HoldsAt : List Entry → ℕ → Type 0
@@ -129,6 +137,15 @@ step_to_client h x (first_cap g seq bits end q is) i = λ f.
 step_to_client h x (first_flush_ack g tid q is) i = λ f.
     at_first (λ y. Client h f y) (λ y. Client h f y) (messages.FlushAck g tid) q (to_client h) is
     (λ j. holds_passed f (server h f) (client h f) (messages.FlushAck g tid) q (to_server h) refl j) (i f)
+step_to_client h x (first_unsafe tid r ttl q is) i = λ f.
+    at_first (λ y. Client h f y) (λ y. Client h f y) (messages.Unsafe tid r ttl) q (to_client h) is
+    (λ j. holds_passed f (server h f) (client h f) (messages.Unsafe tid r ttl) q (to_server h) refl j) (i f)
+step_to_client h x (first_safe tid q is) i = λ f.
+    at_first (λ y. Client h f y) (λ y. Client h f y) (messages.Safe tid) q (to_client h) is
+    (λ j. holds_passed f (server h f) (client h f) (messages.Safe tid) q (to_server h) refl j) (i f)
+step_to_client h x (first_unlease d name q is) i = λ f.
+    at_first (λ y. Client h f y) (λ y. Client h f y) (messages.Unlease d name) q (to_client h) is
+    (λ j. holds_passed f (server h f) (client h f) (messages.Unlease d name) q (to_server h) refl j) (i f)
 step_to_client h x (first_snap number realm now q is) i = λ f.
     at_first (λ y. Client h f y) (λ y. Client h f y) (messages.Snap number realm now) q (to_client h) is
     (λ j. holds_passed f (server h f) (client h f) (messages.Snap number realm now) q (to_server h) refl j) (i f)
@@ -172,12 +189,33 @@ step_to_server h x (received_again y p is again) i = λ f.
     (each_again (λ m. Flying f (server h f) m) y.file y.tid (durable h) (λ _. tt))
     (holds_taken f (server h f) (client h f) (to_client h) p (flush_message y) j)) (i f)
 
+step_to_server h x (received_req tid ino op p is first) i = λ f.
+    let told : List Message = unsafe_message tid (answer_on (names h) op) ∷ [] in
+    at_first (λ q. Server h f q) (λ q. Holds f (server h f) (client h f) (to_client h ++ told) q) (messages.Req tid ino op) p (to_server h) is
+    (λ j. holds_beside f (server h f) (client h f) (to_client h) p told refl (each_cons (λ m. Flying f (server h f) m) _ [] tt (each_nil (λ m. Flying f (server h f) m)))
+    (holds_taken f (server h f) (client h f) (to_client h) p (messages.Req tid ino op) j)) (i f)
+step_to_server h x (received_req_again tid ino op p is again) i = λ f.
+    let told : List Message = answered_again tid (unwrap_or (answer_kept tid (stand h)) replies.Missing) (durable h) in
+    at_first (λ q. Server h f q) (λ q. Holds f (server h f) (client h f) (to_client h ++ told) q) (messages.Req tid ino op) p (to_server h) is
+    (λ j. holds_beside f (server h f) (client h f) (to_client h) p told (no_seq_answered f tid _ (durable h))
+    (each_answered (λ m. Flying f (server h f) m) tid _ (durable h) tt tt)
+    (holds_taken f (server h f) (client h f) (to_client h) p (messages.Req tid ino op) j)) (i f)
+
+step_req : (h : List Entry) (c : ℕ) (op : ReqOp) (tid : ℕ) → AllHold h → AllHold (record { event = e.Req c op; answer = a.Sent tid } ∷ h)
+step_req h c op tid i = λ f. holds_sent f (server h f) (client h f) (to_client h) (to_server h) (messages.Req tid None op) tt (i f)
+
+step_unlease : (h : List Entry) (d : ℕ) (name : List ℕ) (x : Answer) → UnleaseIs h x → AllHold h → AllHold (record { event = e.Unlease d name; answer = x } ∷ h)
+step_unlease h d name x unlease_unknown i = i
+step_unlease h d name x unlease_sent i = λ f.
+    holds_beside f (server h f) (client h f) (to_client h) (to_server h) (messages.Unlease d name ∷ []) refl
+    (each_cons (λ m. Flying f (server h f) m) _ [] tt (each_nil (λ m. Flying f (server h f) m))) (i f)
+
 step_commit : (h : List Entry) (x : ℕ) → AllHold h → AllHold (record { event = e.Commit; answer = a.Commit x } ∷ h)
 step_commit h x i = λ f.
-    let up : ℕ → List ℕ = λ d. path h d in
-    holds_beside f (server h f) (client h f) (to_client h) (to_server h) (news up (directories h) (last_sent h) (durable h) (fresh h))
-    (no_seqs_told f up (directories h) (last_sent h) (durable h) (fresh h))
-    (each_news (λ m. Flying f (server h f) m) (told_flies f (server h f)) up (directories h) (last_sent h) (durable h) (fresh h)) (i f)
+    let up : ℕ → List ℕ = λ d. server_path h d in
+    holds_beside f (server h f) (client h f) (to_client h) (to_server h) (news up (server_dirs h) (last_sent h) (durable h) (fresh h))
+    (no_seqs_told f up (server_dirs h) (last_sent h) (durable h) (fresh h))
+    (each_news (λ m. Flying f (server h f) m) (told_flies f (server h f)) up (server_dirs h) (last_sent h) (durable h) (fresh h)) (i f)
 
 hold_step : (p : ℕ) (h : List Entry) (x : Event) → AllHold h → AllHold (entry p h x ∷ h)
 hold_step p h (e.Grant g bits end) i = step_grant h g bits end _ (grant_is h g bits end) i
@@ -187,6 +225,8 @@ hold_step p h e.ToMds i = step_to_server h _ (received_is h) i
 hold_step p h (e.Check g) i = step_check h g _ (check_is h g) i
 hold_step p h (e.Flush g) i = step_flush h g _ (flush_is h g) i
 hold_step p h (e.FlushSnaps g) i = step_flush_snaps h g _ (flush_snaps_is h g) i
+hold_step p h (e.Req c op) i = step_req h c op _ i
+hold_step p h (e.Unlease d name) i = step_unlease h d name _ (unlease_is h d) i
 hold_step p h e.Commit i = step_commit h (length (fresh h)) i
 hold_step p h _ i = i
 

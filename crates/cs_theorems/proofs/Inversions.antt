@@ -1,5 +1,5 @@
 -- What the answer to each event can be, with the tests that led there where a law wants them.
-use Rattle.std.proofs.Common.{◌≡◌, refl, ℕ, ◌+◌, true, false, List, [], ◌∷◌, ◌&&◌, Option, Some, None, length, nat_lt, nat_le}
+use Rattle.std.proofs.Common.{◌≡◌, refl, ℕ, ◌+◌, true, false, List, [], ◌∷◌, ◌&&◌, Option, Some, None, length, nat_lt, nat_le, unwrap_or}
 use Rattle.std.proofs.lemmas.Bool.{cond_both}
 use Rattle.cs_bits.specs.declared.Caps.{Caps}
 use Rattle.cs_bits.specs.Bits.{covers, is_empty}
@@ -17,14 +17,20 @@ use Rattle.cs_laws.specs.declared.messages.Message.TheVariants as messages
 use Rattle.cs_laws.specs.CapSnaps.{CapSnap, is_open, is_writing}
 use Rattle.cs_snapctx.specs.Records.{with_records}
 use Rattle.cs_laws.specs.Context.{path_context}
-use Rattle.cs_laws.specs.Events.{client_knows, server_knows, files, begun}
+use Rattle.cs_laws.specs.ClientKnows.{client_files, client_knows, client_file_path}
+use Rattle.cs_laws.specs.Events.{begun}
+use Rattle.cs_laws.specs.Names.{names}
+use Rattle.cs_laws.specs.Namespace.{answer_on, has_dir}
+use Rattle.cs_laws.specs.declared.requests.OpAnswer.{OpAnswer}
+use Rattle.cs_laws.specs.declared.requests.OpAnswer.TheVariants as replies
+use Rattle.cs_laws.specs.declared.requests.ReqOp.{ReqOp}
+use Rattle.cs_laws.specs.ServerKnows.{server_knows}
 use Rattle.cs_laws.specs.Flushes.{Flush, flush_message}
-use Rattle.cs_laws.specs.Tree.{client_file_path, is_directory}
 use Rattle.cs_laws.specs.History.{client, server, realms, to_client, to_server, dirty, live, queued, sent, stand, used, writes}
 use Rattle.cs_laws.specs.Image.{size}
 use Rattle.cs_laws.specs.References.{can_end, named}
-use Rattle.cs_laws.specs.Standing.{greatest_number, greatest_tid, has_snap, has_snap_named, is_removed}
-use Rattle.cs_laws.specs.Answers.{answer_begin, answer_chmod, answer_chmod_on, answer_end, answer_check, answer_flush, answer_flush_snaps, answer_flush_snaps_of, answer_flushed, answer_read, answer_read_on, answer_to_client, answer_to_client_of, answer_to_mds, answer_to_mds_of, answer_grant, answer_revoke, answer_remove, answer_snap, answer_write, answer_write_on, bytes_within, count_made, held_after, may_change_mode, may_read, may_write}
+use Rattle.cs_laws.specs.Standing.{answer_kept, greatest_number, greatest_request, greatest_tid, has_snap, has_snap_named, is_removed}
+use Rattle.cs_laws.specs.Answers.{answer_begin, answer_chmod, answer_chmod_on, answer_end, answer_check, answer_flush, answer_flush_snaps, answer_flush_snaps_of, answer_flushed, answer_requested, answer_read, answer_read_on, answer_to_client, answer_to_client_of, answer_to_mds, answer_unlease, answer_to_mds_of, answer_grant, answer_revoke, answer_remove, answer_snap, answer_write, answer_write_on, bytes_within, count_made, held_after, may_change_mode, may_read, may_write}
 
 pub data BeginIs (h : List Entry) (c f : ℕ) (b : Caps) : Answer → Type 0 where
   begin_unknown : BeginIs h c f b a.Unknown
@@ -155,12 +161,18 @@ pub data FirstIs (h : List Entry) : Answer → Type 0 where
   first_cap : (f seq : ℕ) (bits : Caps) (end : ℕ) (q : List Message) → to_client h ≡ messages.Cap f seq bits end ∷ q → FirstIs h (a.Cap f seq bits end)
   first_flush_ack : (f tid : ℕ) (q : List Message) → to_client h ≡ messages.FlushAck f tid ∷ q → FirstIs h (a.FlushAck f tid)
   first_snap : (number realm : ℕ) (told : List RealmRecord) (q : List Message) → to_client h ≡ messages.Snap number realm told ∷ q
-      → FirstIs h (a.SnapTold number realm (count_made h (λ f. path_context (client_file_path h f) (with_records told (realms h))) (files h)))
+      → FirstIs h (a.SnapTold number realm (count_made h (λ f. path_context (client_file_path h f) (with_records told (realms h))) (client_files h)))
+  first_unsafe : (tid : ℕ) (x : OpAnswer) (ttl : ℕ) (q : List Message) → to_client h ≡ messages.Unsafe tid x ttl ∷ q → FirstIs h (a.Unsafe tid x)
+  first_safe : (tid : ℕ) (q : List Message) → to_client h ≡ messages.Safe tid ∷ q → FirstIs h (a.Safe tid)
+  first_unlease : (d : ℕ) (name : List ℕ) (q : List Message) → to_client h ≡ messages.Unlease d name ∷ q → FirstIs h (a.Unlease d name)
 
 first_is_of : (h : List Entry) (q : List Message) → to_client h ≡ q → FirstIs h (answer_to_client_of h q)
 first_is_of h [] is = first_idle
 first_is_of h (messages.Cap f seq bits end ∷ q) is = first_cap f seq bits end q is
-first_is_of h (messages.Safe tid ∷ q) is = first_idle
+first_is_of h (messages.Safe tid ∷ q) is = first_safe tid q is
+first_is_of h (messages.Unsafe tid x ttl ∷ q) is = first_unsafe tid x ttl q is
+first_is_of h (messages.Unlease d name ∷ q) is = first_unlease d name q is
+first_is_of h (messages.Req tid ino op ∷ q) is = first_idle
 first_is_of h (messages.FlushAck f tid ∷ q) is = first_flush_ack f tid q is
 first_is_of h (messages.Snap number realm told ∷ q) is = first_snap number realm told q is
 first_is_of h (messages.CapAck f seq bits ∷ q) is = first_idle
@@ -178,10 +190,20 @@ pub data ReceivedIs (h : List Entry) : Answer → Type 0 where
       → ReceivedIs h (a.Flushed x.file x.tid)
   received_again : (x : Flush) (q : List Message) → to_server h ≡ flush_message x ∷ q → nat_lt (greatest_tid x.file (stand h)) x.tid ≡ false
       → ReceivedIs h (a.FlushDup x.file x.tid)
+  received_req : (tid : ℕ) (ino : Option ℕ) (op : ReqOp) (q : List Message) → to_server h ≡ messages.Req tid ino op ∷ q
+      → nat_lt (greatest_request (stand h)) tid ≡ true → ReceivedIs h (a.Req tid (answer_on (names h) op))
+  received_req_again : (tid : ℕ) (ino : Option ℕ) (op : ReqOp) (q : List Message) → to_server h ≡ messages.Req tid ino op ∷ q
+      → nat_lt (greatest_request (stand h)) tid ≡ false → ReceivedIs h (a.ReqDup tid (unwrap_or (answer_kept tid (stand h)) replies.Missing))
 
 flushed_is : (h : List Entry) (x : Flush) (q : List Message) → to_server h ≡ flush_message x ∷ q → ReceivedIs h (answer_flushed (stand h) x.file x.tid)
 flushed_is h x q is =
     cond_both (nat_lt (greatest_tid x.file (stand h)) x.tid) _ _ (ReceivedIs h) (λ first. received_flush x q is first) (λ again. received_again x q is again)
+
+requested_is : (h : List Entry) (tid : ℕ) (ino : Option ℕ) (op : ReqOp) (q : List Message) → to_server h ≡ messages.Req tid ino op ∷ q
+    → ReceivedIs h (answer_requested (stand h) (names h) tid op)
+requested_is h tid ino op q is =
+    cond_both (nat_lt (greatest_request (stand h)) tid) _ _ (ReceivedIs h)
+    (λ first. received_req tid ino op q is first) (λ again. received_req_again tid ino op q is again)
 
 received_is_of : (h : List Entry) (q : List Message) → to_server h ≡ q → ReceivedIs h (answer_to_mds_of h q)
 received_is_of h [] is = received_idle
@@ -191,7 +213,10 @@ received_is_of h (messages.Flush f tid follows meta ∷ q) is =
 received_is_of h (messages.FlushSnap f tid follows meta ∷ q) is =
     flushed_is h (record { tid = tid; file = f; follows = follows; meta = meta; snap = true }) q is
 received_is_of h (messages.Cap f seq bits end ∷ q) is = received_idle
+received_is_of h (messages.Req tid ino op ∷ q) is = requested_is h tid ino op q is
 received_is_of h (messages.Safe tid ∷ q) is = received_idle
+received_is_of h (messages.Unsafe tid x ttl ∷ q) is = received_idle
+received_is_of h (messages.Unlease d name ∷ q) is = received_idle
 received_is_of h (messages.FlushAck f tid ∷ q) is = received_idle
 received_is_of h (messages.Snap number realm realms ∷ q) is = received_idle
 
@@ -201,11 +226,11 @@ received_is h = received_is_of h (to_server h) refl
 pub data SnapIs (h : List Entry) (d : ℕ) (name : List ℕ) : Answer → Type 0 where
   snap_unknown : SnapIs h d name a.Unknown
   snap_exists : SnapIs h d name a.Exists
-  snap_taken : is_directory h d ≡ true → has_snap_named d name (stand h) ≡ false → SnapIs h d name (a.Snap (greatest_number (stand h) + 1))
+  snap_taken : has_dir (names h) d ≡ true → has_snap_named d name (stand h) ≡ false → SnapIs h d name (a.Snap (greatest_number (stand h) + 1))
 
 pub snap_is : (h : List Entry) (d : ℕ) (name : List ℕ) → SnapIs h d name (answer_snap h d name)
 snap_is h d name =
-    cond_both (is_directory h d) _ _ (SnapIs h d name)
+    cond_both (has_dir (names h) d) _ _ (SnapIs h d name)
     (λ directory. cond_both (has_snap_named d name (stand h)) _ _ (SnapIs h d name) (λ _. snap_exists) (λ free. snap_taken directory free))
     (λ _. snap_unknown)
 
@@ -229,3 +254,10 @@ grant_is h f bits end = cond_both (server_knows h f) _ _ (GrantIs h f (granted (
 
 pub revoke_is : (h : List Entry) (f : ℕ) (bits : Caps) → GrantIs h f (revoked (server h f) bits) (answer_revoke h f bits)
 revoke_is h f bits = cond_both (server_knows h f) _ _ (GrantIs h f (revoked (server h f) bits)) (λ _. grant_sent) (λ _. grant_unknown)
+
+pub data UnleaseIs (h : List Entry) : Answer → Type 0 where
+  unlease_unknown : UnleaseIs h a.Unknown
+  unlease_sent : UnleaseIs h a.SentUnlease
+
+pub unlease_is : (h : List Entry) (d : ℕ) → UnleaseIs h (answer_unlease h d)
+unlease_is h d = cond_both (has_dir (names h) d) _ _ (UnleaseIs h) (λ _. unlease_sent) (λ _. unlease_unknown)

@@ -25,11 +25,12 @@ use Rattle.cs_laws.specs.Journal.{entry}
 use Rattle.cs_laws.specs.Realms.{is_realm}
 use Rattle.cs_laws.specs.Standing.{has_flush, news, recorded, sent_with}
 use Rattle.cs_laws.specs.Carried.{realms_on}
-use Rattle.cs_laws.specs.Tree.{client_file_path, client_home, directories, is_directory, path, setup_dir}
+use Rattle.cs_laws.specs.ClientKnows.{client_file_path, client_home}
+use Rattle.cs_laws.specs.Tree.{directories, is_directory, path, setup_dir}
 use Rattle.cs_theorems.specs.Realms.{ParentsAreKnown}
 use Rattle.cs_theorems.proofs.Drawn.{DrawnAt}
 use Rattle.cs_theorems.proofs.Fronts.{OfDir, of_more, realm_dir, root_has}
-use Rattle.cs_theorems.proofs.Inversions.{FirstIs, first_idle, first_cap, first_flush_ack, first_snap, first_is, GrantIs, grant_unknown, grant_sent, grant_is, ReceivedIs, received_idle, received_ack, received_flush, received_again, received_is, RemoveIs, remove_none, remove_gone, removed, remove_is, revoke_is, SnapIs, snap_unknown, snap_exists, snap_taken, snap_is}
+use Rattle.cs_theorems.proofs.Inversions.{FirstIs, first_idle, first_cap, first_flush_ack, first_unsafe, first_safe, first_unlease, first_snap, first_is, GrantIs, grant_unknown, grant_sent, grant_is, ReceivedIs, received_idle, received_ack, received_flush, received_again, received_req, received_req_again, received_is, RemoveIs, remove_none, remove_gone, removed, remove_is, revoke_is, SnapIs, snap_unknown, snap_exists, snap_taken, snap_is}
 use Rattle.cs_theorems.proofs.Listed.{Each, each_append, each_end, each_nil}
 use Rattle.cs_theorems.proofs.Listing.{ListingAt}
 use Rattle.cs_theorems.proofs.Paths.{TreeAt, still_dir, with_path}

@@ -18,7 +18,7 @@ use Rattle.cs_laws.specs.CapSnaps.{CapSnap, has_writer, is_open, is_writing, mak
 use Rattle.cs_laws.specs.Context.{differs, with_first, path_context}
 use Rattle.cs_laws.specs.Events.{begun, clock, setup_file}
 use Rattle.cs_laws.specs.History.{context, dirty, live, mode, queued, realms, to_client, writes}
-use Rattle.cs_laws.specs.Tree.{client_file_path}
+use Rattle.cs_laws.specs.ClientKnows.{client_file_path}
 use Rattle.cs_laws.specs.Image.{Write}
 use Rattle.cs_laws.specs.Journal.{entry}
 use Rattle.cs_laws.specs.Writes.{with_write}
@@ -27,7 +27,7 @@ use Rattle.cs_theorems.proofs.Begun.{member_without_named}
 use Rattle.cs_theorems.specs.Contexts.{Rises}
 use Rattle.cs_theorems.proofs.Blank.{AllBlank, none_live}
 use Rattle.cs_theorems.proofs.Contexts.{dir_stays, file_stays, told_moves}
-use Rattle.cs_theorems.proofs.Inversions.{BeginIs, begin_unknown, begin_caps, begin_snap, begin_max, begin_full, begun_ref, begin_is, EndIs, end_unknown, ended, end_is, WriteIs, write_unknown, write_no_bit, write_past, wrote, write_is, FlushSnapsIs, flush_unknown, flush_none, flush_writing, flush_sent, flush_snaps_is, FirstIs, first_idle, first_cap, first_flush_ack, first_snap, first_is}
+use Rattle.cs_theorems.proofs.Inversions.{BeginIs, begin_unknown, begin_caps, begin_snap, begin_max, begin_full, begun_ref, begin_is, EndIs, end_unknown, ended, end_is, WriteIs, write_unknown, write_no_bit, write_past, wrote, write_is, FlushSnapsIs, flush_unknown, flush_none, flush_writing, flush_sent, flush_snaps_is, FirstIs, first_idle, first_cap, first_flush_ack, first_unsafe, first_safe, first_unlease, first_snap, first_is}
 use Rattle.cs_theorems.proofs.Listed.{Each, Member, each_nil}
 use Rattle.cs_theorems.proofs.Opens.{Names, IsNew, Opens, names_begin, names_fewer, older_opens, open_has, opens_begin, opens_fewer, opens_made, opens_sent}
 use Rattle.cs_theorems.proofs.Known.{LiveAreKnown}

@@ -24,7 +24,7 @@ use Rattle.cs_theorems.proofs.Begun.{member_without_named}
 use Rattle.cs_theorems.proofs.Blank.{AllBlank}
 use Rattle.cs_theorems.proofs.Contexts.{dir_stays, file_stays, told_moves}
 use Rattle.cs_theorems.proofs.Course.{Course, course_run}
-use Rattle.cs_theorems.proofs.Inversions.{BeginIs, begin_unknown, begin_caps, begin_snap, begin_max, begin_full, begun_ref, begin_is, EndIs, end_unknown, ended, end_is, WriteIs, write_unknown, write_no_bit, write_past, wrote, write_is, FirstIs, first_idle, first_cap, first_flush_ack, first_snap, first_is}
+use Rattle.cs_theorems.proofs.Inversions.{BeginIs, begin_unknown, begin_caps, begin_snap, begin_max, begin_full, begun_ref, begin_is, EndIs, end_unknown, ended, end_is, WriteIs, write_unknown, write_no_bit, write_past, wrote, write_is, FirstIs, first_idle, first_cap, first_flush_ack, first_unsafe, first_safe, first_unlease, first_snap, first_is}
 use Rattle.cs_theorems.proofs.Listed.{Member, Each, each_end}
 use Rattle.cs_theorems.proofs.Known.{known_then}
 use Rattle.cs_theorems.proofs.Settings.{Setting}

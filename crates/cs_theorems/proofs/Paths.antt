@@ -7,7 +7,8 @@ use Rattle.cs_laws.specs.declared.answers.Entry.{Entry}
 use Rattle.cs_laws.specs.Answers.{answer_made, is_in_use}
 use Rattle.cs_laws.specs.Events.{setup_file}
 use Rattle.cs_laws.specs.Journal.{entry}
-use Rattle.cs_laws.specs.Tree.{client_file_path, home, is_directory, path, setup_dir}
+use Rattle.cs_laws.specs.ClientKnows.{client_file_path}
+use Rattle.cs_laws.specs.Tree.{home, is_directory, path, setup_dir}
 use Rattle.cs_theorems.proofs.Listed.{Each, each_nil, each_cons, each_tail}
 
 -- each directory of a way has the rest of the way above it

@@ -18,7 +18,7 @@ use Rattle.cs_laws.specs.declared.answers.Entry.{Entry}
 use Rattle.cs_laws.specs.Answers.{may_write}
 use Rattle.cs_laws.specs.CapSnaps.{CapSnap, has_writer, is_open, makes, writers}
 use Rattle.cs_laws.specs.Context.{with_first, path_context}
-use Rattle.cs_laws.specs.Tree.{client_file_path}
+use Rattle.cs_laws.specs.ClientKnows.{client_file_path}
 use Rattle.cs_laws.specs.Events.{clock}
 use Rattle.cs_laws.specs.Flushes.{Flush, written_meta}
 use Rattle.cs_laws.specs.History.{context, dirty, live, mode, present, queued, realms, sent, to_client, writes}
@@ -31,7 +31,7 @@ use Rattle.cs_theorems.specs.Order.{HasOlder}
 use Rattle.cs_theorems.specs.Queues.{snaps, with_ended}
 use Rattle.cs_theorems.proofs.Begun.{member_without_named}
 use Rattle.cs_theorems.proofs.Course.{Course, course_run, course_step}
-use Rattle.cs_theorems.proofs.Inversions.{BeginIs, begin_unknown, begin_caps, begin_snap, begin_max, begin_full, begun_ref, begin_is, EndIs, end_unknown, ended, end_is, WriteIs, write_unknown, write_no_bit, write_past, wrote, write_is, FlushIs, head_unknown, head_snap, head_clean, head_sent, flush_is, FlushSnapsIs, flush_unknown, flush_none, flush_writing, flush_sent, flush_snaps_is, FirstIs, first_idle, first_cap, first_flush_ack, first_snap, first_is}
+use Rattle.cs_theorems.proofs.Inversions.{BeginIs, begin_unknown, begin_caps, begin_snap, begin_max, begin_full, begun_ref, begin_is, EndIs, end_unknown, ended, end_is, WriteIs, write_unknown, write_no_bit, write_past, wrote, write_is, FlushIs, head_unknown, head_snap, head_clean, head_sent, flush_is, FlushSnapsIs, flush_unknown, flush_none, flush_writing, flush_sent, flush_snaps_is, FirstIs, first_idle, first_cap, first_flush_ack, first_unsafe, first_safe, first_unlease, first_snap, first_is}
 use Rattle.cs_theorems.proofs.Listed.{Member, Each, each_end, member_left}
 use Rattle.cs_theorems.proofs.Opens.{Names, Opens, older_opens, open_has, opens_made}
 use Rattle.cs_theorems.proofs.Order.{InOrder, Ordered, made_free}
@@ -260,6 +260,9 @@ step_client h x (first_flush_ack g tid q there) before i = λ f.
     cond_both (g == f) (kept.without_tid tid (snaps h f)) (snaps h f) (λ ys. Queue (length (sent h)) (live h) (writes h f) (queued h f) ys)
     (λ _. queue_left _ (live h) (writes h f) (queued h f) (snaps h f) tid (i f))
     (λ _. i f)
+step_client h x (first_unsafe tid r ttl q there) before i = i
+step_client h x (first_safe tid q there) before i = i
+step_client h x (first_unlease d name q there) before i = i
 step_client h x (first_snap n d now q there) before i = λ f.
     queue_told f _ _ (context h f) (path_context (client_file_path h f) (with_first (to_client h) (realms h))) (live h) (writes h f) (queued h f) (snaps h f) (dirty h f) (mode h f)
     before.0 (before.1 f) _ refl (i f)

@@ -20,8 +20,9 @@ use Rattle.cs_laws.specs.Capabilities.{client_then, server_then}
 use Rattle.cs_laws.specs.declared.records.Record.{Record}
 use Rattle.cs_laws.specs.CapSnaps.{CapSnap, queued_then}
 use Rattle.cs_laws.specs.Context.{path_context, realms_then}
-use Rattle.cs_laws.specs.Tree.{directories, directories_then, client_file_path, home, home_then, path, path_then, setup_dir, setup_dir_then}
-use Rattle.cs_laws.specs.Events.{client_knows, setup_file, setup_file_then, files, files_then, begun, begun_then, clock, clock_then}
+use Rattle.cs_laws.specs.ClientKnows.{client_file_path, client_knows}
+use Rattle.cs_laws.specs.Tree.{directories, directories_then, home, home_then, path, path_then, setup_dir, setup_dir_then}
+use Rattle.cs_laws.specs.Events.{setup_file, setup_file_then, files, files_then, begun, begun_then, clock, clock_then}
 use Rattle.cs_laws.specs.Flight.{to_client_then, to_server_then}
 use Rattle.cs_laws.specs.Flushes.{Flush, acked, acked_then, sent_then}
 use Rattle.cs_laws.specs.History.{client, server, to_client, to_server, durable, fresh, last_sent, realms, context, live, writes, mode, dirty, present, queued, sent, snap}
@@ -63,6 +64,12 @@ clients_way e.ToMds (a.FlushDup f tid) s ds news q r = cc
 clients_way e.ToClient (a.Cap g seq bits end) s ds news q r = cc
 clients_way e.ToClient (a.FlushAck g tid) s ds news q r = cc
 clients_way e.ToClient (a.SnapTold number realm count) s ds news q r = cc
+clients_way e.ToClient (a.Unsafe tid o) s ds news q r = cc
+clients_way e.ToClient (a.Safe tid) s ds news q r = cc
+clients_way e.ToClient (a.Unlease d name) s ds news q r = cc
+clients_way e.ToMds (a.Req tid o) s ds news q r = cc
+clients_way e.ToMds (a.ReqDup tid o) s ds news q r = cc
+clients_way (e.Unlease d name) a.SentUnlease s ds news q r = cc
 clients_way _ _ s ds news q r = refl
 
 servers_way : (x : Event) (y : Answer) (now : ℕ → ℕ → Flush) (old : ℕ → ℕ → ℕ → Flush) (q : List Message) → is_refusal x y ≡ true
@@ -73,6 +80,9 @@ servers_way (e.FlushSnaps g) (a.FlushSnap tid follows) now old q r = cc
 servers_way e.ToMds (a.CapAck g seq held) now old q r = cc
 servers_way e.ToMds (a.Flushed g tid) now old q r = cc
 servers_way e.ToMds (a.FlushDup g tid) now old q r = cc
+servers_way e.ToMds (a.Req tid o) now old q r = cc
+servers_way e.ToMds (a.ReqDup tid o) now old q r = cc
+servers_way (e.Req c op) (a.Sent tid) now old q r = cc
 servers_way _ _ now old q r = refl
 
 durables : (x : Event) (y : Answer) (fs ds : List Record) → is_refusal x y ≡ true → durable_then x y fs ds ≡ ds
@@ -81,6 +91,7 @@ durables _ _ fs ds r = refl
 
 added : (x : Event) (y : Answer) (q : List Message) (fs : List Record) → is_refusal x y ≡ true → fresh_then x y q fs ≡ fs
 added e.ToMds (a.Flushed g tid) q fs r = cc
+added e.ToMds (a.Req tid o) q fs r = cc
 added (e.Snap d name) (a.Snap number) q fs r = cc
 added (e.RmSnap t) (a.Removed u number) q fs r = cc
 added e.Commit (a.Commit count) q fs r = cc

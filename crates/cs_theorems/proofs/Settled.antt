@@ -4,7 +4,7 @@ use Rattle.std.specs.List.{list_any}
 use Rattle.std.proofs.lemmas.Bool.{and_cases, and_from, both_ways, eq-eqb, not-false, or_parts}
 use Rattle.cs_laws.specs.declared.answers.Entry.{Entry}
 use Rattle.cs_laws.specs.declared.objects.At.{At}
-use Rattle.cs_laws.specs.Events.{client_knows}
+use Rattle.cs_laws.specs.ClientKnows.{client_knows}
 use Rattle.cs_laws.specs.Flushes.{Flush, flush_record}
 use Rattle.cs_laws.specs.History.{context, dirty, live, queued, sent, stand}
 use Rattle.cs_laws.specs.Owed.{is_acked, is_changed, is_unacked, is_untold, is_written, is_metadata_owed}

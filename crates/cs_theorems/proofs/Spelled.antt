@@ -11,6 +11,7 @@ use Rattle.cs_laws.specs.declared.answers.Entry.{Entry}
 use Rattle.cs_laws.specs.declared.messages.Message.{Message}
 use Rattle.cs_laws.specs.declared.messages.Message.TheVariants as messages
 use Rattle.cs_laws.specs.declared.records.Record.{Record}
+use Rattle.cs_laws.specs.declared.requests.OpAnswer.{OpAnswer}
 use Rattle.cs_laws.specs.declared.records.RecordBody.{RecordBody}
 use Rattle.cs_laws.specs.declared.records.RecordBody.TheVariants as bodies
 use Rattle.cs_laws.specs.Carried.{flush_on, is_for_client}
@@ -19,7 +20,8 @@ use Rattle.cs_laws.specs.Flushes.{Flush, flush_record}
 use Rattle.cs_laws.specs.History.{durable, fresh, sent, stand, to_server}
 use Rattle.cs_laws.specs.Runs.{IsRun}
 use Rattle.cs_laws.specs.Spellings.{body_fits, message_fits, meta_fits, record_fits}
-use Rattle.cs_laws.specs.Standing.{durable_then, fresh_then, number_of, recorded, recorded_of}
+use Rattle.cs_laws.specs.Standing.{durable_then, fresh_then, recorded, recorded_of, requested}
+use Rattle.cs_laws.specs.Realms.{number_of}
 use Rattle.cs_theorems.specs.Flushes.{IsMessageSent, IsRecordSent}
 use Rattle.cs_theorems.specs.Spellings.{MessagesFit, RecordsFit}
 use Rattle.cs_theorems.proofs.CapsFit.{BitsExist, caps_fit}
@@ -53,8 +55,15 @@ recorded_named (m ∷ q) = at (flush_on m)
     at None = each_nil (λ r. RemovesNamed r.body)
     at (Some x) = each_cons (λ r. RemovesNamed r.body) (flush_record x) [] tt (each_nil (λ r. RemovesNamed r.body))
 
+requested_named : (o : OpAnswer) (q : List Message) → AreNamed (requested o q)
+requested_named o [] = each_nil (λ r. RemovesNamed r.body)
+requested_named o (messages.Req tid ino op ∷ q) =
+    each_cons (λ r. RemovesNamed r.body) (record { body = bodies.Request tid op o }) [] tt (each_nil (λ r. RemovesNamed r.body))
+requested_named o (_ ∷ q) = each_nil (λ r. RemovesNamed r.body)
+
 fresh_named : (x : Event) (y : Answer) (q : List Message) (rs : List Record) → fits x ≡ true → AreNamed rs → AreNamed (fresh_then x y q rs)
 fresh_named e.ToMds (a.Flushed f tid) q rs fit i = each_append (λ r. RemovesNamed r.body) rs (recorded q) i (recorded_named q)
+fresh_named e.ToMds (a.Req tid o) q rs fit i = each_append (λ r. RemovesNamed r.body) rs (requested o q) i (requested_named o q)
 fresh_named (e.Snap d name) (a.Snap number) q rs fit i = each_end (λ r. RemovesNamed r.body) rs (record { body = bodies.Snap number d name }) i tt
 fresh_named (e.RmSnap s) (a.Removed t number) q rs fit i =
     each_end (λ r. RemovesNamed r.body) rs (record { body = bodies.Removal s number }) i (leb-true 1 s fit)
@@ -94,6 +103,9 @@ message_fits_by : (xs : List Flush) (m : Message) → Each (λ x. meta_fits x.me
 message_fits_by xs (messages.CapAck f seq bits) fit away exist there = (covers-Has sets.every_cap bits).1 exist.each
 message_fits_by xs (messages.Flush f tid follows meta) fit away exist there = fit _ there
 message_fits_by xs (messages.FlushSnap f tid follows meta) fit away exist there = fit _ there
+message_fits_by xs (messages.Req tid ino op) fit away exist there = refl
+message_fits_by xs (messages.Unsafe tid o ttl) fit away exist there = absurd (true≢false away)
+message_fits_by xs (messages.Unlease d name) fit away exist there = absurd (true≢false away)
 message_fits_by xs (messages.Cap f seq bits end) fit away exist there = absurd (true≢false away)
 message_fits_by xs (messages.Safe tid) fit away exist there = absurd (true≢false away)
 message_fits_by xs (messages.FlushAck f tid) fit away exist there = absurd (true≢false away)

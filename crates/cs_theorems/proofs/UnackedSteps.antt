@@ -17,7 +17,7 @@ use Rattle.cs_laws.specs.Owed.{is_acked, is_later}
 use Rattle.cs_laws.specs.CapSnaps.{queued_mode}
 use Rattle.cs_laws.specs.Runs.{IsRun}
 use Rattle.cs_theorems.specs.Unacked.{sent_of, unacked}
-use Rattle.cs_theorems.proofs.Inversions.{FlushIs, head_unknown, head_snap, head_clean, head_sent, flush_is, FlushSnapsIs, flush_unknown, flush_none, flush_writing, flush_sent, flush_snaps_is, FirstIs, first_idle, first_cap, first_flush_ack, first_snap, first_is}
+use Rattle.cs_theorems.proofs.Inversions.{FlushIs, head_unknown, head_snap, head_clean, head_sent, flush_is, FlushSnapsIs, flush_unknown, flush_none, flush_writing, flush_sent, flush_snaps_is, FirstIs, first_idle, first_cap, first_flush_ack, first_unsafe, first_safe, first_unlease, first_snap, first_is}
 use Rattle.cs_theorems.proofs.Listed.{Member}
 use Rattle.cs_theorems.proofs.Runs.{of_run}
 use Rattle.cs_theorems.proofs.Tests.{any_none, any_some}
@@ -39,6 +39,9 @@ step_client : (h : List Entry) (x : Answer) → FirstIs h x → AllUnacked h →
 step_client h x first_idle i = i
 step_client h x (first_cap g seq bits end q there) i = i
 step_client h x (first_flush_ack g tid q there) i = λ f. unacked_told (g == f) f (length (sent h)) tid (unacked h f) (sent h) (λ n. acked h f n) (i f)
+step_client h x (first_unsafe tid r ttl q there) i = i
+step_client h x (first_safe tid q there) i = i
+step_client h x (first_unlease d name q there) i = i
 step_client h x (first_snap n d now q there) i = i
 
 step_flush : (p : ℕ) (h : List Entry) (g : ℕ) (x : Answer) → IsRun p h → FlushIs h g x → AllUnacked h → AllUnacked (record { event = e.Flush g; answer = x } ∷ h)

@@ -23,14 +23,16 @@ use Rattle.cs_laws.specs.Flushes.{Flush, flush_message}
 use Rattle.cs_laws.specs.Flight.{acked_again}
 use Rattle.cs_laws.specs.Realms.{differing, realm_records}
 use Rattle.cs_laws.specs.Tree.{directories, path}
-use Rattle.cs_laws.specs.Events.{setup_file, setup_file_then, client_knows, server_knows}
+use Rattle.cs_laws.specs.ClientKnows.{client_knows}
+use Rattle.cs_laws.specs.Events.{setup_file, setup_file_then}
+use Rattle.cs_laws.specs.ServerKnows.{server_knows}
 use Rattle.cs_laws.specs.History.{client, durable, fresh, last_sent, server, to_client, to_server, used}
 use Rattle.cs_laws.specs.Journal.{entry}
 use Rattle.cs_laws.specs.Standing.{news, news_of, news_on, recorded, recorded_of}
 use Rattle.cs_snapctx.specs.Records.{with_records}
 use Rattle.cs_laws.specs.Runs.{IsRun}
 use Rattle.cs_theorems.specs.Underway.{ForClient, ForServer, IfFile, IsToldClient, IsToldServer}
-use Rattle.cs_theorems.proofs.Inversions.{FlushIs, head_unknown, head_snap, head_clean, head_sent, flush_is, FlushSnapsIs, flush_unknown, flush_none, flush_writing, flush_sent, flush_snaps_is, FirstIs, first_idle, first_cap, first_flush_ack, first_snap, first_is, ReceivedIs, received_idle, received_ack, received_flush, received_again, received_is, SnapIs, snap_unknown, snap_exists, snap_taken, snap_is, RemoveIs, remove_none, remove_gone, removed, remove_is}
+use Rattle.cs_theorems.proofs.Inversions.{FlushIs, head_unknown, head_snap, head_clean, head_sent, flush_is, FlushSnapsIs, flush_unknown, flush_none, flush_writing, flush_sent, flush_snaps_is, FirstIs, first_idle, first_cap, first_flush_ack, first_unsafe, first_safe, first_unlease, first_snap, first_is, ReceivedIs, received_idle, received_ack, received_flush, received_again, received_req, received_req_again, received_is, SnapIs, snap_unknown, snap_exists, snap_taken, snap_is, RemoveIs, remove_none, remove_gone, removed, remove_is}
 use Rattle.cs_theorems.proofs.Known.{known_then}
 use Rattle.cs_theorems.proofs.Listed.{Each, each_nil, each_cons, each_append, each_drop, each_end, each_tail, member_first}
 use Rattle.cs_theorems.proofs.News.{each_again}

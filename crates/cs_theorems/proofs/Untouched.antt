@@ -20,7 +20,9 @@ use Rattle.cs_laws.specs.declared.messages.Message.{Message}
 use Rattle.cs_laws.specs.declared.messages.Message.TheVariants as messages
 use Rattle.cs_laws.specs.Answers.{answer_check_of, answer_check, answer_grant, answer_revoke, sent_cap}
 use Rattle.cs_laws.specs.CapSnaps.{CapSnap, has_writer, makes}
-use Rattle.cs_laws.specs.Events.{setup_file, setup_file_then, client_knows, server_knows}
+use Rattle.cs_laws.specs.ClientKnows.{client_knows}
+use Rattle.cs_laws.specs.Events.{setup_file, setup_file_then}
+use Rattle.cs_laws.specs.ServerKnows.{server_knows}
 use Rattle.cs_laws.specs.Flushes.{Flush}
 use Rattle.cs_laws.specs.History.{client, server, to_client, to_server, live, writes, mode, dirty, queued, context, used}
 use Rattle.cs_laws.specs.Image.{Write}
@@ -30,7 +32,7 @@ use Rattle.cs_laws.specs.Runs.{IsRun}
 use Rattle.cs_theorems.specs.Queues.{snaps, with_ended}
 use Rattle.cs_theorems.specs.Unacked.{unacked}
 use Rattle.cs_theorems.specs.Underway.{IsToldClient, IsToldServer}
-use Rattle.cs_theorems.proofs.Inversions.{ChmodIs, chmod_unknown, chmod_no_bit, chmod_snap, chmod_done, chmod_is, WriteIs, write_unknown, write_no_bit, write_past, wrote, write_is, EndIs, end_unknown, ended, end_is, FlushIs, head_unknown, head_snap, head_clean, head_sent, flush_is, FlushSnapsIs, flush_unknown, flush_none, flush_writing, flush_sent, flush_snaps_is, FirstIs, first_idle, first_cap, first_flush_ack, first_snap, first_is, ReceivedIs, received_idle, received_ack, received_flush, received_again, received_is}
+use Rattle.cs_theorems.proofs.Inversions.{ChmodIs, chmod_unknown, chmod_no_bit, chmod_snap, chmod_done, chmod_is, WriteIs, write_unknown, write_no_bit, write_past, wrote, write_is, EndIs, end_unknown, ended, end_is, FlushIs, head_unknown, head_snap, head_clean, head_sent, flush_is, FlushSnapsIs, flush_unknown, flush_none, flush_writing, flush_sent, flush_snaps_is, FirstIs, first_idle, first_cap, first_flush_ack, first_unsafe, first_safe, first_unlease, first_snap, first_is, ReceivedIs, received_idle, received_ack, received_flush, received_again, received_req, received_req_again, received_is}
 use Rattle.cs_theorems.proofs.Known.{live_known}
 use Rattle.cs_theorems.proofs.Listed.{Each, each_tail}
 use Rattle.cs_theorems.proofs.Runs.{of_run}

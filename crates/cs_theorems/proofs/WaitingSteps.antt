@@ -12,7 +12,7 @@ use Rattle.cs_laws.specs.declared.answers.Answer.{Answer}
 use Rattle.cs_laws.specs.declared.answers.Entry.{Entry}
 use Rattle.cs_laws.specs.CapSnaps.{has_writer, makes, queued_mode}
 use Rattle.cs_laws.specs.Context.{with_first, path_context}
-use Rattle.cs_laws.specs.Tree.{client_file_path}
+use Rattle.cs_laws.specs.ClientKnows.{client_file_path}
 use Rattle.cs_laws.specs.Flushes.{Flush, acked, flush_record, flush_snap, written_meta}
 use Rattle.cs_laws.specs.History.{context, dirty, live, mode, present, queued, realms, sent, stand, to_client, writes}
 use Rattle.cs_laws.specs.Image.{Write, size, mtime}
@@ -23,7 +23,7 @@ use Rattle.cs_theorems.specs.Flushes.{FlushesAreNumbered, flushes_in}
 use Rattle.cs_theorems.specs.Queues.{snaps, with_ended}
 use Rattle.cs_theorems.proofs.Acks.{run_acked}
 use Rattle.cs_theorems.proofs.FlushReplays.{flushes_numbered}
-use Rattle.cs_theorems.proofs.Inversions.{FlushIs, head_unknown, head_snap, head_clean, head_sent, flush_is, FlushSnapsIs, flush_unknown, flush_none, flush_writing, flush_sent, flush_snaps_is, FirstIs, first_idle, first_cap, first_flush_ack, first_snap, first_is, EndIs, end_unknown, ended, end_is}
+use Rattle.cs_theorems.proofs.Inversions.{FlushIs, head_unknown, head_snap, head_clean, head_sent, flush_is, FlushSnapsIs, flush_unknown, flush_none, flush_writing, flush_sent, flush_snaps_is, FirstIs, first_idle, first_cap, first_flush_ack, first_unsafe, first_safe, first_unlease, first_snap, first_is, EndIs, end_unknown, ended, end_is}
 use Rattle.cs_theorems.proofs.Listed.{Member}
 use Rattle.cs_theorems.proofs.QueueAnswers.{queue_first, queue_order}
 use Rattle.cs_theorems.proofs.Queues.{IsFirst}
@@ -72,6 +72,9 @@ step_client p h x run first_idle i = i
 step_client p h x run (first_cap g seq bits end q there) i = i
 step_client p h x run (first_flush_ack g tid q there) i = λ f.
     waiting_acked (g == f) f tid (snaps h f) (sent h) (λ n. acked h f n) (queue_order p h run f) (i f)
+step_client p h x run (first_unsafe tid r ttl q there) i = i
+step_client p h x run (first_safe tid q there) i = i
+step_client p h x run (first_unlease d name q there) i = i
 step_client p h x run (first_snap n d now q there) i = λ f.
     let y : Snap = kept.queued (context h f) (has_writer f (live h)) (written_meta (mode h f) (writes h f)) in
     cond_both (makes f (context h f) (path_context (client_file_path h f) (with_first (to_client h) (realms h))) (live h) (dirty h f) (queued h f)) (snaps h f ++ y ∷ []) (snaps h f)

@@ -8,8 +8,8 @@ use Rattle.cs_laws.specs.declared.records.Record.{Record}
 use Rattle.cs_laws.specs.declared.records.RecordBody.{RecordBody}
 use Rattle.cs_laws.specs.declared.records.RecordBody.TheVariants as bodies
 use Rattle.cs_laws.specs.Carried.{is_realm_change}
-use Rattle.cs_laws.specs.Realms.{Own, has_snap, is_realm, is_snap_of, own, own_after, own_then}
-use Rattle.cs_laws.specs.Standing.{greatest_number, number_of}
+use Rattle.cs_laws.specs.Realms.{Own, has_snap, is_realm, is_snap_of, own, own_after, own_then, number_of}
+use Rattle.cs_laws.specs.Standing.{greatest_number}
 use Rattle.cs_theorems.proofs.RealmPaths.{way_context}
 
 -- One directory

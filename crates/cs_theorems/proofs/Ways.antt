@@ -5,8 +5,8 @@ use Rattle.cs_snapctx.specs.Context.{Context}
 use Rattle.cs_laws.specs.declared.records.Record.{Record}
 use Rattle.cs_laws.specs.declared.records.RecordBody.{RecordBody}
 use Rattle.cs_laws.specs.declared.records.RecordBody.TheVariants as bodies
-use Rattle.cs_laws.specs.Realms.{is_realm}
-use Rattle.cs_laws.specs.Standing.{greatest_number, number_of}
+use Rattle.cs_laws.specs.Realms.{is_realm, number_of}
+use Rattle.cs_laws.specs.Standing.{greatest_number}
 use Rattle.cs_theorems.proofs.Drawn.{AllDraw, Draws, draws_within}
 use Rattle.cs_theorems.proofs.WayContexts.{quiet_stays}
 use Rattle.cs_theorems.proofs.RealmPaths.{way_context}

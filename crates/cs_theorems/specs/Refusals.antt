@@ -3,11 +3,12 @@ use Rattle.std.specs.Prelude.{◌≡◌, ℕ, List, true}
 use Rattle.cs_laws.specs.declared.answers.Entry.{Entry}
 use Rattle.cs_laws.specs.declared.objects.At.{At}
 use Rattle.cs_laws.specs.declared.objects.At.TheVariants as at
-use Rattle.cs_laws.specs.Events.{begun, client_files, client_knows, clock, server_knows}
+use Rattle.cs_laws.specs.ClientKnows.{client_files, client_knows, client_dir, client_home, client_path}
+use Rattle.cs_laws.specs.Events.{begun, clock}
+use Rattle.cs_laws.specs.ServerKnows.{server_knows, server_dir, server_dirs, server_home, server_path}
 use Rattle.cs_laws.specs.Flushes.{acked}
 use Rattle.cs_laws.specs.Owed.{had_reached, mode_at, owed}
 use Rattle.cs_laws.specs.Sessions.{server_state}
-use Rattle.cs_laws.specs.Tree.{client_dir, client_home, client_path, server_dir, server_dirs, server_home, server_path}
 use Rattle.cs_laws.specs.History.{client, server, to_client, to_server, durable, fresh, realms, context, live, writes, mode, dirty, queued, sent, last_sent}
 use Rattle.cs_laws.specs.Operations.{begun_under, operations_drawn, applied}
 

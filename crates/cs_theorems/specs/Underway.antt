@@ -3,7 +3,8 @@ use Rattle.std.specs.Prelude.{◌≡◌, ℕ, List, true, false, Option, Some, N
 use Rattle.cs_laws.specs.declared.answers.Entry.{Entry}
 use Rattle.cs_laws.specs.declared.messages.Message.{Message}
 use Rattle.cs_laws.specs.Carried.{file_of, is_for_client}
-use Rattle.cs_laws.specs.Events.{client_knows, server_knows}
+use Rattle.cs_laws.specs.ClientKnows.{client_knows}
+use Rattle.cs_laws.specs.ServerKnows.{server_knows}
 
 -- known: whether there is a file of this number
 abbrev pub IfFile : (ℕ → Type 0) → Option ℕ → Type 0

@@ -17,7 +17,7 @@ use Rattle.cs_laws.specs.declared.records.RecordBody.{RecordBody}
 use Rattle.cs_laws.specs.declared.records.RecordBody.TheVariants as bodies
 use Rattle.cs_laws.specs.Carried.{flush_on, is_for_client, realms_of}
 use Rattle.cs_laws.specs.Context.{differs, path_context}
-use Rattle.cs_laws.specs.Events.{client_knows}
+use Rattle.cs_laws.specs.ClientKnows.{client_knows, client_home}
 use Rattle.cs_laws.specs.Flight.{acked_again, to_client_then}
 use Rattle.cs_laws.specs.Flushes.{Flush, flush_record}
 use Rattle.cs_laws.specs.History.{context, durable, fresh, last_sent, realms, sent, server, stand, to_client, to_server}
@@ -25,7 +25,7 @@ use Rattle.cs_laws.specs.Realms.{differing, realm_records}
 use Rattle.cs_laws.specs.Runs.{IsRun}
 use Rattle.cs_laws.specs.Spellings.{message_fits}
 use Rattle.cs_laws.specs.Standing.{durable_then, fresh_then, has_flush, news, news_of, news_on, recorded, recorded_of}
-use Rattle.cs_laws.specs.Tree.{client_home, server_dirs, server_path}
+use Rattle.cs_laws.specs.ServerKnows.{server_dirs, server_path}
 use Rattle.cs_client.specs.Messages.{Accepts, ParentsAreKnown}
 use Rattle.cs_client.specs.Told.{ContextsRise, RisesIn}
 use Rattle.cs_client.specs.Views.{ClientView, is_kept}

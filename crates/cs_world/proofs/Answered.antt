@@ -16,7 +16,8 @@ use Rattle.cs_laws.specs.declared.answers.Answer.TheVariants as answers
 use Rattle.cs_laws.specs.declared.answers.Entry.{Entry}
 use Rattle.cs_laws.specs.declared.objects.ObjOp.{ObjOp}
 use Rattle.cs_laws.specs.Answers.{answer, answer_begin, answer_check, answer_chmod, answer_flush, answer_flush_snaps, answer_read, answer_write_on, bytes_from, may_change_mode, may_read}
-use Rattle.cs_laws.specs.Events.{client_knows, is_setup}
+use Rattle.cs_laws.specs.ClientKnows.{client_knows}
+use Rattle.cs_laws.specs.Events.{is_setup}
 use Rattle.cs_laws.specs.History.{live}
 use Rattle.cs_laws.specs.Operations.{applied}
 use Rattle.cs_laws.specs.References.{can_end, named}

@@ -13,7 +13,8 @@ use Rattle.cs_laws.specs.declared.answers.Entry.{Entry}
 use Rattle.cs_laws.specs.declared.messages.Message.{Message}
 use Rattle.cs_laws.specs.Answers.{answer}
 use Rattle.cs_laws.specs.Context.{realms_then}
-use Rattle.cs_laws.specs.Events.{begun_then, client_files, client_knows, clock_then, files_then}
+use Rattle.cs_laws.specs.ClientKnows.{client_files, client_knows}
+use Rattle.cs_laws.specs.Events.{begun_then, clock_then, files_then}
 use Rattle.cs_laws.specs.History.{context, live, realms, to_client}
 use Rattle.cs_laws.specs.Operations.{brought, operations_drawn}
 use Rattle.cs_laws.specs.References.{live_then}

@@ -21,12 +21,11 @@ use Rattle.cs_laws.specs.declared.messages.Message.TheVariants as messages
 use Rattle.cs_laws.specs.Answers.{answer, answer_flushed, answer_received, answer_to_client_of, answer_to_mds_of, count_made, held_after}
 use Rattle.cs_laws.specs.Carried.{is_for_client, realms_of}
 use Rattle.cs_laws.specs.Context.{path_context, with_first}
-use Rattle.cs_laws.specs.Events.{client_files, client_knows}
+use Rattle.cs_laws.specs.ClientKnows.{client_files, client_knows, client_file_path, client_home}
 use Rattle.cs_laws.specs.Flight.{to_client_then}
 use Rattle.cs_laws.specs.History.{context, durable, fresh, realms, server, stand, to_client, to_server}
 use Rattle.cs_laws.specs.Runs.{IsRun}
 use Rattle.cs_laws.specs.Standing.{fresh_then, greatest_tid}
-use Rattle.cs_laws.specs.Tree.{client_file_path, client_home}
 use Rattle.cs_client.specs.declared.file.ClientFile.{ClientFile}
 use Rattle.cs_client.specs.Messages as client
 use Rattle.cs_client.specs.Messages.{Accepts, Delivered, delivered_row}

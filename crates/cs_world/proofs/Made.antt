@@ -10,7 +10,8 @@ use Rattle.cs_laws.specs.declared.answers.Entry.{Entry}
 use Rattle.cs_laws.specs.declared.messages.Message.{Message}
 use Rattle.cs_laws.specs.declared.records.Record.{Record}
 use Rattle.cs_laws.specs.Answers.{answer}
-use Rattle.cs_laws.specs.Events.{client_knows, is_setup}
+use Rattle.cs_laws.specs.ClientKnows.{client_knows}
+use Rattle.cs_laws.specs.Events.{is_setup}
 use Rattle.cs_laws.specs.History.{durable, fresh, to_server}
 use Rattle.cs_laws.specs.Runs.{IsRun, all_setup}
 use Rattle.cs_laws.specs.Standing.{durable_then, fresh_then}

@@ -12,11 +12,11 @@ use Rattle.cs_laws.specs.declared.answers.Answer.TheVariants as answers
 use Rattle.cs_laws.specs.declared.answers.Entry.{Entry}
 use Rattle.cs_laws.specs.Answers.{answer}
 use Rattle.cs_laws.specs.Context.{path_context}
-use Rattle.cs_laws.specs.Events.{client_knows, clock}
+use Rattle.cs_laws.specs.ClientKnows.{client_knows, client_home, client_path}
+use Rattle.cs_laws.specs.Events.{clock}
 use Rattle.cs_laws.specs.History.{context, live, realms}
 use Rattle.cs_laws.specs.References.{named}
 use Rattle.cs_laws.specs.Runs.{IsRun}
-use Rattle.cs_laws.specs.Tree.{client_home, client_path}
 use Rattle.cs_client.specs.declared.file.ClientFile.{ClientFile}
 use Rattle.cs_client.specs.Calls.{is_call}
 use Rattle.cs_client.specs.Rows.{at_file, at_ref, row_after, with_inode}

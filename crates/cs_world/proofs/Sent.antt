@@ -11,13 +11,13 @@ use Rattle.cs_laws.specs.declared.answers.Answer.TheVariants as answers
 use Rattle.cs_laws.specs.declared.answers.Entry.{Entry}
 use Rattle.cs_laws.specs.declared.messages.Message.{Message}
 use Rattle.cs_laws.specs.Answers.{answer, answer_flush, answer_flush_snaps}
-use Rattle.cs_laws.specs.Events.{client_knows}
+use Rattle.cs_laws.specs.ClientKnows.{client_knows}
 use Rattle.cs_laws.specs.Flight.{cap_message, to_client_then, to_server_then}
 use Rattle.cs_laws.specs.Flushes.{flush_message}
 use Rattle.cs_laws.specs.History.{durable, fresh, last_sent, present, server, snap, to_client, to_server}
 use Rattle.cs_laws.specs.Runs.{IsRun}
 use Rattle.cs_laws.specs.Standing.{news}
-use Rattle.cs_laws.specs.Tree.{server_dirs, server_path}
+use Rattle.cs_laws.specs.ServerKnows.{server_dirs, server_path}
 use Rattle.cs_records.specs.CommitNews.{commit_news}
 use Rattle.cs_tree.specs.Directories.{inos, path_of}
 use Rattle.cs_client.specs.Calls as calls

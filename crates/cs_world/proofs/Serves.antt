@@ -13,7 +13,8 @@ use Rattle.cs_laws.specs.declared.messages.Message.{Message}
 use Rattle.cs_laws.specs.declared.records.Record.{Record}
 use Rattle.cs_laws.specs.Answers.{answer, sent_cap}
 use Rattle.cs_laws.specs.Capabilities.{server_then}
-use Rattle.cs_laws.specs.Events.{server_knows, setup_file, setup_file_then}
+use Rattle.cs_laws.specs.Events.{setup_file, setup_file_then}
+use Rattle.cs_laws.specs.ServerKnows.{server_knows}
 use Rattle.cs_laws.specs.History.{fresh, stand, to_server}
 use Rattle.cs_laws.specs.Runs.{IsRun}
 use Rattle.cs_laws.specs.Standing.{durable_then, fresh_then, greatest_number, has_snap_named}

@@ -17,7 +17,8 @@ use Rattle.cs_laws.specs.declared.objects.At.{At}
 use Rattle.cs_laws.specs.declared.objects.At.TheVariants as at
 use Rattle.cs_laws.specs.declared.objects.ObjOp.{ObjOp}
 use Rattle.cs_laws.specs.Answers.{answer_show, bytes_from, covers_file, is_gone, shown, standing_context, stands}
-use Rattle.cs_laws.specs.Events.{client_knows, server_knows}
+use Rattle.cs_laws.specs.ClientKnows.{client_knows, client_home}
+use Rattle.cs_laws.specs.ServerKnows.{server_knows, server_file_path, server_home}
 use Rattle.cs_laws.specs.Fits.{greatest_end, is_shown, is_state, most_shown}
 use Rattle.cs_laws.specs.History.{stand, writes}
 use Rattle.cs_laws.specs.Image.{image}
@@ -27,7 +28,6 @@ use Rattle.cs_laws.specs.Owed.{owed}
 use Rattle.cs_laws.specs.Runs.{IsRun}
 use Rattle.cs_laws.specs.Shown.{writes_at}
 use Rattle.cs_laws.specs.Standing.{dir_of, is_removed}
-use Rattle.cs_laws.specs.Tree.{client_home, server_file_path, server_home}
 use Rattle.cs_client.specs.declared.file.ClientFile.{ClientFile}
 use Rattle.cs_client.specs.Calls.{has_some}
 use Rattle.cs_client.specs.Views.{ClientView}

@@ -15,11 +15,13 @@ use Rattle.cs_laws.specs.declared.events.Event.{Event}
 use Rattle.cs_laws.specs.declared.messages.Message.{Message}
 use Rattle.cs_laws.specs.declared.records.Record.{Record}
 use Rattle.cs_laws.specs.Answers.{answer}
-use Rattle.cs_laws.specs.Events.{begun, client_files, client_knows, clock, server_knows}
+use Rattle.cs_laws.specs.ClientKnows.{client_files, client_knows, client_dir, client_home, client_path}
+use Rattle.cs_laws.specs.Events.{begun, clock}
+use Rattle.cs_laws.specs.ServerKnows.{server_knows, server_dir, server_dirs, server_home, server_path}
 use Rattle.cs_laws.specs.History.{durable, fresh, live, realms, sent, server, to_client, to_server}
 use Rattle.cs_laws.specs.Logged.{LogIs}
 use Rattle.cs_laws.specs.Operations.{operations_drawn}
-use Rattle.cs_laws.specs.Tree.{client_dir, client_home, client_path, directories, server_dir, server_dirs, server_home, server_path}
+use Rattle.cs_laws.specs.Tree.{directories}
 use Rattle.cs_files.specs.Rows.{inode}
 use Rattle.cs_client.specs.declared.file.ClientFile.{ClientFile}
 use Rattle.cs_client.specs.Views.{ClientView}
