@@ -17,7 +17,8 @@ use Rattle.cs_theorems.proofs.RealmPaths.{HasRealms, path_is_way, way_context}
 use Rattle.cs_theorems.specs.Contexts.{Rises}
 use Rattle.cs_theorems.proofs.Links.{IsFront, differing_at, last_had, realm_at}
 use Rattle.cs_theorems.proofs.Sent.{SentKnown, has_sent, none_sent, sent_applies}
-use Rattle.cs_theorems.proofs.Ways.{front_draws, front_longer, front_realm, front_self, fronts_grow}
+use Rattle.cs_theorems.proofs.Ways.{front_draws, front_good, front_longer, front_realm, front_self, fronts_grow}
+use Rattle.cs_theorems.proofs.Logs.{GoodLog}
 
 -- ts: the client's records, those of the front us of the durable log ds; q: what flies to it
 abbrev pub along : (ℕ → List ℕ) → List RealmRecord → List Record → List Record → List (List RealmRecord) → Type 0
@@ -121,17 +122,18 @@ delivers up sent ts now q ds i =
     let l = i.links in
     record { front = l.0; whole = l.2; has = l.3; links = l.5; known = i.known }
 
-pub context_rises : (dir : ℕ → Bool) (up : ℕ → List ℕ) (sent : ℕ → Option RealmRecord) (ts now : List RealmRecord) (q : List (List RealmRecord)) (ds : List Record) (way : List ℕ)
-    → Tree dir up → ((d : ℕ) → is_realm ds d ≡ true → dir d ≡ true) → AllDraw 0 ds → IsWay up way → Along up sent ts (now ∷ q) ds
+-- base: the directories that are known before all records; dir: those of the tree
+pub context_rises : (base dir : ℕ → Bool) (up : ℕ → List ℕ) (sent : ℕ → Option RealmRecord) (ts now : List RealmRecord) (q : List (List RealmRecord)) (ds : List Record) (way : List ℕ)
+    → Tree dir up → ((d : ℕ) → is_realm ds d ≡ true → dir d ≡ true) → base 1 ≡ true → AllDraw 0 ds → GoodLog base ds → IsWay up way → Along up sent ts (now ∷ q) ds
     → Rises (path_context way ts) (path_context way (with_records now ts))
-context_rises dir up sent ts now q ds way tree inside draws is i =
+context_rises base dir up sent ts now q ds way tree inside root draws good is i =
     let l = i.links in
     let old : path_context way ts ≡ way_context i.front way =
     path_is_way dir up i.front ts tree (λ d was. inside d (front_realm i.front ds d i.whole was)) i.has way is in
     let new : path_context way (with_records now ts) ≡ way_context l.0 way =
     path_is_way dir up l.0 (with_records now ts) tree (λ d was. inside d (front_realm l.0 ds d l.2 was)) l.3 way is in
     subst (λ c. Rises c (path_context way (with_records now ts))) (sym old)
-    (subst (λ c. Rises (way_context i.front way) c) (sym new) (fronts_grow i.front l.0 way (front_draws l.0 ds l.2 draws) l.1))
+    (subst (λ c. Rises (way_context i.front way) c) (sym new) (fronts_grow base i.front l.0 way root (front_draws l.0 ds l.2 draws) (front_good base l.0 ds l.2 good) l.1))
 
 -- The link is broken, or made anew
 

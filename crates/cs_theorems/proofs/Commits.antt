@@ -19,13 +19,15 @@ use Rattle.cs_theorems.proofs.RealmPaths.{HasRealms, realm_of}
 use Rattle.cs_theorems.proofs.Sent.{differing_is, sent_then}
 use Rattle.cs_theorems.proofs.WayContexts.{quiet_stays}
 use Rattle.cs_theorems.proofs.Ways.{front_realm}
+use Rattle.cs_theorems.proofs.Logs.{GoodLog, MakesNoRealm, makes_no_realm}
 
 -- What was sent last, and what flies: ss are the realm records that the server sent last, those of the durable log ds.
 pub record Told (up : ℕ → List ℕ) (ss ts : List RealmRecord) (q : List (List RealmRecord)) (ds : List Record) : Type 0 where
   pub link : Along up (λ d. record_of d ss) ts q ds
   pub sent : HasRealms up ds ss
 
-module _ (up : ℕ → List ℕ) (dirs : List ℕ) (ts : List RealmRecord) where
+-- dir: the directories that are known before all records
+module _ (dir : ℕ → Bool) (root : dir 1 ≡ true) (up : ℕ → List ℕ) (dirs : List ℕ) (ts : List RealmRecord) where
   realm_named : (vs : List Record) (d : ℕ) (r : RealmRecord) → realm_at up vs d ≡ Some r → r.realm ≡ d
   realm_named vs d r is = at (is_realm vs d) is
     where
@@ -70,8 +72,8 @@ module _ (up : ℕ → List ℕ) (dirs : List ℕ) (ts : List RealmRecord) where
       has : HasRealms up more (with_records now ss)
       has = sent_changed ss ds r listed i.sent
 
-  same_by : (ds : List Record) (b : RecordBody) → is_realm_change b ≡ false → realm_at up (ds ++ record { body = b } ∷ []) ≡ realm_at up ds
-  same_by ds b quiet = λ j d. same_realm (up d) ds (record { body = b }) d (λ k. quiet_stays k ds b quiet) j
+  same_by : (ds : List Record) (b : RecordBody) → is_realm_change b ≡ false → MakesNoRealm ds b → realm_at up (ds ++ record { body = b } ∷ []) ≡ realm_at up ds
+  same_by ds b quiet none = λ j d. same_realm (up d) ds (record { body = b }) d (λ k. quiet_stays k ds b quiet (none k)) j
 
   told_quiet : (ss : List RealmRecord) (q : List (List RealmRecord)) (ds : List Record) (r : Record) → realm_at up (ds ++ r ∷ []) ≡ realm_at up ds → Told up ss ts q ds
       → Told up ss ts q (ds ++ r ∷ [])
@@ -87,29 +89,30 @@ module _ (up : ℕ → List ℕ) (dirs : List ℕ) (ts : List RealmRecord) where
   told_with ss ds b = differing ss (realm_records up dirs (with_body ds b))
 
   -- what was sent last, once the message on a record is sent
-  pub sent_after : (ss : List RealmRecord) (ds : List Record) (r : Record) → ((d : ℕ) → is_realm (ds ++ r ∷ []) d ≡ true → Member d dirs) → HasRealms up ds ss
+  pub sent_after : (ss : List RealmRecord) (ds : List Record) (r : Record) → ((d : ℕ) → is_realm (ds ++ r ∷ []) d ≡ true → Member d dirs) → MakesNoRealm ds r.body → HasRealms up ds ss
       → HasRealms up (ds ++ r ∷ []) (with_records (realms_of (news_on up dirs ss ds r)) ss)
-  sent_after ss ds r listed has = at r.body listed
+  sent_after ss ds r listed none has = at r.body listed none
     where
-      at : (b : RecordBody) → ((d : ℕ) → is_realm (with_body ds b) d ≡ true → Member d dirs)
+      at : (b : RecordBody) → ((d : ℕ) → is_realm (with_body ds b) d ≡ true → Member d dirs) → MakesNoRealm ds b
           → HasRealms up (with_body ds b) (with_records (realms_of (news_on up dirs ss ds (record { body = b }))) ss)
-      at (bodies.Request tid op answer) inside = record { has = λ d. has.has d ∙ sym (ap (λ g. g d) (same_by ds (bodies.Request tid op answer) refl)) }
-      at (bodies.Flush snap f tid follows meta) inside =
-          record { has = λ d. has.has d ∙ sym (ap (λ g. g d) (same_by ds (bodies.Flush snap f tid follows meta) refl)) }
-      at (bodies.Snap n e name) inside = sent_changed ss ds (record { body = bodies.Snap n e name }) inside has
-      at (bodies.Removal t n) inside = sent_changed ss ds (record { body = bodies.Removal t n }) inside has
+      at (bodies.Request tid op answer) inside bare = record { has = λ d. has.has d ∙ sym (ap (λ g. g d) (same_by ds (bodies.Request tid op answer) refl bare)) }
+      at (bodies.Flush snap f tid follows meta) inside bare =
+          record { has = λ d. has.has d ∙ sym (ap (λ g. g d) (same_by ds (bodies.Flush snap f tid follows meta) refl bare)) }
+      at (bodies.Snap n e name) inside bare = sent_changed ss ds (record { body = bodies.Snap n e name }) inside has
+      at (bodies.Removal t n) inside bare = sent_changed ss ds (record { body = bodies.Removal t n }) inside has
 
   -- what holds once these records more are told of; us, p: what was sent last and what flies before them
   abbrev TellsRest : List RealmRecord → List (List RealmRecord) → List Record → List Record → Type 0
   TellsRest us p ds rs = Told up (sent_with (news up dirs us ds rs) us) ts (p ++ carried (news up dirs us ds rs)) (ds ++ rs)
 
   pub told_commit : (ss : List RealmRecord) (q : List (List RealmRecord)) (ds rs : List Record) → ((d : ℕ) → is_realm (ds ++ rs) d ≡ true → Member d dirs)
-      → ParentsFirst up [] dirs → Told up ss ts q ds → TellsRest ss q ds rs
-  told_commit ss q ds [] listed first i =
+      → ParentsFirst up [] dirs → GoodLog dir (ds ++ rs) → Told up ss ts q ds → TellsRest ss q ds rs
+  told_commit ss q ds [] listed first good i =
       subst (λ xs. Told up ss ts (q ++ []) xs) (sym (append-nil ds)) (subst (λ p. Told up ss ts p ds) (sym (append-nil q)) i)
-  told_commit ss q ds (r ∷ rs) listed first i =
+  told_commit ss q ds (r ∷ rs) listed first good i =
       subst (λ xs. Told up (sent_with (news up dirs ss ds (r ∷ rs)) ss) ts (q ++ carried (news up dirs ss ds (r ∷ rs))) xs) assoc
-      (at r.body rest (λ us p j. told_commit us p (ds ++ r ∷ []) rs rest first j))
+      (at r.body rest (makes_no_realm dir ds r rs root good)
+      (λ us p j. told_commit us p (ds ++ r ∷ []) rs rest first (subst (λ xs. GoodLog dir xs) (sym assoc) good) j))
     where
       assoc : (ds ++ r ∷ []) ++ rs ≡ ds ++ r ∷ rs
       assoc = append_assoc ds (r ∷ []) rs
@@ -128,10 +131,10 @@ module _ (up : ℕ → List ℕ) (dirs : List ℕ) (ts : List RealmRecord) where
           (go us (q ++ told_with ss ds b ∷ [])
           (told_change ss q ds (record { body = b }) (λ d is. inside d (front_realm (with_body ds b) (with_body ds b ++ rs) d (rs, refl) is)) first i))
 
-      at : (b : RecordBody) → ((d : ℕ) → is_realm (with_body ds b ++ rs) d ≡ true → Member d dirs)
+      at : (b : RecordBody) → ((d : ℕ) → is_realm (with_body ds b ++ rs) d ≡ true → Member d dirs) → MakesNoRealm ds b
           → ((us : List RealmRecord) (p : List (List RealmRecord)) → Told up us ts p (with_body ds b) → TellsRest us p (with_body ds b) rs)
           → Told up (sent_with (news up dirs ss ds (record { body = b } ∷ rs)) ss) ts (q ++ carried (news up dirs ss ds (record { body = b } ∷ rs))) (with_body ds b ++ rs)
-      at (bodies.Request tid op answer) inside go = go ss q (told_quiet ss q ds _ (same_by ds (bodies.Request tid op answer) refl) i)
-      at (bodies.Flush snap f tid follows meta) inside go = go ss q (told_quiet ss q ds _ (same_by ds (bodies.Flush snap f tid follows meta) refl) i)
-      at (bodies.Snap n e name) inside go = changed (bodies.Snap n e name) inside go
-      at (bodies.Removal s n) inside go = changed (bodies.Removal s n) inside go
+      at (bodies.Request tid op answer) inside bare go = go ss q (told_quiet ss q ds _ (same_by ds (bodies.Request tid op answer) refl bare) i)
+      at (bodies.Flush snap f tid follows meta) inside bare go = go ss q (told_quiet ss q ds _ (same_by ds (bodies.Flush snap f tid follows meta) refl bare) i)
+      at (bodies.Snap n e name) inside bare go = changed (bodies.Snap n e name) inside go
+      at (bodies.Removal s n) inside bare go = changed (bodies.Removal s n) inside go

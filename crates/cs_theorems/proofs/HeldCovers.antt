@@ -197,8 +197,8 @@ step_to_server h x (received_req tid ino op p is first) i = λ f.
 step_to_server h x (received_req_again tid ino op p is again) i = λ f.
     let told : List Message = answered_again tid (unwrap_or (answer_kept tid (stand h)) replies.Missing) (durable h) in
     at_first (λ q. Server h f q) (λ q. Holds f (server h f) (client h f) (to_client h ++ told) q) (messages.Req tid ino op) p (to_server h) is
-    (λ j. holds_beside f (server h f) (client h f) (to_client h) p told (no_seq_answered f tid _ (durable h))
-    (each_answered (λ m. Flying f (server h f) m) tid _ (durable h) tt tt)
+    (λ j. holds_beside f (server h f) (client h f) (to_client h) p told (no_seq_answered f tid (unwrap_or (answer_kept tid (stand h)) replies.Missing) (durable h))
+    (each_answered (λ m. Flying f (server h f) m) tid (unwrap_or (answer_kept tid (stand h)) replies.Missing) (durable h) tt tt)
     (holds_taken f (server h f) (client h f) (to_client h) p (messages.Req tid ino op) j)) (i f)
 
 step_req : (h : List Entry) (c : ℕ) (op : ReqOp) (tid : ℕ) → AllHold h → AllHold (record { event = e.Req c op; answer = a.Sent tid } ∷ h)

@@ -35,10 +35,13 @@ pub mod Paths
 pub mod Listing
 pub mod Lookups
 pub mod Drawn
+pub mod Logs
 pub mod RealmPaths
 pub mod WayContexts
 pub mod Ways
 pub mod Fronts
+pub mod Trees
+pub mod Asked
 pub mod Links
 pub mod Sent
 pub mod Along

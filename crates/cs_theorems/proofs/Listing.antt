@@ -9,7 +9,7 @@ use Rattle.cs_laws.specs.Events.{setup_file}
 use Rattle.cs_laws.specs.Journal.{entry}
 use Rattle.cs_laws.specs.Tree.{directories, is_ahead, is_directory, path, setup_dir, with_directory}
 use Rattle.cs_theorems.proofs.Listed.{Member, Each, each_nil, each_cons, each_tail}
-use Rattle.cs_theorems.proofs.Paths.{IsWay, TreeAt, with_path}
+use Rattle.cs_theorems.proofs.Paths.{IsWay, TreeAt, with_path, Tree, still_dir, was_dir}
 
 -- each directory has those above it, the rest of its path, among those in front; seen: those in front of the list
 abbrev pub ParentsFirst : (ℕ → List ℕ) → List ℕ → List ℕ → Type 0
@@ -108,12 +108,12 @@ first_with up e seen (d ∷ ds) n above i first =
 
 -- Other paths
 
-first_same : (up new : ℕ → List ℕ) (seen ds : List ℕ) → Each (λ d. new d ≡ up d) ds → ParentsFirst up seen ds → ParentsFirst new seen ds
+pub first_same : (up new : ℕ → List ℕ) (seen ds : List ℕ) → Each (λ d. new d ≡ up d) ds → ParentsFirst up seen ds → ParentsFirst new seen ds
 first_same up new seen [] same i = tt
 first_same up new seen (d ∷ ds) same i =
     (subst (λ ps. Each (λ x. Member x seen) (drop 1 ps)) (sym (same d (inl refl))) i.0, first_same up new (d ∷ seen) ds (each_tail (λ x. new x ≡ up x) d ds same) i.1)
 
-deepens_same : (up new : ℕ → List ℕ) (n : ℕ) (ds : List ℕ) → Each (λ d. new d ≡ up d) ds → Deepens (depth_of up) n ds → Deepens (depth_of new) n ds
+pub deepens_same : (up new : ℕ → List ℕ) (n : ℕ) (ds : List ℕ) → Each (λ d. new d ≡ up d) ds → Deepens (depth_of up) n ds → Deepens (depth_of new) n ds
 deepens_same up new n [] same i = tt
 deepens_same up new n (d ∷ ds) same i =
     let k : length (new d) ≡ length (up d) = ap (λ ps. length ps) (same d (inl refl)) in
@@ -125,59 +125,59 @@ way_short up [] way x m = absurd m
 way_short up (d ∷ ds) way x (inl same) = subst (λ k. depth_of up k ≤ length (d ∷ ds)) same (omega (arith, ap (λ ps. length ps) way.0))
 way_short up (d ∷ ds) way x (inr m) = omega (arith, way_short up ds way.1 x m)
 
+-- A directory more: e is made in p
+
+module _ (dir more : ℕ → Bool) (up : ℕ → List ℕ) (e p : ℕ) (ds : List ℕ) (new : dir e ≡ false) (above : dir p ≡ true)
+    (grows : (k : ℕ) → dir k ≡ true → more k ≡ true) (made : more e ≡ true) (back : (k : ℕ) → more k ≡ true → (e == k) ≡ false → dir k ≡ true)
+    (tree : Tree dir up) (i : Listing dir up ds) where
+  abbrev now : ℕ → List ℕ
+  now k = with_path up e p k
+
+  other : (k : ℕ) → dir k ≡ true → (e == k) ≡ false
+  other k old = false_from_ne_true (e == k) (λ same. both_ways (dir e) new (subst (λ j. dir j ≡ true) (sym (eqb-true e k same)) old))
+
+  same_paths : Each (λ k. now k ≡ up k) ds
+  same_paths = λ k m. cond-false (e == k) (e ∷ up p) (up k) (other k (i.only k m))
+
+  own_path : now e ≡ e ∷ up p
+  own_path = cond-true (e == e) (e ∷ up p) (up e) (eq-eqb e e refl)
+
+  abbrev IsAbove : ℕ → Type 0
+  IsAbove x = (Member x [] ⊎ Member x ds) × (depth_of now x < depth_of now e)
+
+  parents : Each IsAbove (drop 1 (now e))
+  parents =
+      subst (λ ps. Each IsAbove (drop 1 ps)) (sym own_path)
+      (λ x m.
+      let there = tree.inside p x m in
+      let len : length (now x) ≡ length (up x) = ap (λ ps. length ps) (cond-false (e == x) (e ∷ up p) (up x) (other x there)) in
+      let top : length (now e) ≡ length (e ∷ up p) = ap (λ ps. length ps) own_path in
+      (inr (i.listed x there), omega (arith, len, top, way_short up (up p) (tree.ways p) x m)))
+
+  listed_now : (k : ℕ) (b : Bool) → (e == k) ≡ b → more k ≡ true → Member k (with_directory (depth_of now) e ds)
+  listed_now k true same is = subst (λ j. Member j (with_directory (depth_of now) e ds)) (eqb-true e k same) (new_with (depth_of now) e ds)
+  listed_now k false differs is = member_with (depth_of now) e k ds (i.listed k (back k is differs))
+
+  pub listing_more : Listing more now (with_directory (depth_of now) e ds)
+  listing_more = record {
+    listed = λ k is. listed_now k (e == k) refl is;
+    only = each_with (λ k. more k ≡ true) (depth_of now) e ds made (λ k m. grows k (i.only k m));
+    first = first_with now e [] ds 0 parents (deepens_same up now 0 ds same_paths i.deepens) (first_same up now [] ds same_paths i.first);
+    deepens = deepens_with (depth_of now) 0 e ds (omega arith) (deepens_same up now 0 ds same_paths i.deepens);
+  }
+
 -- Steps
 
 step_dir : (h : List Entry) (d p : ℕ) → TreeAt h → ListingAt h → ListingAt (record { event = e.Dir d p; answer = answer_made h d p } ∷ h)
 step_dir h d p tree i =
     cond_both (is_in_use h d) _ _ (λ x. ListingAt (record { event = e.Dir d p; answer = x } ∷ h)) (λ _. i)
     (λ new. cond_both (is_directory h p) _ _ (λ x. ListingAt (record { event = e.Dir d p; answer = x } ∷ h))
-    (λ above. made (or_parts (is_directory h d) (setup_file h d) new).0 above)
+    (λ above. listing_more (λ k. is_directory h k) (λ k. (k == 1) || cond (d == k) true (setup_dir h k)) (λ k. path h k) d p (directories h)
+    (or_parts (is_directory h d) (setup_file h d) new).0 above
+    (λ k is. still_dir d k (setup_dir h k) is)
+    (or_right (d == 1) _ (cond-true (d == d) true (setup_dir h d) (eq-eqb d d refl)))
+    (λ k is other. was_dir d k (setup_dir h k) other is) tree i)
     (λ _. i))
-  where
-    made : is_directory h d ≡ false → is_directory h p ≡ true
-        → Listing (λ k. (k == 1) || cond (d == k) true (setup_dir h k)) (λ k. with_path (λ j. path h j) d p k)
-        (with_directory (λ k. length (with_path (λ j. path h j) d p k)) d (directories h))
-    made new above = done
-      where
-        other : (k : ℕ) → is_directory h k ≡ true → (d == k) ≡ false
-        other k old = false_from_ne_true (d == k) (λ same. both_ways (is_directory h d) new (subst (λ j. is_directory h j ≡ true) (sym (eqb-true d k same)) old))
-
-        same : Each (λ k. with_path (λ j. path h j) d p k ≡ path h k) (directories h)
-        same = λ k m. cond-false (d == k) (d ∷ path h p) (path h k) (other k (i.only k m))
-
-        own : with_path (λ j. path h j) d p d ≡ d ∷ path h p
-        own = cond-true (d == d) (d ∷ path h p) (path h d) (eq-eqb d d refl)
-
-        parents : Each (λ x. (Member x [] ⊎ Member x (directories h)) × (depth_of (λ k. with_path (λ j. path h j) d p k) x < depth_of (λ k. with_path (λ j. path h j) d p k) d))
-            (drop 1 (with_path (λ j. path h j) d p d))
-        parents =
-            subst (λ ps. Each (λ x. (Member x [] ⊎ Member x (directories h)) × (depth_of (λ k. with_path (λ j. path h j) d p k) x < depth_of (λ k. with_path (λ j. path h j) d p k) d)) (drop 1 ps)) (sym own)
-            (λ x m.
-            let there = tree.inside p x m in
-            let len : length (with_path (λ j. path h j) d p x) ≡ length (path h x) = ap (λ ps. length ps) (cond-false (d == x) (d ∷ path h p) (path h x) (other x there)) in
-            let top : length (with_path (λ j. path h j) d p d) ≡ length (d ∷ path h p) = ap (λ ps. length ps) own in
-            (inr (i.listed x there), omega (arith, len, top, way_short (λ j. path h j) (path h p) (tree.ways p) x m)))
-
-        still : (k : ℕ) → is_directory h k ≡ true → ((k == 1) || cond (d == k) true (setup_dir h k)) ≡ true
-        still k old = subst (λ b. ((k == 1) || b) ≡ true) (sym (cond-false (d == k) true (setup_dir h k) (other k old))) old
-
-        done : Listing (λ k. (k == 1) || cond (d == k) true (setup_dir h k)) (λ k. with_path (λ j. path h j) d p k)
-            (with_directory (λ k. length (with_path (λ j. path h j) d p k)) d (directories h))
-        done = record {
-          listed = λ k is. at k (d == k) refl is;
-          only = each_with (λ k. ((k == 1) || cond (d == k) true (setup_dir h k)) ≡ true) (λ j. length (with_path (λ g. path h g) d p j)) d (directories h)
-              (or_right (d == 1) _ (cond-true (d == d) true (setup_dir h d) (eq-eqb d d refl))) (λ k m. still k (i.only k m));
-          first = first_with (λ k. with_path (λ j. path h j) d p k) d [] (directories h) 0 parents
-              (deepens_same (λ k. path h k) (λ k. with_path (λ j. path h j) d p k) 0 (directories h) same i.deepens) (first_same (λ k. path h k) (λ k. with_path (λ j. path h j) d p k) [] (directories h) same i.first);
-          deepens = deepens_with (depth_of (λ k. with_path (λ j. path h j) d p k)) 0 d (directories h) (omega arith)
-              (deepens_same (λ k. path h k) (λ k. with_path (λ j. path h j) d p k) 0 (directories h) same i.deepens);
-        }
-          where
-            at : (k : ℕ) (b : Bool) → (d == k) ≡ b → ((k == 1) || cond (d == k) true (setup_dir h k)) ≡ true
-                → Member k (with_directory (λ j. length (with_path (λ g. path h g) d p j)) d (directories h))
-            at k true same_k is = subst (λ j. Member j (with_directory (λ g. length (with_path (λ l. path h l) d p g)) d (directories h))) (eqb-true d k same_k) (new_with (λ j. length (with_path (λ g. path h g) d p j)) d (directories h))
-            at k false other_k is =
-                member_with (λ j. length (with_path (λ g. path h g) d p j)) d k (directories h) (i.listed k (subst (λ b. ((k == 1) || b) ≡ true) (cond-false (d == k) true (setup_dir h k) other_k) is))
 
 pub listing_step : (p : ℕ) (h : List Entry) (x : Event) → TreeAt h → ListingAt h → ListingAt (entry p h x ∷ h)
 listing_step p h (e.Dir d q) tree i = step_dir h d q tree i

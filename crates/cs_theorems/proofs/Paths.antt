@@ -7,7 +7,6 @@ use Rattle.cs_laws.specs.declared.answers.Entry.{Entry}
 use Rattle.cs_laws.specs.Answers.{answer_made, is_in_use}
 use Rattle.cs_laws.specs.Events.{setup_file}
 use Rattle.cs_laws.specs.Journal.{entry}
-use Rattle.cs_laws.specs.ClientKnows.{client_file_path}
 use Rattle.cs_laws.specs.Tree.{home, is_directory, path, setup_dir}
 use Rattle.cs_theorems.proofs.Listed.{Each, each_nil, each_cons, each_tail}
 
@@ -41,7 +40,7 @@ way_more dir up e p [] new all i = tt
 way_more dir up e p (d ∷ ds) new all i =
     (cond-false (e == d) (e ∷ up p) (up d) (apart dir e d new (all d (inl refl))) ∙ i.0, way_more dir up e p ds new (each_tail (λ x. dir x ≡ true) d ds all) i.1)
 
-tree_more : (dir more : ℕ → Bool) (up : ℕ → List ℕ) (e p : ℕ) → dir e ≡ false → dir p ≡ true → ((d : ℕ) → dir d ≡ true → more d ≡ true) → more e ≡ true
+pub tree_more : (dir more : ℕ → Bool) (up : ℕ → List ℕ) (e p : ℕ) → dir e ≡ false → dir p ≡ true → ((d : ℕ) → dir d ≡ true → more d ≡ true) → more e ≡ true
     → ((d : ℕ) → more d ≡ true → (e == d) ≡ false → dir d ≡ true) → Tree dir up → Tree more (with_path up e p)
 tree_more dir more up e p new above grows made back i = record {
   ways = λ d.
@@ -67,7 +66,7 @@ still_dir e d was is =
     (λ made. or_right (d == 1) _ (cond_both (e == d) true was (λ b. b ≡ true) (λ _. refl) (λ _. made)))
     (or_cases (d == 1) was is)
 
-was_dir : (e d : ℕ) (was : Bool) → (e == d) ≡ false → ((d == 1) || cond (e == d) true was) ≡ true → ((d == 1) || was) ≡ true
+pub was_dir : (e d : ℕ) (was : Bool) → (e == d) ≡ false → ((d == 1) || cond (e == d) true was) ≡ true → ((d == 1) || was) ≡ true
 was_dir e d was other is = subst (λ b. ((d == 1) || b) ≡ true) (cond-false (e == d) true was other) is
 
 step_dir : (h : List Entry) (d p : ℕ) → TreeAt h → TreeAt (record { event = e.Dir d p; answer = answer_made h d p } ∷ h)
@@ -124,28 +123,31 @@ housed_step p h _ i = i
 pub housed_first : Housed []
 housed_first f = refl
 
--- The path of a file stays, but where it is made.
+-- The path of a file of a setup line stays, but where it is made.
 
-pub dir_path : (h : List Entry) (d p f : ℕ) → Housed h → client_file_path (record { event = e.Dir d p; answer = answer_made h d p } ∷ h) f ≡ client_file_path h f
+abbrev pub setup_path : List Entry → ℕ → List ℕ
+setup_path h f = path h (home h f)
+
+pub dir_path : (h : List Entry) (d p f : ℕ) → Housed h → setup_path (record { event = e.Dir d p; answer = answer_made h d p } ∷ h) f ≡ setup_path h f
 dir_path h d p f i =
-    cond_both (is_in_use h d) _ _ (λ x. client_file_path (record { event = e.Dir d p; answer = x } ∷ h) f ≡ client_file_path h f) (λ _. refl)
-    (λ new. cond_both (is_directory h p) _ _ (λ x. client_file_path (record { event = e.Dir d p; answer = x } ∷ h) f ≡ client_file_path h f)
+    cond_both (is_in_use h d) _ _ (λ x. setup_path (record { event = e.Dir d p; answer = x } ∷ h) f ≡ setup_path h f) (λ _. refl)
+    (λ new. cond_both (is_directory h p) _ _ (λ x. setup_path (record { event = e.Dir d p; answer = x } ∷ h) f ≡ setup_path h f)
     (λ _. cond-false (d == home h f) _ _ (apart (λ k. is_directory h k) d (home h f) (or_parts (is_directory h d) (setup_file h d) new).0 (i f)))
     (λ _. refl))
 
-file_stays : (h : List Entry) (g p f : ℕ) → (client_file_path (record { event = e.File g p; answer = answer_made h g p } ∷ h) f ≡ client_file_path h f) ⊎ (setup_file h f ≡ false)
+file_stays : (h : List Entry) (g p f : ℕ) → (setup_path (record { event = e.File g p; answer = answer_made h g p } ∷ h) f ≡ setup_path h f) ⊎ (setup_file h f ≡ false)
 file_stays h g p f =
-    cond_both (is_in_use h g) _ _ (λ x. (client_file_path (record { event = e.File g p; answer = x } ∷ h) f ≡ client_file_path h f) ⊎ (setup_file h f ≡ false)) (λ _. inl refl)
-    (λ new. cond_both (is_directory h p) _ _ (λ x. (client_file_path (record { event = e.File g p; answer = x } ∷ h) f ≡ client_file_path h f) ⊎ (setup_file h f ≡ false))
+    cond_both (is_in_use h g) _ _ (λ x. (setup_path (record { event = e.File g p; answer = x } ∷ h) f ≡ setup_path h f) ⊎ (setup_file h f ≡ false)) (λ _. inl refl)
+    (λ new. cond_both (is_directory h p) _ _ (λ x. (setup_path (record { event = e.File g p; answer = x } ∷ h) f ≡ setup_path h f) ⊎ (setup_file h f ≡ false))
     (λ _. at (g == f) refl (or_parts (is_directory h g) (setup_file h g) new).1)
     (λ _. inl refl))
   where
-    at : (b : Bool) → (g == f) ≡ b → setup_file h g ≡ false → (path h (cond b p (home h f)) ≡ client_file_path h f) ⊎ (setup_file h f ≡ false)
+    at : (b : Bool) → (g == f) ≡ b → setup_file h g ≡ false → (path h (cond b p (home h f)) ≡ setup_path h f) ⊎ (setup_file h f ≡ false)
     at true same new = inr (subst (λ k. setup_file h k ≡ false) (eqb-true g f same) new)
     at false other new = inl refl
 
 -- the file was unknown, or its path stays
-pub path_stays : (p : ℕ) (h : List Entry) (x : Event) (f : ℕ) → Housed h → (client_file_path (entry p h x ∷ h) f ≡ client_file_path h f) ⊎ (setup_file h f ≡ false)
+pub path_stays : (p : ℕ) (h : List Entry) (x : Event) (f : ℕ) → Housed h → (setup_path (entry p h x ∷ h) f ≡ setup_path h f) ⊎ (setup_file h f ≡ false)
 path_stays p h (e.Dir d q) f i = inl (dir_path h d q f i)
 path_stays p h (e.File g q) f i = file_stays h g q f
 path_stays p h _ f i = inl refl

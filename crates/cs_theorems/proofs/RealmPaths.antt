@@ -11,7 +11,7 @@ use Rattle.cs_snapctx.specs.Trees.{AreContexts, IsAcyclic, leads_up}
 use Rattle.cs_realms.proofs.Ups.{rule_holds}
 use Rattle.cs_laws.specs.declared.records.Record.{Record}
 use Rattle.cs_laws.specs.Context.{path_context}
-use Rattle.cs_laws.specs.Realms.{is_realm, own, realm_record}
+use Rattle.cs_laws.specs.Realms.{is_realm, own, realm_record, since_of}
 use Rattle.cs_theorems.proofs.Paths.{IsWay, Tree}
 
 -- the last records of the realms, ts, are those of the log's records, rs
@@ -21,11 +21,13 @@ pub record HasRealms (up : ℕ → List ℕ) (rs : List Record) (ts : List Realm
 -- the context along a way, by the log's records
 abbrev pub way_context : List Record → List ℕ → Context
 way_context rs [] = empty_context
-way_context rs (d ∷ ds) = if is_realm rs d then merged (own d rs).snaps [] (own d rs).seq (way_context rs ds) 1 else way_context rs ds
+way_context rs (d ∷ ds) =
+    if is_realm rs d then merged (own d rs).snaps [] (own d rs).seq (way_context rs ds) (since_of rs d) else way_context rs ds
 
 -- the record of a realm
 abbrev pub realm_of : (ℕ → List ℕ) → List Record → ℕ → RealmRecord
-realm_of up rs d = record { realm = d; parent = find (is_realm rs) (drop 1 (up d)); since = 1; own_seq = (own d rs).seq; own = (own d rs).snaps; prior = [] }
+realm_of up rs d =
+    record { realm = d; parent = find (is_realm rs) (drop 1 (up d)); since = since_of rs d; own_seq = (own d rs).seq; own = (own d rs).snaps; prior = [] }
 
 module _ (dir : ℕ → Bool) (up : ℕ → List ℕ) (rs : List Record) (ts : List RealmRecord) (tree : Tree dir up)
     (inside : (d : ℕ) → is_realm rs d ≡ true → dir d ≡ true) (i : HasRealms up rs ts) where
@@ -124,7 +126,7 @@ module _ (dir : ℕ → Bool) (up : ℕ → List ℕ) (rs : List Record) (ts : L
     where
       at : (b : Bool) → is_realm rs d ≡ b → unwrap_or (nearest ds) empty_context ≡ way_context rs ds
           → unwrap_or (option_and_then (λ k. context ts k) (cond b (Some d) (find (is_realm rs) ds))) empty_context
-          ≡ cond b (merged (own d rs).snaps [] (own d rs).seq (way_context rs ds) 1) (way_context rs ds)
+          ≡ cond b (merged (own d rs).snaps [] (own d rs).seq (way_context rs ds) (since_of rs d)) (way_context rs ds)
       at true here rest = ap (λ o. unwrap_or o empty_context) (realm_context d ds way.0 here) ∙ ap (λ c. under c (realm_of up rs d)) rest
       at false not rest = rest
 

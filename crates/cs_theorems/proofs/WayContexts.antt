@@ -8,9 +8,11 @@ use Rattle.cs_laws.specs.declared.records.Record.{Record}
 use Rattle.cs_laws.specs.declared.records.RecordBody.{RecordBody}
 use Rattle.cs_laws.specs.declared.records.RecordBody.TheVariants as bodies
 use Rattle.cs_laws.specs.Carried.{is_realm_change}
-use Rattle.cs_laws.specs.Realms.{Own, has_snap, is_realm, is_snap_of, own, own_after, own_then, number_of}
+use Rattle.cs_laws.specs.Realms.{Own, has_snap, is_realm, is_snap_of, own, own_after, own_then, number_of, since_of}
 use Rattle.cs_laws.specs.Standing.{greatest_number}
+use Rattle.cs_laws.specs.Made.{made_of, makes_dir}
 use Rattle.cs_theorems.proofs.RealmPaths.{way_context}
+use Rattle.cs_theorems.proofs.Logs.{MakesNoRealm, since_end}
 
 -- One directory
 
@@ -81,26 +83,29 @@ realm_more d rs r is =
 
 -- what a record does to a directory: nothing, or it gives its number
 abbrev pub Stays : ℕ → List Record → Record → Type 0
-Stays d rs r = (own d (rs ++ r ∷ []) ≡ own d rs) × (is_realm (rs ++ r ∷ []) d ≡ is_realm rs d)
+Stays d rs r =
+    (own d (rs ++ r ∷ []) ≡ own d rs) × (is_realm (rs ++ r ∷ []) d ≡ is_realm rs d) × (is_realm rs d ≡ true → since_of (rs ++ r ∷ []) d ≡ since_of rs d)
 
 abbrev pub Grows : ℕ → List Record → Record → Type 0
 Grows d rs r = ((own d (rs ++ r ∷ [])).seq ≡ number_of r.body) × (is_realm (rs ++ r ∷ []) d ≡ true)
 
 -- a record that changes no realm does nothing
-pub quiet_stays : (d : ℕ) (rs : List Record) (b : RecordBody) → is_realm_change b ≡ false → Stays d rs (record { body = b })
-quiet_stays d rs (bodies.Request tid op answer) quiet =
+pub quiet_stays : (d : ℕ) (rs : List Record) (b : RecordBody) → is_realm_change b ≡ false → (is_realm rs d ≡ true → makes_dir d (made_of b) ≡ false)
+    → Stays d rs (record { body = b })
+quiet_stays d rs (bodies.Request tid op answer) quiet none =
     let r : Record = record { body = bodies.Request tid op answer } in
-    (own_append d (record { seq = 0; snaps = [] }) rs r, realm_stays d rs r refl)
-quiet_stays d rs (bodies.Flush snap f tid follows meta) quiet =
+    (own_append d (record { seq = 0; snaps = [] }) rs r, realm_stays d rs r refl, λ is. since_end d 0 rs r (none is))
+quiet_stays d rs (bodies.Flush snap f tid follows meta) quiet none =
     let r : Record = record { body = bodies.Flush snap f tid follows meta } in
-    (own_append d (record { seq = 0; snaps = [] }) rs r, realm_stays d rs r refl)
-quiet_stays d rs (bodies.Snap n e name) quiet = absurd (true≢false quiet)
-quiet_stays d rs (bodies.Removal s n) quiet = absurd (true≢false quiet)
+    (own_append d (record { seq = 0; snaps = [] }) rs r, realm_stays d rs r refl, λ is. since_end d 0 rs r refl)
+quiet_stays d rs (bodies.Snap n e name) quiet none = absurd (true≢false quiet)
+quiet_stays d rs (bodies.Removal s n) quiet none = absurd (true≢false quiet)
 
-pub grown : (d : ℕ) (rs : List Record) (b : RecordBody) → Stays d rs (record { body = b }) ⊎ Grows d rs (record { body = b })
-grown d rs (bodies.Request tid op answer) = inl (quiet_stays d rs (bodies.Request tid op answer) refl)
-grown d rs (bodies.Flush snap f tid follows meta) = inl (quiet_stays d rs (bodies.Flush snap f tid follows meta) refl)
-grown d rs (bodies.Snap n e name) = at (e == d) refl
+pub grown : (d : ℕ) (rs : List Record) (b : RecordBody) → (is_realm rs d ≡ true → makes_dir d (made_of b) ≡ false)
+    → Stays d rs (record { body = b }) ⊎ Grows d rs (record { body = b })
+grown d rs (bodies.Request tid op answer) none = inl (quiet_stays d rs (bodies.Request tid op answer) refl none)
+grown d rs (bodies.Flush snap f tid follows meta) none = inl (quiet_stays d rs (bodies.Flush snap f tid follows meta) refl none)
+grown d rs (bodies.Snap n e name) none = at (e == d) refl
   where
     r : Record
     r = record { body = bodies.Snap n e name }
@@ -110,8 +115,9 @@ grown d rs (bodies.Snap n e name) = at (e == d) refl
       ap (λ (o : Own). o.seq) (own_append d (record { seq = 0; snaps = [] }) rs r ∙ cond-true (e == d) _ _ same),
       realm_append d rs r ∙ or_right (d == 1) _ (or_right (list_any (λ x. is_snap_of d x.body) rs) _ (or_left (e == d) false same)),
     )
-    at false other = inl (own_append d (record { seq = 0; snaps = [] }) rs r ∙ cond-false (e == d) _ _ other, realm_stays d rs r other)
-grown d rs (bodies.Removal s n) = at (has_snap s (own d rs)) refl
+    at false other =
+        inl (own_append d (record { seq = 0; snaps = [] }) rs r ∙ cond-false (e == d) _ _ other, realm_stays d rs r other, λ is. since_end d 0 rs r refl)
+grown d rs (bodies.Removal s n) none_made = at (has_snap s (own d rs)) refl
   where
     r : Record
     r = record { body = bodies.Removal s n }
@@ -121,17 +127,22 @@ grown d rs (bodies.Removal s n) = at (has_snap s (own d rs)) refl
       ap (λ (o : Own). o.seq) (own_append d (record { seq = 0; snaps = [] }) rs r ∙ cond-true (has_snap s (own d rs)) _ _ there),
       realm_stays d rs r refl ∙ has_realm d s rs there,
     )
-    at false none = inl (own_append d (record { seq = 0; snaps = [] }) rs r ∙ cond-false (has_snap s (own d rs)) _ _ none, realm_stays d rs r refl)
+    at false none = inl (
+      own_append d (record { seq = 0; snaps = [] }) rs r ∙ cond-false (has_snap s (own d rs)) _ _ none,
+      realm_stays d rs r refl,
+      λ is. since_end d 0 rs r refl,
+    )
 
 -- A way
 
 abbrev pub step_context : List Record → ℕ → Context → Context
-step_context rs d c = cond (is_realm rs d) (merged (own d rs).snaps [] (own d rs).seq c 1) c
+step_context rs d c = cond (is_realm rs d) (merged (own d rs).snaps [] (own d rs).seq c (since_of rs d)) c
 
 pub way_low : (rs : List Record) (ds : List ℕ) → (way_context rs ds).seq ≤ greatest_number rs
 way_low rs [] = omega arith
 way_low rs (d ∷ ds) =
-    cond_both (is_realm rs d) (merged (own d rs).snaps [] (own d rs).seq (way_context rs ds) 1) (way_context rs ds) (λ c. c.seq ≤ greatest_number rs)
+    cond_both (is_realm rs d) (merged (own d rs).snaps [] (own d rs).seq (way_context rs ds) (since_of rs d)) (way_context rs ds)
+    (λ c. c.seq ≤ greatest_number rs)
     (λ _. omega (arith, own_low d rs, way_low rs ds)) (λ _. way_low rs ds)
 
 pub greatest_more : (rs : List Record) (r : Record) → greatest_number (rs ++ r ∷ []) ≡ max (greatest_number rs) (number_of r.body)
@@ -139,19 +150,25 @@ greatest_more [] r = omega arith
 greatest_more (x ∷ rs) r = omega (arith, greatest_more rs r)
 
 pub same_step : (rs : List Record) (r : Record) (d : ℕ) (c : Context) → Stays d rs r → step_context (rs ++ r ∷ []) d c ≡ step_context rs d c
-same_step rs r d c (same, realm) =
-    ap (λ b. cond b (merged (own d (rs ++ r ∷ [])).snaps [] (own d (rs ++ r ∷ [])).seq c 1) c) realm
-    ∙ ap (λ (o : Own). cond (is_realm rs d) (merged o.snaps [] o.seq c 1) c) same
+same_step rs r d c (same, realm, since) =
+    ap (λ b. cond b (merged (own d (rs ++ r ∷ [])).snaps [] (own d (rs ++ r ∷ [])).seq c (since_of (rs ++ r ∷ []) d)) c) realm
+    ∙ (ap (λ (o : Own). cond (is_realm rs d) (merged o.snaps [] o.seq c (since_of (rs ++ r ∷ []) d)) c) same ∙ at (is_realm rs d) refl)
+  where
+    at : (b : Bool) → is_realm rs d ≡ b
+        → cond b (merged (own d rs).snaps [] (own d rs).seq c (since_of (rs ++ r ∷ []) d)) c
+        ≡ cond b (merged (own d rs).snaps [] (own d rs).seq c (since_of rs d)) c
+    at true is = ap (λ n. merged (own d rs).snaps [] (own d rs).seq c n) (since is)
+    at false not = refl
 
 pub way_stays : (rs : List Record) (r : Record) (ds : List ℕ) → ((d : ℕ) → Stays d rs r) → way_context (rs ++ r ∷ []) ds ≡ way_context rs ds
 way_stays rs r [] same = refl
 way_stays rs r (d ∷ ds) same = same_step rs r d (way_context (rs ++ r ∷ []) ds) (same d) ∙ ap (step_context rs d) (way_stays rs r ds same)
 
 -- the record's number is above all before
-pub way_grows : (rs : List Record) (r : Record) (ds : List ℕ) → greatest_number rs < number_of r.body
+pub way_grows : (rs : List Record) (r : Record) (ds : List ℕ) → greatest_number rs < number_of r.body → MakesNoRealm rs r.body
     → (way_context (rs ++ r ∷ []) ds ≡ way_context rs ds) ⊎ ((way_context (rs ++ r ∷ []) ds).seq ≡ number_of r.body)
-way_grows rs r [] up = inl refl
-way_grows rs r (d ∷ ds) up = at (grown d rs r.body) (way_grows rs r ds up)
+way_grows rs r [] up none = inl refl
+way_grows rs r (d ∷ ds) up none = at (grown d rs r.body (none d)) (way_grows rs r ds up none)
   where
     now : Context
     now = way_context (rs ++ r ∷ []) ds
@@ -164,8 +181,8 @@ way_grows rs r (d ∷ ds) up = at (grown d rs r.body) (way_grows rs r ds up)
     at (inl same) (inl rest) = inl (same_step rs r d now same ∙ ap (step_context rs d) rest)
     at (inl same) (inr rest) =
         inr (ap (λ (c : Context). c.seq) (same_step rs r d now same)
-        ∙ cond_both (is_realm rs d) (merged (own d rs).snaps [] (own d rs).seq now 1) now (λ c. c.seq ≡ number_of r.body)
+        ∙ cond_both (is_realm rs d) (merged (own d rs).snaps [] (own d rs).seq now (since_of rs d)) now (λ c. c.seq ≡ number_of r.body)
         (λ _. omega (arith, own_low d rs, rest)) (λ _. rest))
     at (inr (seq, realm)) rest =
-        inr (ap (λ (c : Context). c.seq) (cond-true (is_realm (rs ++ r ∷ []) d) (merged (own d (rs ++ r ∷ [])).snaps [] (own d (rs ++ r ∷ [])).seq now 1) now realm)
+        inr (ap (λ (c : Context). c.seq) (cond-true (is_realm (rs ++ r ∷ []) d) (merged (own d (rs ++ r ∷ [])).snaps [] (own d (rs ++ r ∷ [])).seq now (since_of (rs ++ r ∷ []) d)) now realm)
         ∙ omega (arith, seq, low))
