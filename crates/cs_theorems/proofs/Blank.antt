@@ -12,12 +12,12 @@ use Rattle.cs_laws.specs.declared.answers.Answer.{Answer}
 use Rattle.cs_laws.specs.declared.answers.Answer.TheVariants as a
 use Rattle.cs_laws.specs.declared.answers.Entry.{Entry}
 use Rattle.cs_laws.specs.CapSnaps.{CapSnap, has_writer, makes}
-use Rattle.cs_laws.specs.Events.{setup_file, setup_file_then}
 use Rattle.cs_laws.specs.History.{context, dirty, live, queued, sent, writes}
 use Rattle.cs_laws.specs.Image.{Write}
 use Rattle.cs_laws.specs.Journal.{entry}
+use Rattle.cs_laws.specs.ClientKnows.{client_knows}
 use Rattle.cs_theorems.proofs.Inversions.{ChmodIs, chmod_unknown, chmod_no_bit, chmod_snap, chmod_done, chmod_is, FlushIs, head_unknown, head_snap, head_clean, head_sent, flush_is, FirstIs, first_idle, first_cap, first_flush_ack, first_unsafe, first_safe, first_unlease, first_snap, first_is, FlushSnapsIs, flush_unknown, flush_none, flush_writing, flush_sent, flush_snaps_is, WriteIs, write_unknown, write_no_bit, write_past, wrote, write_is}
-use Rattle.cs_theorems.proofs.Known.{LiveAreKnown, known_then}
+use Rattle.cs_theorems.proofs.Known.{LiveAreKnown, client_before, client_grows}
 use Rattle.cs_theorems.proofs.Modes.{Change, changes}
 use Rattle.cs_theorems.proofs.Listed.{Each, each_end, each_nil, each_tail}
 use Rattle.cs_theorems.proofs.Uses.{named_is}
@@ -32,23 +32,15 @@ abbrev pub BlankAt : List Entry → ℕ → Type 0
 BlankAt h f = Blank (writes h f) (changes h f) (dirty h f) (queued h f)
 
 abbrev pub AllBlank : List Entry → Type 0
-AllBlank h = (f : ℕ) → setup_file h f ≡ false → BlankAt h f
+AllBlank h = (f : ℕ) → client_knows h f ≡ false → BlankAt h f
 
 -- one that is known isn't one that isn't
-pub apart : (h : List Entry) (g f : ℕ) → setup_file h g ≡ true → setup_file h f ≡ false → (g == f) ≡ false
+pub apart : (h : List Entry) (g f : ℕ) → client_knows h g ≡ true → client_knows h f ≡ false → (g == f) ≡ false
 apart h g f known unknown =
-    false_from_ne_true (g == f) (λ same. both_ways (setup_file h f) unknown (subst (λ k. setup_file h k ≡ true) (eqb-true g f same) known))
-
-made_before : (b was : Bool) → cond b true was ≡ false → was ≡ false
-made_before true was e = absurd cc
-made_before false was e = e
-
-pub unknown_before : (x : Event) (y : Answer) (f : ℕ) (was : Bool) → setup_file_then x y f was ≡ false → was ≡ false
-unknown_before (e.File g p) a.Made f was unknown = made_before (g == f) was unknown
-unknown_before _ _ f was unknown = unknown
+    false_from_ne_true (g == f) (λ same. both_ways (client_knows h f) unknown (subst (λ k. client_knows h k ≡ true) (eqb-true g f same) known))
 
 -- no reference to it lives
-pub none_live : (h : List Entry) (f : ℕ) → setup_file h f ≡ false → LiveAreKnown h → Each (λ r. (r.file == f) ≡ false) (live h)
+pub none_live : (h : List Entry) (f : ℕ) → client_knows h f ≡ false → LiveAreKnown h → Each (λ r. (r.file == f) ≡ false) (live h)
 none_live h f unknown known r m = apart h r.file f (known r m) unknown
 
 -- and so no writer
@@ -96,12 +88,15 @@ step_client : (h : List Entry) (x : Answer) → FirstIs h x → LiveAreKnown h �
 step_client h x first_idle known i = i
 step_client h x (first_cap g seq bits end q is) known i = i
 step_client h x (first_flush_ack g tid q is) known i = i
+step_client h x (first_unsafe tid o ttl q is) known i = λ f unknown. i f (client_before e.ToClient (a.Unsafe tid o) h f unknown)
+step_client h x (first_safe tid q is) known i = i
+step_client h x (first_unlease d name q is) known i = i
 step_client h x (first_snap number d now q is) known i = λ f unknown.
     let was : BlankAt h f = i f unknown in
     rw (makes_none f (context h f) (context (record { event = e.ToClient; answer = x } ∷ h) f) (live h) (dirty h f) (queued h f) (no_writer f (live h) (none_live h f unknown known)) was.dirty) was
 
 pub blank_step : (p : ℕ) (h : List Entry) (x : Event) → LiveAreKnown h → AllBlank h → AllBlank (entry p h x ∷ h)
-blank_step p h (e.File g d) known i = λ f unknown. i f (unknown_before (e.File g d) _ f (setup_file h f) unknown)
+blank_step p h (e.File g d) known i = λ f unknown. i f (client_before (e.File g d) _ h f unknown)
 blank_step p h (e.Write c name off bytes) known i = step_write h c name off bytes _ (write_is h c name off bytes) known i
 blank_step p h (e.Chmod c name mode) known i = step_chmod h c name mode _ (chmod_is h c name) known i
 blank_step p h (e.Flush g) known i = step_flush h g _ (flush_is h g) i
@@ -114,28 +109,29 @@ blank_first f unknown = record { writes = refl; changes = refl; dirty = refl; qu
 
 -- Each flush that was sent is of a known file.
 abbrev pub SentAreKnown : List Entry → Type 0
-SentAreKnown h = Each (λ x. setup_file h x.file ≡ true) (sent h)
+SentAreKnown h = Each (λ x. client_knows h x.file ≡ true) (sent h)
 
 sent_flush_snaps : (h : List Entry) (g : ℕ) (x : Answer) → FlushSnapsIs h g x → SentAreKnown h → SentAreKnown (record { event = e.FlushSnaps g; answer = x } ∷ h)
 sent_flush_snaps h g x flush_unknown i = i
 sent_flush_snaps h g x flush_none i = i
 sent_flush_snaps h g x flush_writing i = i
-sent_flush_snaps h g x (flush_sent y ys known is closed) i = each_end (λ z. setup_file h z.file ≡ true) (sent h) _ i known
+sent_flush_snaps h g x (flush_sent y ys known is closed) i = each_end (λ z. client_knows h z.file ≡ true) (sent h) _ i known
 
 sent_flush : (h : List Entry) (g : ℕ) (x : Answer) → FlushIs h g x → SentAreKnown h → SentAreKnown (record { event = e.Flush g; answer = x } ∷ h)
 sent_flush h g x head_unknown i = i
 sent_flush h g x head_snap i = i
 sent_flush h g x head_clean i = i
-sent_flush h g x (head_sent known free changed) i = each_end (λ z. setup_file h z.file ≡ true) (sent h) _ i known
+sent_flush h g x (head_sent known free changed) i = each_end (λ z. client_knows h z.file ≡ true) (sent h) _ i known
 
 pub sent_known_step : (p : ℕ) (h : List Entry) (x : Event) → SentAreKnown h → SentAreKnown (entry p h x ∷ h)
-sent_known_step p h (e.File g d) i = λ x m. known_then (e.File g d) _ x.file (setup_file h x.file) (i x m)
+sent_known_step p h (e.File g d) i = λ x m. client_grows (e.File g d) _ h x.file (i x m)
+sent_known_step p h e.ToClient i = λ x m. client_grows e.ToClient _ h x.file (i x m)
 sent_known_step p h (e.Flush g) i = sent_flush h g _ (flush_is h g) i
 sent_known_step p h (e.FlushSnaps g) i = sent_flush_snaps h g _ (flush_snaps_is h g) i
 sent_known_step p h _ i = i
 
 pub sent_known_first : SentAreKnown []
-sent_known_first = each_nil (λ x. setup_file [] x.file ≡ true)
+sent_known_first = each_nil (λ x. client_knows [] x.file ≡ true)
 
-pub none_sent : (h : List Entry) (f : ℕ) → setup_file h f ≡ false → SentAreKnown h → Each (λ x. x.file ≡ f → ⊥) (sent h)
-none_sent h f unknown known x m same = both_ways (setup_file h f) unknown (subst (λ k. setup_file h k ≡ true) same (known x m))
+pub none_sent : (h : List Entry) (f : ℕ) → client_knows h f ≡ false → SentAreKnown h → Each (λ x. x.file ≡ f → ⊥) (sent h)
+none_sent h f unknown known x m same = both_ways (client_knows h f) unknown (subst (λ k. client_knows h k ≡ true) same (known x m))

@@ -1,9 +1,9 @@
 -- The context of a file that the client knows changes only where a snapshot or a removal is told, and its seq rises then.
-use Rattle.std.proofs.Common.{◌≡◌, ◌⊎◌, refl, sym, ap, ◌∙◌, subst, ℕ, ◌<◌, ◌≤◌, ◌==◌, Bool, true, false, cond, nat_le, List, [], ◌∷◌, Option, Some, None, find, unwrap_or, inl, inr, ⊎_elim, arith}
+use Rattle.std.proofs.Common.{◌≡◌, ◌⊎◌, refl, sym, ap, ◌∙◌, subst, ℕ, ◌<◌, ◌≤◌, ◌==◌, Bool, true, false, cond, nat_le, List, [], ◌∷◌, Option, Some, None, find, unwrap_or, inl, inr, ⊎_elim, arith, ◌++◌, ◌||◌}
 use Rattle.std.specs.Option.{option_and_then, option_map}
-use Rattle.std.proofs.lemmas.Bool.{and_parts, both_ways, le-leb, leb-true, or_cases, or_left}
+use Rattle.std.proofs.lemmas.Bool.{and_parts, both_ways, le-leb, leb-true, or_cases, or_left, cases_Bool, cond_both, or_parts}
 use Rattle.cs_snapctx.specs.declared.realm.RealmRecord.{RealmRecord}
-use Rattle.cs_snapctx.specs.Context.{Context, empty_context}
+use Rattle.cs_snapctx.specs.Context.{Context, empty_context, merged}
 use Rattle.cs_snapctx.specs.Contexts.{context as realm_context, context_of}
 use Rattle.cs_snapctx.specs.Records.{is_known, root_record}
 use Rattle.cs_laws.specs.declared.events.Event.{Event}
@@ -14,50 +14,109 @@ use Rattle.cs_laws.specs.declared.answers.Entry.{Entry}
 use Rattle.cs_laws.specs.declared.messages.Message.{Message}
 use Rattle.cs_laws.specs.declared.messages.Message.TheVariants as messages
 use Rattle.cs_laws.specs.Context.{path_context, realms_then, with_first}
-use Rattle.cs_laws.specs.ClientKnows.{client_knows, client_file_path}
+use Rattle.cs_laws.specs.ClientKnows.{client_knows, client_file_path, client_home, client_made}
 use Rattle.cs_laws.specs.Events.{is_setup, setup_file}
-use Rattle.cs_laws.specs.History.{context, realms, to_client}
+use Rattle.cs_laws.specs.History.{context, realms, to_client, durable}
 use Rattle.cs_laws.specs.Journal.{entry}
 use Rattle.cs_laws.specs.Owed.{had_reached}
 use Rattle.cs_laws.specs.Runs.{CanFollow, all_setup}
 use Rattle.cs_theorems.specs.Contexts.{ContextsNeverFall, HadContext, Rises}
-use Rattle.cs_theorems.proofs.Linked.{told_rises}
-use Rattle.cs_theorems.proofs.Inversions.{FirstIs, first_idle, first_cap, first_flush_ack, first_unsafe, first_safe, first_unlease, first_snap, first_is}
-use Rattle.cs_theorems.proofs.Known.{known_then}
-use Rattle.cs_theorems.proofs.Paths.{path_stays}
+use Rattle.cs_theorems.proofs.Linked.{told_rises, log_realms}
+use Rattle.cs_theorems.proofs.Paths.{path_stays, IsWay, setup_path, setup_home}
 use Rattle.cs_theorems.proofs.Settings.{Setting}
+use Rattle.cs_theorems.proofs.Asks.{Asks, Goes, IsEarly}
+use Rattle.cs_theorems.proofs.Known.{client_grows}
+use Rattle.cs_theorems.proofs.Sides.{all_dir, all_made, all_path, all_tops, all_tree, client_file_way, used_by}
+use Rattle.cs_theorems.proofs.Trees.{Grown, grown_front, home_of_front, home_unmade}
+use Rattle.cs_theorems.proofs.Listed.{Member}
+use Rattle.cs_theorems.proofs.RealmPaths.{path_is_way, way_context}
+use Rattle.cs_theorems.proofs.Ways.{front_realm}
+use Rattle.cs_theorems.proofs.Inversions.{FirstIs, first_idle, first_cap, first_flush_ack, first_unsafe, first_safe, first_unlease, first_snap, first_is}
+use Rattle.cs_laws.specs.declared.requests.OpAnswer.{OpAnswer}
+use Rattle.cs_laws.specs.declared.records.Record.{Record}
+use Rattle.cs_laws.specs.Answers.{is_in_use}
+use Rattle.cs_laws.specs.Made.{Made, home_with, made_by, makes_file, path_with}
+use Rattle.cs_laws.specs.Realms.{is_realm, own, since_of}
+use Rattle.cs_laws.specs.Requests.{has_reply, op_of, replies, requests}
+use Rattle.cs_laws.specs.Tree.{home, is_directory, path}
 
 -- a snapshot or a removal is told
 pub told_moves : (h : List Entry) (n d : ℕ) (now : List RealmRecord) (q : List Message) (f : ℕ) → to_client h ≡ messages.Snap n d now ∷ q → Setting h
     → Rises (context h f) (path_context (client_file_path h f) (with_first (to_client h) (realms h)))
 told_moves h n d now q f there i = told_rises h n d now q there i.front f i.tree i.drawn
 
-goes_on_client : (h : List Entry) (f : ℕ) (x : Answer) → FirstIs h x → Setting h
-    → Rises (context h f) (context (record { event = e.ToClient; answer = x } ∷ h) f)
-goes_on_client h f x first_idle i = inl refl
-goes_on_client h f x (first_cap g seq bits end q there) i = inl refl
-goes_on_client h f x (first_flush_ack g tid q there) i = inl refl
-goes_on_client h f x (first_snap n d now q there) i = told_moves h n d now q f there i
+or_none : (b : Bool) → (b || false) ≡ b
+or_none true = refl
+or_none false = refl
 
 -- A file is made, or a directory: the context of another file stays.
-pub dir_stays : (p : ℕ) (h : List Entry) (d q f : ℕ) → Setting h → (context (entry p h (e.Dir d q) ∷ h) f ≡ context h f) ⊎ (setup_file h f ≡ false)
-dir_stays p h d q f i =
-    ⊎_elim (λ same. inl (ap (λ ps. path_context ps (realms h)) same)) (λ unknown. inr unknown) (path_stays p h (e.Dir d q) f i.housed)
 
-pub file_stays : (p : ℕ) (h : List Entry) (g q f : ℕ) → Setting h → (context (entry p h (e.File g q) ∷ h) f ≡ context h f) ⊎ (setup_file h f ≡ false)
-file_stays p h g q f i =
-    ⊎_elim (λ same. inl (ap (λ ps. path_context ps (realms h)) same)) (λ unknown. inr unknown) (path_stays p h (e.File g q) f i.housed)
+module _ (h : List Entry) (x : Entry) (f : ℕ) (early : IsEarly h) where
+  abbrev Same : List Made → Type 0
+  Same ms =
+      (path_context (path_with ms (λ d. path (x ∷ h) d) (home_with ms f (home (x ∷ h) f))) (realms h) ≡ path_context (path_with ms (λ d. path h d) (home_with ms f (home h f))) (realms h))
+      ⊎ ((setup_file h f || makes_file f ms) ≡ false)
 
-known_one : {A : Type 0} (h : List Entry) (f : ℕ) → setup_file h f ≡ true → A ⊎ (setup_file h f ≡ false) → A
+  early_stays : (setup_path (x ∷ h) f ≡ setup_path h f) ⊎ (setup_file h f ≡ false) → Same (client_made h)
+  early_stays stays =
+      subst Same (sym early.client)
+      (⊎_elim (λ same. inl (ap (λ ps. path_context ps (realms h)) same)) (λ unknown. inr (or_none (setup_file h f) ∙ unknown)) stays)
+
+pub dir_stays : (p : ℕ) (h : List Entry) (d q f : ℕ) → Goes p h (e.Dir d q) → Setting h
+    → (context (entry p h (e.Dir d q) ∷ h) f ≡ context h f) ⊎ (client_knows h f ≡ false)
+dir_stays p h d q f on i =
+    early_stays h (entry p h (e.Dir d q)) f (i.asks.later (on.can.setup refl)) (path_stays p h (e.Dir d q) f i.housed)
+
+pub file_stays : (p : ℕ) (h : List Entry) (g q f : ℕ) → Goes p h (e.File g q) → Setting h
+    → (context (entry p h (e.File g q) ∷ h) f ≡ context h f) ⊎ (client_knows h f ≡ false)
+file_stays p h g q f on i =
+    early_stays h (entry p h (e.File g q)) f (i.asks.later (on.can.setup refl)) (path_stays p h (e.File g q) f i.housed)
+
+-- An answer is delivered that makes a file or a directory: so does the context of a file that was known.
+module _ (h : List Entry) (tid : ℕ) (o : OpAnswer) (f : ℕ) (now : Asks (record { event = e.ToClient; answer = a.Unsafe tid o } ∷ h)) (i : Setting h) where
+  abbrev later : List Entry
+  later = record { event = e.ToClient; answer = a.Unsafe tid o } ∷ h
+
+  -- the file stays in its directory
+  home_stays : client_knows h f ≡ true → client_home later f ≡ client_home h f
+  home_stays known =
+      cond_both (has_reply tid (replies h)) (client_made h) (client_made h ++ made_by (op_of tid (requests h)) o)
+      (λ ms. ((more : List Made) × (all_made h ≡ ms ++ more)) → home_with ms f (home h f) ≡ client_home h f)
+      (λ _ _. refl)
+      (λ _ front. home_of_front (λ d. is_directory h d) (λ k. is_in_use h k) (client_made h) (made_by (op_of tid (requests h)) o) f (home h f)
+      (grown_front (λ d. is_directory h d) (λ k. is_in_use h k) (client_made h ++ made_by (op_of tid (requests h)) o) front.0
+      (subst (λ ms. Grown (λ d. is_directory h d) (λ k. is_in_use h k) ms) front.1 i.asks.grown))
+      (used_by h f known))
+      now.told
+
+  same_path : client_knows h f ≡ true → client_file_path later f ≡ client_file_path h f
+  same_path known =
+      client_file_way later i.housed now f ∙ (ap (λ d. all_path h d) (home_stays known) ∙ sym (client_file_way h i.housed i.asks f))
+
+  pub told_stays : (context later f ≡ context h f) ⊎ (client_knows h f ≡ false)
+  told_stays =
+      ⊎_elim (λ known. inl (ap (λ ps. path_context ps (realms h)) (same_path known))) (λ unknown. inr unknown) (cases_Bool (client_knows h f))
+
+known_one : {A : Type 0} (h : List Entry) (f : ℕ) → client_knows h f ≡ true → A ⊎ (client_knows h f ≡ false) → A
 known_one h f known (inl is) = is
-known_one h f known (inr unknown) = absurd (both_ways (setup_file h f) unknown known)
+known_one h f known (inr unknown) = absurd (both_ways (client_knows h f) unknown known)
 
-pub goes_on : (p : ℕ) (h : List Entry) (x : Event) (f : ℕ) → Setting h → client_knows h f ≡ true
+goes_on_client : (p : ℕ) (h : List Entry) (f : ℕ) (x : Answer) → FirstIs h x → Asks (record { event = e.ToClient; answer = x } ∷ h) → Setting h → client_knows h f ≡ true
+    → Rises (context h f) (context (record { event = e.ToClient; answer = x } ∷ h) f)
+goes_on_client p h f x first_idle now i known = inl refl
+goes_on_client p h f x (first_cap g seq bits end q there) now i known = inl refl
+goes_on_client p h f x (first_flush_ack g tid q there) now i known = inl refl
+goes_on_client p h f x (first_unsafe tid o ttl q there) now i known = inl (known_one h f known (told_stays h tid o f now i))
+goes_on_client p h f x (first_safe tid q there) now i known = inl refl
+goes_on_client p h f x (first_unlease d name q there) now i known = inl refl
+goes_on_client p h f x (first_snap n d told q there) now i known = told_moves h n d told q f there i
+
+pub goes_on : (p : ℕ) (h : List Entry) (x : Event) (f : ℕ) → Goes p h x → Setting h → client_knows h f ≡ true
     → Rises (context h f) (context (entry p h x ∷ h) f)
-goes_on p h (e.Dir d q) f i known = inl (known_one h f known (dir_stays p h d q f i))
-goes_on p h (e.File g q) f i known = inl (known_one h f known (file_stays p h g q f i))
-goes_on p h e.ToClient f i known = goes_on_client h f _ (first_is h) i
-goes_on p h _ f i known = inl refl
+goes_on p h (e.Dir d q) f on i known = inl (known_one h f known (dir_stays p h d q f on i))
+goes_on p h (e.File g q) f on i known = inl (known_one h f known (file_stays p h g q f on i))
+goes_on p h e.ToClient f on i known = goes_on_client p h f _ (first_is h) on.now i known
+goes_on p h _ f on i known = inl refl
 
 -- What a file's context had reached
 
@@ -90,12 +149,60 @@ seq_stays : (old new : Context) → Rises old new → old.seq ≤ new.seq
 seq_stays old new (inl same) = omega (arith, ap (λ (c : Context). c.seq) same)
 seq_stays old new (inr up) = omega arith
 
+-- A file that isn't known has the root's context; once it is known it has that of its directory, whose seq is no less.
+
+-- along a way from any directory on it
+way_from : (up : ℕ → List ℕ) (us : List Record) (ds : List ℕ) (x : ℕ) → IsWay up ds → Member x ds → (way_context us (up x)).seq ≤ (way_context us ds).seq
+way_from up us [] x way m = absurd m
+way_from up us (d ∷ ds) x way (inl same) = subst (λ k. (way_context us (up k)).seq ≤ (way_context us (d ∷ ds)).seq) same (omega (arith, ap (λ ps. (way_context us ps).seq) way.0))
+way_from up us (d ∷ ds) x way (inr m) =
+    cond_both (is_realm us d) (merged (own d us).snaps [] (own d us).seq (way_context us ds) (since_of us d)) (way_context us ds)
+    (λ c. (way_context us (up x)).seq ≤ c.seq)
+    (λ _. omega (arith, way_from up us ds x way.1 m)) (λ _. way_from up us ds x way.1 m)
+
+unknown_home : (h : List Entry) (f : ℕ) → client_knows h f ≡ false → client_home h f ≡ 1
+unknown_home h f unknown =
+    let parts = or_parts (setup_file h f) (makes_file f (client_made h)) unknown in
+    home_unmade (client_made h) f (home h f) parts.1 ∙ setup_home h f parts.0
+
+unknown_low : (h : List Entry) (tid : ℕ) (o : OpAnswer) (f : ℕ) → Asks (record { event = e.ToClient; answer = a.Unsafe tid o } ∷ h) → Setting h → client_knows h f ≡ false
+    → (context h f).seq ≤ (context (record { event = e.ToClient; answer = a.Unsafe tid o } ∷ h) f).seq
+unknown_low h tid o f now i unknown =
+    let later : List Entry = record { event = e.ToClient; answer = a.Unsafe tid o } ∷ h in
+    let tree = all_tree h i.tree i.asks in
+    let link = i.front.told.link in
+    let inside : (d : ℕ) → is_realm link.front d ≡ true → all_dir h d ≡ true = λ d is. log_realms h i.asks i.front d (front_realm link.front (durable h) d link.whole is) in
+    let old : client_file_path h f ≡ all_path h 1 = client_file_way h i.housed i.asks f ∙ ap (λ d. all_path h d) (unknown_home h f unknown) in
+    let new : client_file_path later f ≡ all_path h (client_home later f) = client_file_way later i.housed now f in
+    let at_old : context h f ≡ way_context link.front (all_path h 1)
+    = ap (λ ps. path_context ps (realms h)) old
+    ∙ path_is_way (λ d. all_dir h d) (λ d. all_path h d) link.front (realms h) tree inside link.has (all_path h 1) (tree.ways 1) in
+    let at_new : context later f ≡ way_context link.front (all_path h (client_home later f))
+    = ap (λ ps. path_context ps (realms h)) new
+    ∙ path_is_way (λ d. all_dir h d) (λ d. all_path h d) link.front (realms h) tree inside link.has (all_path h (client_home later f)) (tree.ways (client_home later f)) in
+    omega (arith, ap (λ (c : Context). c.seq) at_old, ap (λ (c : Context). c.seq) at_new,
+    way_from (λ d. all_path h d) link.front (all_path h (client_home later f)) 1 (tree.ways (client_home later f)) (all_tops h (client_home later f)))
+
 -- known or not
-seq_grows : (p : ℕ) (h : List Entry) (x : Event) → CanFollow h x → Setting h → (f : ℕ) → (context h f).seq ≤ (context (entry p h x ∷ h) f).seq
-seq_grows p h (e.Dir d q) can i f = let none = setup_seq h f (can.setup refl) in omega arith
-seq_grows p h (e.File g q) can i f = let none = setup_seq h f (can.setup refl) in omega arith
-seq_grows p h e.ToClient can i f = seq_stays _ _ (goes_on_client h f _ (first_is h) i)
-seq_grows p h _ can i f = omega arith
+seq_told : (p : ℕ) (h : List Entry) (f : ℕ) (x : Answer) → FirstIs h x → Asks (record { event = e.ToClient; answer = x } ∷ h) → Setting h
+    → (context h f).seq ≤ (context (record { event = e.ToClient; answer = x } ∷ h) f).seq
+seq_told p h f x first_idle now i = omega arith
+seq_told p h f x (first_cap g seq bits end q there) now i = omega arith
+seq_told p h f x (first_flush_ack g tid q there) now i = omega arith
+seq_told p h f x (first_unsafe tid o ttl q there) now i =
+    ⊎_elim
+    (λ same. omega (arith, ap (λ (c : Context). c.seq) same))
+    (λ unknown. unknown_low h tid o f now i unknown)
+    (told_stays h tid o f now i)
+seq_told p h f x (first_safe tid q there) now i = omega arith
+seq_told p h f x (first_unlease d name q there) now i = omega arith
+seq_told p h f x (first_snap n d told q there) now i = seq_stays _ _ (told_moves h n d told q f there i)
+
+seq_grows : (p : ℕ) (h : List Entry) (x : Event) → Goes p h x → Setting h → (f : ℕ) → (context h f).seq ≤ (context (entry p h x ∷ h) f).seq
+seq_grows p h (e.Dir d q) on i f = let none = setup_seq h f (on.can.setup refl) in omega arith
+seq_grows p h (e.File g q) on i f = let none = setup_seq h f (on.can.setup refl) in omega arith
+seq_grows p h e.ToClient on i f = seq_told p h f _ (first_is h) on.now i
+seq_grows p h _ on i f = omega arith
 
 abbrev pub AllReached : List Entry → Type 0
 AllReached h = (f s : ℕ) → had_reached h f s ≡ true → s ≤ (context h f).seq
@@ -103,11 +210,11 @@ AllReached h = (f s : ℕ) → had_reached h f s ≡ true → s ≤ (context h f
 pub reached_first : AllReached []
 reached_first f s is = leb-true s (context [] f).seq is
 
-pub reached_step : (p : ℕ) (h : List Entry) (x : Event) → CanFollow h x → Setting h → AllReached h → AllReached (entry p h x ∷ h)
-reached_step p h x can setting i f s is =
+pub reached_step : (p : ℕ) (h : List Entry) (x : Event) → Goes p h x → Setting h → AllReached h → AllReached (entry p h x ∷ h)
+reached_step p h x on setting i f s is =
     ⊎_elim
     (λ now. leb-true s (context (entry p h x ∷ h) f).seq now)
-    (λ was. omega (arith, i f s was, seq_grows p h x can setting f))
+    (λ was. omega (arith, i f s was, seq_grows p h x on setting f))
     (or_cases (nat_le s (context (entry p h x ∷ h) f).seq) (had_reached h f s) is)
 
 -- what it has now it had reached
@@ -136,7 +243,7 @@ earlier_then c old new on i = ⊎_elim (λ same. rw same i) (λ up. risen c old 
 pub had_known : (h : List Entry) (f : ℕ) (c : Context) → HadContext h f c → client_knows h f ≡ true
 had_known [] f c had = absurd had
 had_known (x ∷ h) f c (inl now) = now.0
-had_known (x ∷ h) f c (inr had) = known_then x.event x.answer f (setup_file h f) (had_known h f c had)
+had_known (x ∷ h) f c (inr had) = client_grows x.event x.answer h f (had_known h f c had)
 
 -- each context that a file had is such a one
 pub had_earlier : (h : List Entry) (f : ℕ) → ContextsNeverFall h → (c : Context) → HadContext h f c → IsEarlier c (context h f)

@@ -42,6 +42,8 @@ pub mod Ways
 pub mod Fronts
 pub mod Trees
 pub mod Asked
+pub mod Asks
+pub mod Sides
 pub mod Links
 pub mod Sent
 pub mod Along

@@ -1,63 +1,81 @@
 -- The same at each entry of a journal of today's events, where nothing is lost.
-use Rattle.std.proofs.Common.{◌≡◌, refl, sym, ap, ◌∙◌, subst, ℕ, ◌==◌, ◌||◌, Bool, true, false, cond, List, [], ◌∷◌, ◌++◌, drop, None}
+use Rattle.std.proofs.Common.{◌≡◌, refl, sym, ap, ◌∙◌, subst, ℕ, ◌==◌, ◌||◌, ◌&&◌, Bool, true, false, cond, List, [], ◌∷◌, ◌++◌, append_assoc, drop, Option, Some, None, unwrap_or, ⊎_elim}
 use Rattle.std.specs.List.{cons_option}
-use Rattle.std.proofs.lemmas.Bool.{cond_both, or_parts}
+use Rattle.std.proofs.lemmas.Bool.{and_parts, both_ways, cond_both, eqb-true, or_cases, or_left, or_parts}
 use Rattle.std.proofs.lemmas.List.{append-nil}
+use Rattle.std.proofs.lemmas.Grind.{flat_map-append}
 use Rattle.std.proofs.lemmas.List.Elements.{filter_map-append}
 use Rattle.cs_bits.specs.declared.Caps.{Caps}
 use Rattle.cs_parts.specs.Capabilities.{granted, revoked}
 use Rattle.cs_snapctx.specs.declared.realm.RealmRecord.{RealmRecord}
-use Rattle.cs_snapctx.specs.Records.{record_of}
+use Rattle.cs_snapctx.specs.Records.{record_of, with_records}
 use Rattle.cs_laws.specs.declared.events.Event.{Event}
 use Rattle.cs_laws.specs.declared.events.Event.TheVariants as e
 use Rattle.cs_laws.specs.declared.answers.Answer.{Answer}
+use Rattle.cs_laws.specs.declared.answers.Answer.TheVariants as a
 use Rattle.cs_laws.specs.declared.answers.Entry.{Entry}
 use Rattle.cs_laws.specs.declared.messages.Message.{Message}
 use Rattle.cs_laws.specs.declared.messages.Message.TheVariants as messages
 use Rattle.cs_laws.specs.declared.records.Record.{Record}
+use Rattle.cs_laws.specs.declared.records.RecordBody.TheVariants as bodies
+use Rattle.cs_laws.specs.declared.requests.OpAnswer.{OpAnswer}
+use Rattle.cs_laws.specs.declared.requests.OpAnswer.TheVariants as replies
+use Rattle.cs_laws.specs.declared.requests.ReqOp.{ReqOp}
 use Rattle.cs_laws.specs.Answers.{answer_made, is_in_use}
+use Rattle.cs_laws.specs.Carried.{realms_of, realms_on}
+use Rattle.cs_laws.specs.ClientKnows.{client_file_path, client_home}
 use Rattle.cs_laws.specs.Context.{with_first, path_context}
 use Rattle.cs_laws.specs.Events.{setup_file}
-use Rattle.cs_laws.specs.Flight.{acked_again, cap_message}
+use Rattle.cs_laws.specs.Flight.{acked_again, answered_again, cap_message, unsafe_message}
 use Rattle.cs_laws.specs.Flushes.{flush_record}
-use Rattle.cs_laws.specs.History.{context, durable, fresh, last_sent, realms, server, to_client}
+use Rattle.cs_laws.specs.History.{context, durable, fresh, last_sent, realms, server, stand, to_client, to_server}
 use Rattle.cs_laws.specs.Journal.{entry}
-use Rattle.cs_laws.specs.Realms.{is_realm}
-use Rattle.cs_laws.specs.Standing.{has_flush, news, recorded, sent_with}
-use Rattle.cs_laws.specs.Carried.{realms_on}
-use Rattle.cs_laws.specs.ClientKnows.{client_file_path, client_home}
-use Rattle.cs_laws.specs.Tree.{directories, is_directory, path, setup_dir}
-use Rattle.cs_theorems.specs.Realms.{ParentsAreKnown}
-use Rattle.cs_theorems.proofs.Drawn.{DrawnAt}
-use Rattle.cs_theorems.proofs.Fronts.{OfDir, of_more, realm_dir, root_has}
-use Rattle.cs_theorems.proofs.Inversions.{FirstIs, first_idle, first_cap, first_flush_ack, first_unsafe, first_safe, first_unlease, first_snap, first_is, GrantIs, grant_unknown, grant_sent, grant_is, ReceivedIs, received_idle, received_ack, received_flush, received_again, received_req, received_req_again, received_is, RemoveIs, remove_none, remove_gone, removed, remove_is, revoke_is, SnapIs, snap_unknown, snap_exists, snap_taken, snap_is}
-use Rattle.cs_theorems.proofs.Listed.{Each, each_append, each_end, each_nil}
-use Rattle.cs_theorems.proofs.Listing.{ListingAt}
-use Rattle.cs_theorems.proofs.Paths.{TreeAt, still_dir, with_path}
-use Rattle.cs_theorems.proofs.Standing.{recorded_one}
+use Rattle.cs_laws.specs.Made.{Made, is_made_dir, made_by, made_in, made_of, makes_dir, path_with}
+use Rattle.cs_laws.specs.Names.{names, setup_names}
+use Rattle.cs_laws.specs.Namespace.{answer_on}
+use Rattle.cs_laws.specs.Realms.{differing, is_realm, realm_record, realm_records}
+use Rattle.cs_laws.specs.ServerKnows.{server_dir, server_dirs, server_made, server_path}
+use Rattle.cs_laws.specs.Standing.{answer_kept, has_flush, has_request, news, news_of, news_on, recorded, requested, sent_with}
+use Rattle.cs_laws.specs.Tree.{is_directory, path, setup_dir}
+use Rattle.cs_theorems.specs.Asked.{asked, asked_made, stage}
 use Rattle.cs_theorems.specs.Contexts.{Rises}
+use Rattle.cs_theorems.specs.Realms.{ParentsAreKnown}
 use Rattle.cs_theorems.proofs.Along.{Along, along_first, context_rises, delivers, makes, realms_made}
+use Rattle.cs_theorems.proofs.Asked.{made_append}
+use Rattle.cs_theorems.proofs.Asks.{Asks, Goes, IsEarly}
 use Rattle.cs_theorems.proofs.Commits.{Told, told_commit}
+use Rattle.cs_theorems.proofs.Drawn.{DrawnAt}
+use Rattle.cs_theorems.proofs.Fronts.{root_has}
+use Rattle.cs_theorems.proofs.Inversions.{FirstIs, first_idle, first_cap, first_flush_ack, first_unsafe, first_safe, first_unlease, first_snap, first_is, GrantIs, grant_unknown, grant_sent, grant_is, ReceivedIs, received_idle, received_ack, received_flush, received_again, received_req, received_req_again, received_is, RemoveIs, remove_none, remove_gone, removed, remove_is, revoke_is, SnapIs, snap_unknown, snap_exists, snap_taken, snap_is, UnleaseIs, unlease_unknown, unlease_sent, unlease_is}
 use Rattle.cs_theorems.proofs.Links.{carried}
-use Rattle.cs_theorems.proofs.Ways.{draws_front}
+use Rattle.cs_theorems.proofs.Listed.{Each, Member, each_tail}
+use Rattle.cs_theorems.proofs.Listing.{Listing, ListingAt}
+use Rattle.cs_theorems.proofs.Logs.{GoodLog, GoodRecord, dirs_after, good_end, good_front, realm_dir}
+use Rattle.cs_theorems.proofs.Paths.{Housed, IsWay, TreeAt, still_dir, with_path}
+use Rattle.cs_theorems.proofs.Sent.{same_on}
+use Rattle.cs_theorems.proofs.Sides.{all_dir, all_made, all_path, all_tree, client_file_way, log_dirs, named_dirs, server_front, server_in, server_listing, server_way, setup_used}
+use Rattle.cs_theorems.proofs.Standing.{recorded_one}
+use Rattle.cs_theorems.proofs.Trees.{AreUsed, Grown, all_are_used, dirs_are, dirs_of, grown_behind, listing_paths, more_are_used, more_dirs, more_used, not_dir, paths_append, used_of}
+use Rattle.cs_theorems.proofs.Ways.{draws_front, front_realm}
 
--- dir, up: which are directories, and their paths; ss: the realm records that were sent last; ts: the client's; q: the messages
--- to it; all, fs: the durable records and the others
+-- dir: the directories of the setup lines; up: the path of each directory that was ever asked for; ss: the realm records that were sent
+-- last; ts: the client's; q: the messages to it; all, fs: the durable records and the others
 pub record Linked (dir : ℕ → Bool) (up : ℕ → List ℕ) (ss ts : List RealmRecord) (q : List Message) (all fs : List Record) : Type 0 where
   pub told : Told up ss ts (carried q) all
-  pub durable : Each (λ r. OfDir dir r.body) all
-  pub fresh : Each (λ r. OfDir dir r.body) fs
+  pub good : GoodLog dir (all ++ fs)
 
 abbrev pub LinkedAt : List Entry → Type 0
-LinkedAt h = Linked (λ d. is_directory h d) (λ d. path h d) (last_sent h) (realms h) (to_client h) (durable h) (fresh h)
+LinkedAt h = Linked (λ d. is_directory h d) (λ d. all_path h d) (last_sent h) (realms h) (to_client h) (durable h) (fresh h)
 
 module _ (dir : ℕ → Bool) (up : ℕ → List ℕ) (ss ts : List RealmRecord) (all : List Record) where
   -- the messages that carry no records may be any
   linked_message : (p q : List Message) (fs : List Record) → carried p ≡ carried q → Linked dir up ss ts q all fs → Linked dir up ss ts p all fs
-  linked_message p q fs same i = record { told = subst (λ xs. Told up ss ts xs all) (sym same) i.told; durable = i.durable; fresh = i.fresh }
+  linked_message p q fs same i = record { told = subst (λ xs. Told up ss ts xs all) (sym same) i.told; good = i.good }
 
-  linked_record : (q : List Message) (fs : List Record) (r : Record) → OfDir dir r.body → Linked dir up ss ts q all fs → Linked dir up ss ts q all (fs ++ r ∷ [])
-  linked_record q fs r of i = record { told = i.told; durable = i.durable; fresh = each_end (λ x. OfDir dir x.body) fs r i.fresh of }
+  linked_record : (q : List Message) (fs : List Record) (r : Record) → GoodRecord (dirs_after (all ++ fs) dir) r.body → Linked dir up ss ts q all fs
+      → Linked dir up ss ts q all (fs ++ r ∷ [])
+  linked_record q fs r of i =
+      record { told = i.told; good = subst (λ rs. GoodLog dir rs) (append_assoc all fs (r ∷ [])) (good_end dir (all ++ fs) r i.good of) }
 
 linked_end : (q : List Message) (m : Message) → realms_on m ≡ None → carried (q ++ m ∷ []) ≡ carried q
 linked_end q m none = filter_map-append realms_on q (m ∷ []) ∙ (ap (λ o. carried q ++ cons_option o []) none ∙ append-nil (carried q))
@@ -68,44 +86,183 @@ linked_again q f tid ds =
     cond_both (has_flush f tid ds) _ _ (λ p. carried (q ++ p) ≡ carried q)
     (λ _. linked_end q (messages.FlushAck f tid) refl) (λ _. ap carried (append-nil q))
 
-linked_commit : (p : ℕ) (h : List Entry) → ListingAt h → LinkedAt h → LinkedAt (entry p h e.Commit ∷ h)
-linked_commit p h listing i = record {
-  told = subst (λ xs. Told (λ d. path h d) (sent_with told_now (last_sent h)) (realms h) xs (durable h ++ fresh h)) (sym (filter_map-append realms_on (to_client h) told_now))
-      (told_commit (λ d. path h d) (directories h) (realms h) (last_sent h) (carried (to_client h)) (durable h) (fresh h)
-      (λ d is. listing.listed d (realm_dir (λ k. is_directory h k) (durable h ++ fresh h) d refl all is)) listing.first i.told);
-  durable = all;
-  fresh = each_nil (λ r. OfDir (λ d. is_directory h d) r.body);
+-- and the answer to a request that did
+linked_answered : (q : List Message) (tid : ℕ) (o : OpAnswer) (ds : List Record) → carried (q ++ answered_again tid o ds) ≡ carried q
+linked_answered q tid o ds =
+    filter_map-append realms_on q (answered_again tid o ds)
+    ∙ cond_both (has_request tid ds) _ _ (λ p. (carried q ++ carried (messages.Unsafe tid o 0 ∷ p)) ≡ carried q)
+    (λ _. append-nil (carried q)) (λ _. append-nil (carried q))
+
+-- A directory is made
+
+-- inside: each realm is a directory
+linked_one : (base dir : ℕ → Bool) (up : ℕ → List ℕ) (e p : ℕ) (ss ts : List RealmRecord) (q : List Message) (all fs : List Record) → dir e ≡ false
+    → ((k : ℕ) → is_realm all k ≡ true → dir k ≡ true) → (b : Bool) → Linked base up ss ts q all fs
+    → Linked base (λ d. cond (b && (e == d)) (e ∷ up p) (up d)) ss ts q all fs
+linked_one base dir up e p ss ts q all fs new inside true i = record {
+  told = record {
+    link = makes dir up e p (λ k. record_of k ss) ts (carried q) all new inside i.told.link;
+    sent = record { has = λ k. i.told.sent.has k ∙ sym (ap (λ g. g k) (realms_made dir up e p all new inside)) };
+  };
+  good = i.good;
 }
-  where
-    told_now : List Message
-    told_now = news (λ d. path h d) (directories h) (last_sent h) (durable h) (fresh h)
+linked_one base dir up e p ss ts q all fs new inside false i = i
 
-    all : Each (λ r. OfDir (λ d. is_directory h d) r.body) (durable h ++ fresh h)
-    all = each_append (λ r. OfDir (λ d. is_directory h d) r.body) (durable h) (fresh h) i.durable i.fresh
+linked_made : (base dir used : ℕ → Bool) (ms : List Made) (up : ℕ → List ℕ) (ss ts : List RealmRecord) (q : List Message) (all fs : List Record) → AreUsed dir used
+    → Grown dir used ms → ((k : ℕ) → is_realm all k ≡ true → dir k ≡ true) → Linked base up ss ts q all fs
+    → Linked base (λ d. path_with ms up d) ss ts q all fs
+linked_made base dir used [] up ss ts q all fs in_use grown inside i = i
+linked_made base dir used (m ∷ ms) up ss ts q all fs in_use grown inside i =
+    linked_made base (λ d. more_dirs m dir d) (λ k. more_used m used k) ms _ ss ts q all fs (more_are_used m dir used in_use) grown.2
+    (λ k is. or_left (dir k) _ (inside k is))
+    (linked_one base dir up m.ino m.dir ss ts q all fs (not_dir dir used m.ino in_use grown.0) inside m.is_dir i)
 
--- a directory is made
-linked_dir : (dir more : ℕ → Bool) (up : ℕ → List ℕ) (d p : ℕ) (ss ts : List RealmRecord) (q : List Message) (all fs : List Record) → dir d ≡ false → dir 1 ≡ true
-    → ((k : ℕ) → dir k ≡ true → more k ≡ true) → Linked dir up ss ts q all fs → Linked more (with_path up d p) ss ts q all fs
-linked_dir dir more up d p ss ts q all fs new root grows i =
-    let in_all : (k : ℕ) → is_realm all k ≡ true → dir k ≡ true = λ k is. realm_dir dir all k root i.durable is in
-    record {
-      told = record {
-        link = makes dir up d p (λ k. record_of k ss) ts (carried q) all new in_all i.told.link;
-        sent = record { has = λ k. i.told.sent.has k ∙ sym (ap (λ g. g k) (realms_made dir up d p all new in_all)) };
-      };
-      durable = λ r m. of_more dir more grows r.body (i.durable r m);
-      fresh = λ r m. of_more dir more grows r.body (i.fresh r m);
-    }
+-- Setup lines
 
--- Steps
+module _ (h : List Entry) (d p : ℕ) (new : is_directory h d ≡ false) (early : IsEarly h) (i : LinkedAt h) where
+  abbrev more : ℕ → Bool
+  more k = (k == 1) || cond (d == k) true (setup_dir h k)
 
-step_dir : (h : List Entry) (d p : ℕ) → LinkedAt h → LinkedAt (record { event = e.Dir d p; answer = answer_made h d p } ∷ h)
-step_dir h d p i =
+  abbrev Before : List Made → List Record → List Record → Type 0
+  Before ms ds fs = Linked (λ k. is_directory h k) (λ k. path_with ms (λ j. path h j) k) (last_sent h) (realms h) (to_client h) ds fs
+
+  abbrev After : List Made → List Record → List Record → Type 0
+  After ms ds fs = Linked more (λ k. path_with ms (λ j. with_path (λ g. path h g) d p j) k) (last_sent h) (realms h) (to_client h) ds fs
+
+  none_made : all_made h ≡ []
+  none_made = ap asked_made early.asked
+
+  only_root : (k : ℕ) → is_realm [] k ≡ true → is_directory h k ≡ true
+  only_root k is = ⊎_elim (λ root. or_left (k == 1) _ root) (λ none. absurd (both_ways false refl none)) (or_cases (k == 1) false is)
+
+  at_none : Before [] [] [] → After [] [] []
+  at_none j = record {
+    told = (linked_one (λ k. is_directory h k) (λ k. is_directory h k) (λ k. path h k) d p (last_sent h) (realms h) (to_client h) [] [] new only_root true j).told;
+    good = tt;
+  }
+
+  linked_dir : After (all_made h) (durable h) (fresh h)
+  linked_dir =
+      subst (λ ms. After ms (durable h) (fresh h)) (sym none_made)
+      (subst (λ ds. After [] ds (fresh h)) (sym early.durable)
+      (subst (λ fs. After [] [] fs) (sym early.fresh)
+      (at_none
+      (subst (λ fs. Before [] [] fs) early.fresh
+      (subst (λ ds. Before [] ds (fresh h)) early.durable
+      (subst (λ ms. Before ms (durable h) (fresh h)) none_made i))))))
+
+step_dir : (h : List Entry) (d p : ℕ) → IsEarly h → LinkedAt h → LinkedAt (record { event = e.Dir d p; answer = answer_made h d p } ∷ h)
+step_dir h d p early i =
     cond_both (is_in_use h d) _ _ (λ x. LinkedAt (record { event = e.Dir d p; answer = x } ∷ h)) (λ _. i)
     (λ new. cond_both (is_directory h p) _ _ (λ x. LinkedAt (record { event = e.Dir d p; answer = x } ∷ h))
-    (λ _. linked_dir (λ k. is_directory h k) (λ k. (k == 1) || cond (d == k) true (setup_dir h k)) (λ k. path h k) d p (last_sent h) (realms h) (to_client h) (durable h) (fresh h)
-    (or_parts (is_directory h d) (setup_file h d) new).0 refl (λ k is. still_dir d k (setup_dir h k) is) i)
+    (λ _. linked_dir h d p (or_parts (is_directory h d) (setup_file h d) new).0 early i)
     (λ _. i))
+
+-- Requests
+
+-- each realm of the log is a directory that was asked for
+pub log_realms : (h : List Entry) → Asks h → LinkedAt h → (k : ℕ) → is_realm (durable h) k ≡ true → all_dir h k ≡ true
+log_realms h asks i k is =
+    server_in h asks k
+    (sym (log_dirs h k) ∙ realm_dir (λ j. is_directory h j) (stand h) k refl i.good (front_realm (durable h) (stand h) k (fresh h, refl) is))
+
+step_req : (h : List Entry) (c : ℕ) (op : ReqOp) (tid : ℕ) → Asks h → Asks (record { event = e.Req c op; answer = a.Sent tid } ∷ h) → LinkedAt h
+    → LinkedAt (record { event = e.Req c op; answer = a.Sent tid } ∷ h)
+step_req h c op tid asks now i =
+    subst (λ u. Linked (λ d. is_directory h d) u (last_sent h) (realms h) (to_client h) (durable h) (fresh h)) (λ j d. same d j)
+    (linked_made (λ d. is_directory h d) (λ d. all_dir h d) (λ k. used_of (all_made h) (λ l. is_in_use h l) k) more (λ d. all_path h d) (last_sent h) (realms h)
+    (to_client h) (durable h) (fresh h) (all_are_used (all_made h) (λ d. is_directory h d) (λ l. is_in_use h l) (setup_used h))
+    (grown_behind (λ d. is_directory h d) (λ l. is_in_use h l) (all_made h) more (subst (λ ms. Grown (λ d. is_directory h d) (λ l. is_in_use h l) ms) split now.grown))
+    (log_realms h asks i) i)
+  where
+    more : List Made
+    more = asked_made (record { tid = tid; op = op; answer = answer_on (stage (setup_names h) (asked h)) op } ∷ [])
+
+    split : asked_made (asked (record { event = e.Req c op; answer = a.Sent tid } ∷ h)) ≡ all_made h ++ more
+    split = made_append (asked h) (record { tid = tid; op = op; answer = answer_on (stage (setup_names h) (asked h)) op } ∷ [])
+
+    same : (d : ℕ) → path_with more (λ k. all_path h k) d ≡ all_path (record { event = e.Req c op; answer = a.Sent tid } ∷ h) d
+    same d = sym (ap (λ ms. path_with ms (λ k. path h k) d) split ∙ paths_append (all_made h) more (λ k. path h k) d)
+
+-- what is made then is new
+made_new : (dir used : ℕ → Bool) (ms rest : List Made) (d : ℕ) → AreUsed dir used → Grown dir used (ms ++ rest) → makes_dir d ms ≡ true → dir d ≡ false
+made_new dir used [] rest d in_use grown is = absurd (both_ways false refl is)
+made_new dir used (m ∷ ms) rest d in_use grown is =
+    ⊎_elim
+    (λ here. subst (λ k. dir k ≡ false) (eqb-true m.ino d (and_parts m.is_dir (m.ino == d) here).1) (not_dir dir used m.ino in_use grown.0))
+    (λ later. (or_parts (dir d) (is_made_dir d m)
+    (made_new (λ k. more_dirs m dir k) (λ k. more_used m used k) ms rest d (more_are_used m dir used in_use) grown.2 later)).0)
+    (or_cases (is_made_dir d m) (makes_dir d ms) is)
+
+module _ (h : List Entry) (tid : ℕ) (ino : Option ℕ) (op : ReqOp) (q : List Message) (there : to_server h ≡ messages.Req tid ino op ∷ q)
+    (now : Asks (record { event = e.ToMds; answer = a.Req tid (answer_on (names h) op) } ∷ h)) where
+  abbrev reply : OpAnswer
+  reply = answer_on (names h) op
+
+  abbrev done : Record
+  done = record { body = bodies.Request tid op reply }
+
+  abbrev later : List Entry
+  later = record { event = e.ToMds; answer = a.Req tid reply } ∷ h
+
+  made_more : server_made later ≡ server_made h ++ (made_by (Some op) reply ++ [])
+  made_more =
+      ap (λ p. made_in (durable h ++ (fresh h ++ requested reply p))) there
+      ∙ (ap made_in (sym (append_assoc (durable h) (fresh h) (done ∷ []))) ∙ flat_map-append (λ r. made_of r.body) (stand h) (done ∷ []))
+
+  whole : all_made h ≡ server_made h ++ ((made_by (Some op) reply ++ []) ++ (server_front later now).0)
+  whole =
+      (server_front later now).1
+      ∙ (ap (λ ms. ms ++ (server_front later now).0) made_more ∙ append_assoc (server_made h) (made_by (Some op) reply ++ []) (server_front later now).0)
+
+  good_request : GoodRecord (dirs_after (durable h ++ fresh h) (λ d. is_directory h d)) done.body
+  good_request d is =
+      log_dirs h d
+      ∙ (sym (dirs_are (server_made h) (λ k. is_directory h k) d)
+      ∙ made_new (λ k. dirs_of (server_made h) (λ l. is_directory h l) k) (λ k. used_of (server_made h) (λ l. is_in_use h l) k) (made_by (Some op) reply ++ [])
+        (server_front later now).0 d (all_are_used (server_made h) (λ k. is_directory h k) (λ l. is_in_use h l) (setup_used h))
+        (grown_behind (λ k. is_directory h k) (λ l. is_in_use h l) (server_made h) _ (subst (λ ms. Grown (λ k. is_directory h k) (λ l. is_in_use h l) ms) whole now.grown))
+        (ap (makes_dir d) (append-nil (made_by (Some op) reply)) ∙ is))
+
+-- A commit
+
+news_same : (up new : ℕ → List ℕ) (dirs : List ℕ) (ss : List RealmRecord) (before rs : List Record) → Each (λ d. up d ≡ new d) dirs
+    → news up dirs ss before rs ≡ news new dirs ss before rs
+news_same up new dirs ss before [] same = refl
+news_same up new dirs ss before (r ∷ rs) same =
+    let now : realm_records up dirs (before ++ r ∷ []) ≡ realm_records new dirs (before ++ r ∷ [])
+    = same_on (λ d. realm_record (up d) (before ++ r ∷ []) d) (λ d. realm_record (new d) (before ++ r ∷ []) d) dirs
+    (λ d m. ap (λ ps. realm_record ps (before ++ r ∷ []) d) (same d m)) in
+    let one : news_on up dirs ss before r ≡ news_on new dirs ss before r = ap (λ ts. news_of before (differing ss ts) r.body) now in
+    ap (λ m. m ∷ news up dirs (with_records (realms_of m) ss) (before ++ r ∷ []) rs) one
+    ∙ ap (λ ms. news_on new dirs ss before r ∷ ms) (news_same up new dirs (with_records (realms_of (news_on new dirs ss before r)) ss) (before ++ r ∷ []) rs same)
+
+linked_commit : (p : ℕ) (h : List Entry) → TreeAt h → ListingAt h → Asks h → LinkedAt h → LinkedAt (entry p h e.Commit ∷ h)
+linked_commit p h tree listing asks i = record {
+  told =
+      subst (λ new. Told (λ d. all_path h d) (sent_with new (last_sent h)) (realms h) (carried (to_client h ++ new)) (durable h ++ fresh h)) (sym same)
+      (subst (λ xs. Told (λ d. all_path h d) (sent_with told_now (last_sent h)) (realms h) xs (durable h ++ fresh h)) (sym (filter_map-append realms_on (to_client h) told_now))
+      (told_commit (λ d. is_directory h d) refl (λ d. all_path h d) (server_dirs h) (realms h) (last_sent h) (carried (to_client h)) (durable h) (fresh h)
+      (λ d is. list.listed d (sym (log_dirs h d) ∙ realm_dir (λ k. is_directory h k) (stand h) d refl i.good is)) list_all.first i.good i.told));
+  good = subst (λ rs. GoodLog (λ d. is_directory h d) rs) (sym (append-nil (durable h ++ fresh h))) i.good;
+}
+  where
+    list : Listing (λ d. server_dir h d) (λ d. server_path h d) (server_dirs h)
+    list = server_listing h tree listing asks
+
+    paths : Each (λ d. server_path h d ≡ all_path h d) (server_dirs h)
+    paths d m = server_way h asks d (list.only d m)
+
+    list_all : Listing (λ d. server_dir h d) (λ d. all_path h d) (server_dirs h)
+    list_all = listing_paths (λ d. server_dir h d) (λ d. server_path h d) (λ d. all_path h d) (server_dirs h) (λ d m. sym (paths d m)) list
+
+    told_now : List Message
+    told_now = news (λ d. all_path h d) (server_dirs h) (last_sent h) (durable h) (fresh h)
+
+    same : news (λ d. server_path h d) (server_dirs h) (last_sent h) (durable h) (fresh h) ≡ told_now
+    same = news_same (λ d. server_path h d) (λ d. all_path h d) (server_dirs h) (last_sent h) (durable h) (fresh h) paths
+
+-- Steps
 
 first_gone : (m : Message) (q now : List Message) → now ≡ m ∷ q → realms_on m ≡ None → carried (drop 1 now) ≡ carried now
 first_gone m q now there none = ap (λ p. carried (drop 1 p)) there ∙ sym (ap carried there ∙ ap (λ o. cons_option o (carried q)) none)
@@ -114,31 +271,41 @@ step_client : (h : List Entry) (x : Answer) → FirstIs h x → LinkedAt h → L
 step_client h x first_idle i = i
 step_client h x (first_cap f seq bits end q there) i = linked_message _ _ _ _ _ _ _ _ (first_gone (messages.Cap f seq bits end) q (to_client h) there refl) i
 step_client h x (first_flush_ack f tid q there) i = linked_message _ _ _ _ _ _ _ _ (first_gone (messages.FlushAck f tid) q (to_client h) there refl) i
+step_client h x (first_unsafe tid o ttl q there) i = linked_message _ _ _ _ _ _ _ _ (first_gone (messages.Unsafe tid o ttl) q (to_client h) there refl) i
+step_client h x (first_safe tid q there) i = linked_message _ _ _ _ _ _ _ _ (first_gone (messages.Safe tid) q (to_client h) there refl) i
+step_client h x (first_unlease d name q there) i = linked_message _ _ _ _ _ _ _ _ (first_gone (messages.Unlease d name) q (to_client h) there refl) i
 step_client h x (first_snap n d now q there) i =
-    subst (λ p. Linked (λ k. is_directory h k) (λ k. path h k) (last_sent h) (with_first p (realms h)) (drop 1 p) (durable h) (fresh h)) (sym there)
+    subst (λ p. Linked (λ k. is_directory h k) (λ k. all_path h k) (last_sent h) (with_first p (realms h)) (drop 1 p) (durable h) (fresh h)) (sym there)
     (record {
       told = record {
-        link = delivers (λ k. path h k) (λ k. record_of k (last_sent h)) (realms h) now (carried q) (durable h)
-            (subst (λ p. Along (λ k. path h k) (λ k. record_of k (last_sent h)) (realms h) (carried p) (durable h)) there i.told.link);
+        link = delivers (λ k. all_path h k) (λ k. record_of k (last_sent h)) (realms h) now (carried q) (durable h)
+            (subst (λ p. Along (λ k. all_path h k) (λ k. record_of k (last_sent h)) (realms h) (carried p) (durable h)) there i.told.link);
         sent = i.told.sent;
       };
-      durable = i.durable;
-      fresh = i.fresh;
+      good = i.good;
     })
 
-step_server : (h : List Entry) (x : Answer) → ReceivedIs h x → LinkedAt h → LinkedAt (record { event = e.ToMds; answer = x } ∷ h)
-step_server h x received_idle i = i
-step_server h x (received_ack f seq bits q there) i = i
-step_server h x (received_flush y q there first) i =
-    subst (λ p. Linked (λ k. is_directory h k) (λ k. path h k) (last_sent h) (realms h) (to_client h) (durable h) (fresh h ++ recorded p)) (sym there)
-    (subst (λ rs. Linked (λ k. is_directory h k) (λ k. path h k) (last_sent h) (realms h) (to_client h) (durable h) (fresh h ++ rs)) (sym (recorded_one y))
+step_server : (h : List Entry) (x : Answer) → ReceivedIs h x → Asks (record { event = e.ToMds; answer = x } ∷ h) → LinkedAt h
+    → LinkedAt (record { event = e.ToMds; answer = x } ∷ h)
+step_server h x received_idle asks i = i
+step_server h x (received_ack f seq bits q there) asks i = i
+step_server h x (received_flush y q there first) asks i =
+    subst (λ p. Linked (λ k. is_directory h k) (λ k. all_path h k) (last_sent h) (realms h) (to_client h) (durable h) (fresh h ++ recorded p)) (sym there)
+    (subst (λ rs. Linked (λ k. is_directory h k) (λ k. all_path h k) (last_sent h) (realms h) (to_client h) (durable h) (fresh h ++ rs)) (sym (recorded_one y))
     (linked_record _ _ _ _ _ _ _ (flush_record y) tt i))
-step_server h x (received_again y q there again) i = linked_message _ _ _ _ _ _ _ _ (linked_again (to_client h) y.file y.tid (durable h)) i
+step_server h x (received_again y q there again) asks i = linked_message _ _ _ _ _ _ _ _ (linked_again (to_client h) y.file y.tid (durable h)) i
+step_server h x (received_req tid ino op q there first) asks i =
+    linked_message _ _ _ _ _ _ _ _ (linked_end (to_client h) (unsafe_message tid (answer_on (names h) op)) refl)
+    (subst (λ p. Linked (λ k. is_directory h k) (λ k. all_path h k) (last_sent h) (realms h) (to_client h) (durable h) (fresh h ++ requested (answer_on (names h) op) p)) (sym there)
+    (linked_record _ _ _ _ _ _ _ (record { body = bodies.Request tid op (answer_on (names h) op) }) (good_request h tid ino op q there asks) i))
+step_server h x (received_req_again tid ino op q there again) asks i =
+    linked_message _ _ _ _ _ _ _ _ (linked_answered (to_client h) tid (unwrap_or (answer_kept tid (stand h)) replies.Missing) (durable h)) i
 
-step_snap : (h : List Entry) (d : ℕ) (name : List ℕ) (x : Answer) → SnapIs h d name x → LinkedAt h → LinkedAt (record { event = e.Snap d name; answer = x } ∷ h)
-step_snap h d name x snap_unknown i = i
-step_snap h d name x snap_exists i = i
-step_snap h d name x (snap_taken directory free) i = linked_record _ _ _ _ _ _ _ _ directory i
+step_snap : (h : List Entry) (d : ℕ) (name : List ℕ) (x : Answer) → SnapIs h d name x → Asks h → LinkedAt h → LinkedAt (record { event = e.Snap d name; answer = x } ∷ h)
+step_snap h d name x snap_unknown asks i = i
+step_snap h d name x snap_exists asks i = i
+step_snap h d name x (snap_taken directory free) asks i =
+    linked_record _ _ _ _ _ _ _ (record { body = bodies.Snap _ d name }) (log_dirs h d ∙ named_dirs h asks d directory) i
 
 step_remove : (h : List Entry) (s : ℕ) (x : Answer) → RemoveIs h s x → LinkedAt h → LinkedAt (record { event = e.RmSnap s; answer = x } ∷ h)
 step_remove h s x remove_none i = i
@@ -155,35 +322,38 @@ step_revoke : (h : List Entry) (f : ℕ) (bits : Caps) (x : Answer) → GrantIs 
 step_revoke h f bits x grant_unknown i = i
 step_revoke h f bits x grant_sent i = linked_message _ _ _ _ _ _ _ _ (linked_end (to_client h) (cap_message f (revoked (server h f) bits)) refl) i
 
-pub linked_step : (p : ℕ) (h : List Entry) (x : Event) → ListingAt h → LinkedAt h → LinkedAt (entry p h x ∷ h)
-linked_step p h (e.Dir d q) listing i = step_dir h d q i
-linked_step p h e.ToClient listing i = step_client h _ (first_is h) i
-linked_step p h e.ToMds listing i = step_server h _ (received_is h) i
-linked_step p h (e.Snap d name) listing i = step_snap h d name _ (snap_is h d name) i
-linked_step p h (e.RmSnap s) listing i = step_remove h s _ (remove_is h s) i
-linked_step p h e.Commit listing i = linked_commit p h listing i
-linked_step p h (e.Grant f bits end) listing i = step_grant h f bits end _ (grant_is h f bits end) i
-linked_step p h (e.Revoke f bits) listing i = step_revoke h f bits _ (revoke_is h f bits) i
-linked_step p h _ listing i = i
+step_unlease : (h : List Entry) (d : ℕ) (name : List ℕ) (x : Answer) → UnleaseIs h x → LinkedAt h → LinkedAt (record { event = e.Unlease d name; answer = x } ∷ h)
+step_unlease h d name x unlease_unknown i = i
+step_unlease h d name x unlease_sent i = linked_message _ _ _ _ _ _ _ _ (linked_end (to_client h) (messages.Unlease d name) refl) i
+
+pub linked_step : (p : ℕ) (h : List Entry) (x : Event) → Goes p h x → TreeAt h → ListingAt h → Asks h → LinkedAt h → LinkedAt (entry p h x ∷ h)
+linked_step p h (e.Dir d q) on tree listing asks i = step_dir h d q (asks.later (on.can.setup refl)) i
+linked_step p h (e.Req c op) on tree listing asks i = step_req h c op _ asks on.now i
+linked_step p h e.ToClient on tree listing asks i = step_client h _ (first_is h) i
+linked_step p h e.ToMds on tree listing asks i = step_server h _ (received_is h) on.now i
+linked_step p h (e.Snap d name) on tree listing asks i = step_snap h d name _ (snap_is h d name) asks i
+linked_step p h (e.RmSnap s) on tree listing asks i = step_remove h s _ (remove_is h s) i
+linked_step p h e.Commit on tree listing asks i = linked_commit p h tree listing asks i
+linked_step p h (e.Grant f bits end) on tree listing asks i = step_grant h f bits end _ (grant_is h f bits end) i
+linked_step p h (e.Revoke f bits) on tree listing asks i = step_revoke h f bits _ (revoke_is h f bits) i
+linked_step p h (e.Unlease d name) on tree listing asks i = step_unlease h d name _ (unlease_is h d) i
+linked_step p h _ on tree listing asks i = i
 
 pub linked_first : LinkedAt []
-linked_first = record {
-  told = record { link = along_first; sent = record { has = root_has } };
-  durable = each_nil (λ r. OfDir (λ d. is_directory [] d) r.body);
-  fresh = each_nil (λ r. OfDir (λ d. is_directory [] d) r.body);
-}
+linked_first = record { told = record { link = along_first; sent = record { has = root_has } }; good = tt }
 
 -- What is told next
 
 module _ (h : List Entry) (n d : ℕ) (now : List RealmRecord) (q : List Message) (there : to_client h ≡ messages.Snap n d now ∷ q) (i : LinkedAt h) where
-  link_now : Along (λ k. path h k) (λ k. record_of k (last_sent h)) (realms h) (now ∷ carried q) (durable h)
-  link_now = subst (λ p. Along (λ k. path h k) (λ k. record_of k (last_sent h)) (realms h) (carried p) (durable h)) there i.told.link
+  link_now : Along (λ k. all_path h k) (λ k. record_of k (last_sent h)) (realms h) (now ∷ carried q) (durable h)
+  link_now = subst (λ p. Along (λ k. all_path h k) (λ k. record_of k (last_sent h)) (realms h) (carried p) (durable h)) there i.told.link
 
-  pub told_rises : (f : ℕ) → TreeAt h → DrawnAt h → Rises (context h f) (path_context (client_file_path h f) (with_first (to_client h) (realms h)))
-  told_rises f tree drawn =
+  pub told_rises : (f : ℕ) → TreeAt h → Housed h → Asks h → DrawnAt h → Rises (context h f) (path_context (client_file_path h f) (with_first (to_client h) (realms h)))
+  told_rises f tree housed asks drawn =
       subst (λ p. Rises (context h f) (path_context (client_file_path h f) (with_first p (realms h)))) (sym there)
-      (context_rises (λ k. is_directory h k) (λ k. path h k) (λ k. record_of k (last_sent h)) (realms h) now (carried q) (durable h) (client_file_path h f) tree
-      (λ k is. realm_dir (λ j. is_directory h j) (durable h) k refl i.durable is) (draws_front 0 (durable h) (fresh h) drawn) (tree.ways (client_home h f)) link_now)
+      (context_rises (λ k. is_directory h k) (λ k. all_dir h k) (λ k. all_path h k) (λ k. record_of k (last_sent h)) (realms h) now (carried q) (durable h) (client_file_path h f)
+      (all_tree h tree asks) (log_realms h asks i) refl (draws_front 0 (durable h) (fresh h) drawn) (good_front (λ k. is_directory h k) (durable h) (fresh h) i.good)
+      (subst (λ ps. IsWay (λ k. all_path h k) ps) (sym (client_file_way h housed asks f)) ((all_tree h tree asks).ways (client_home h f))) link_now)
 
   pub told_parents : ParentsAreKnown (realms h) now
   told_parents = link_now.links.4

@@ -4,11 +4,13 @@ use Rattle.std.proofs.lemmas.Bool.{cond_both, cond-true, cond-false, eqb-true, e
 use Rattle.cs_laws.specs.declared.events.Event.{Event}
 use Rattle.cs_laws.specs.declared.events.Event.TheVariants as e
 use Rattle.cs_laws.specs.declared.answers.Entry.{Entry}
+use Rattle.cs_laws.specs.declared.answers.Answer.{Answer}
 use Rattle.cs_laws.specs.Answers.{answer_made, is_in_use}
-use Rattle.cs_laws.specs.Events.{setup_file}
+use Rattle.cs_laws.specs.Events.{setup_file, setup_file_then}
 use Rattle.cs_laws.specs.Journal.{entry}
-use Rattle.cs_laws.specs.Tree.{home, is_directory, path, setup_dir}
-use Rattle.cs_theorems.proofs.Listed.{Each, each_nil, each_cons, each_tail}
+use Rattle.cs_laws.specs.Tree.{home, is_directory, path, setup_dir, home_then, path_then}
+use Rattle.cs_theorems.proofs.Listed.{Each, each_nil, each_cons, each_tail, Member}
+use Rattle.cs_laws.specs.declared.answers.Answer.TheVariants as a
 
 -- each directory of a way has the rest of the way above it
 abbrev pub IsWay : (ℕ → List ℕ) → List ℕ → Type 0
@@ -151,3 +153,25 @@ pub path_stays : (p : ℕ) (h : List Entry) (x : Event) (f : ℕ) → Housed h �
 path_stays p h (e.Dir d q) f i = inl (dir_path h d q f i)
 path_stays p h (e.File g q) f i = file_stays h g q f
 path_stays p h _ f i = inl refl
+
+-- each path has the root
+top_then : (x : Event) (y : Answer) (up : ℕ → List ℕ) (d : ℕ) → ((k : ℕ) → Member 1 (up k)) → Member 1 (path_then x y up d)
+top_then (e.Dir g p) a.Made up d tops = cond_both (g == d) (g ∷ up p) (up d) (λ ds. Member 1 ds) (λ _. inr (tops p)) (λ _. tops d)
+top_then _ _ up d tops = tops d
+
+pub setup_top : (h : List Entry) (d : ℕ) → Member 1 (path h d)
+setup_top [] d = inl refl
+setup_top (x ∷ h) d = top_then x.event x.answer (λ k. path h k) d (λ k. setup_top h k)
+
+-- a file that no setup line made has no directory of its own
+home_unmade : (x : Event) (y : Answer) (f was : ℕ) (known : Bool) → setup_file_then x y f known ≡ false → (known ≡ false → was ≡ 1) → home_then x y f was ≡ 1
+home_unmade (e.File g p) a.Made f was known none before = at (g == f) none
+  where
+    at : (b : Bool) → cond b true known ≡ false → cond b p was ≡ 1
+    at true is = absurd cc
+    at false is = before is
+home_unmade _ _ f was known none before = before none
+
+pub setup_home : (h : List Entry) (f : ℕ) → setup_file h f ≡ false → home h f ≡ 1
+setup_home [] f none = refl
+setup_home (x ∷ h) f none = home_unmade x.event x.answer f (home h f) (setup_file h f) none (λ before. setup_home h f before)

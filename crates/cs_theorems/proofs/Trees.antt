@@ -1,10 +1,10 @@
 -- The tree of directories grows at its leaves by what requests make: paths stay, and the directories are listed parents first.
-use Rattle.std.proofs.Common.{◌≡◌, refl, sym, ap, ◌∙◌, subst, ℕ, ◌==◌, ◌||◌, ◌&&◌, Bool, true, false, cond, List, [], ◌∷◌, ◌++◌, length, ⊎_elim}
+use Rattle.std.proofs.Common.{◌≡◌, refl, sym, ap, ◌∙◌, subst, ℕ, ◌==◌, ◌||◌, ◌&&◌, Bool, true, false, cond, List, [], ◌∷◌, ◌++◌, length, ⊎_elim, not, inr}
 use Rattle.std.specs.List.{list_any}
-use Rattle.std.proofs.lemmas.Bool.{cond-false, eqb-true, eq-eqb, both_ways, false_from_ne_true, or_cases, or_left, or_right, and_left, and_right, and_parts, cond_both}
-use Rattle.cs_laws.specs.Made.{Made, dirs_with, home_with, is_made_dir, is_made_file, makes_dir, path_with, with_made}
+use Rattle.std.proofs.lemmas.Bool.{cond-false, eqb-true, eq-eqb, both_ways, false_from_ne_true, or_cases, or_left, or_right, and_left, and_right, and_parts, cond_both, or_parts}
+use Rattle.cs_laws.specs.Made.{Made, dirs_with, home_with, is_made_dir, is_made_file, makes_dir, path_with, with_made, makes_file}
 use Rattle.cs_laws.specs.Tree.{with_directory}
-use Rattle.cs_theorems.proofs.Listed.{Each}
+use Rattle.cs_theorems.proofs.Listed.{Each, Member}
 use Rattle.cs_theorems.proofs.Listing.{Listing, deepens_same, depth_of, first_same, listing_more}
 use Rattle.cs_theorems.proofs.Paths.{Tree, tree_more, with_path}
 
@@ -47,7 +47,7 @@ pub dirs_are : (ms : List Made) (dir : ℕ → Bool) (d : ℕ) → dirs_of ms di
 dirs_are [] dir d = or_none (dir d)
 dirs_are (m ∷ ms) dir d = dirs_are ms (λ k. more_dirs m dir k) d ∙ or_assoc (dir d) (is_made_dir d m) (makes_dir d ms)
 
-more_are_used : (m : Made) (dir used : ℕ → Bool) → AreUsed dir used → AreUsed (λ d. more_dirs m dir d) (λ i. more_used m used i)
+pub more_are_used : (m : Made) (dir used : ℕ → Bool) → AreUsed dir used → AreUsed (λ d. more_dirs m dir d) (λ i. more_used m used i)
 more_are_used m dir used in_use d is =
     ⊎_elim
     (λ old. or_left (used d) _ (in_use d old))
@@ -99,13 +99,57 @@ home_in dir used (m ∷ ms) f was i is =
     (λ _. home_in (λ k. more_dirs m dir k) (λ k. more_used m used k) ms f m.dir i.2 (or_left (dir m.dir) _ i.1))
     (λ _. home_in (λ k. more_dirs m dir k) (λ k. more_used m used k) ms f was i.2 (or_left (dir was) _ is))
 
+home_append : (ms more : List Made) (f was : ℕ) → home_with (ms ++ more) f was ≡ home_with more f (home_with ms f was)
+home_append [] more f was = refl
+home_append (m ∷ ms) more f was = home_append ms more f (cond (is_made_file f m) m.dir was)
+
+-- a file that is there stays where it is
+home_stays : (dir used : ℕ → Bool) (ms : List Made) (f was : ℕ) → Grown dir used ms → used f ≡ true → home_with ms f was ≡ was
+home_stays dir used [] f was i is = refl
+home_stays dir used (m ∷ ms) f was i is =
+    home_stays (λ k. more_dirs m dir k) (λ k. more_used m used k) ms f _ i.2 (or_left (used f) _ is)
+    ∙ cond-false (is_made_file f m) m.dir was (and_right (not m.is_dir) (m.ino == f) (apart used m.ino f i.0 is))
+
+pub home_of_front : (dir used : ℕ → Bool) (ms more : List Made) (f was : ℕ) → Grown dir used (ms ++ more) → used_of ms used f ≡ true
+    → home_with (ms ++ more) f was ≡ home_with ms f was
+home_of_front dir used ms more f was i is =
+    home_append ms more f was
+    ∙ home_stays (λ k. dirs_of ms dir k) (λ k. used_of ms used k) more f (home_with ms f was) (grown_behind dir used ms more i) is
+
+-- none of these is the file
+pub home_unmade : (ms : List Made) (f was : ℕ) → makes_file f ms ≡ false → home_with ms f was ≡ was
+home_unmade [] f was none = refl
+home_unmade (m ∷ ms) f was none =
+    let parts = or_parts (is_made_file f m) (makes_file f ms) none in
+    home_unmade ms f _ parts.1 ∙ cond-false (is_made_file f m) m.dir was parts.0
+
+-- the files and directories that are made are in use
+pub used_grow : (ms : List Made) (used : ℕ → Bool) (i : ℕ) → used i ≡ true → used_of ms used i ≡ true
+used_grow [] used i is = is
+used_grow (m ∷ ms) used i is = used_grow ms (λ k. more_used m used k) i (or_left (used i) _ is)
+
+pub file_used : (ms : List Made) (used : ℕ → Bool) (f : ℕ) → makes_file f ms ≡ true → used_of ms used f ≡ true
+file_used [] used f is = absurd (both_ways false refl is)
+file_used (m ∷ ms) used f is =
+    ⊎_elim
+    (λ here. used_grow ms (λ k. more_used m used k) f (or_right (used f) _ (and_parts (not m.is_dir) (m.ino == f) here).1))
+    (λ later. file_used ms (λ k. more_used m used k) f later)
+    (or_cases (is_made_file f m) (makes_file f ms) is)
+
+-- each path has the root
+pub tops_grown : (ms : List Made) (up : ℕ → List ℕ) (d : ℕ) → ((k : ℕ) → Member 1 (up k)) → Member 1 (path_with ms up d)
+tops_grown [] up d tops = tops d
+tops_grown (m ∷ ms) up d tops =
+    tops_grown ms (λ k. with_made m up k) d
+    (λ k. cond_both (is_made_dir k m) (m.ino ∷ up m.dir) (up k) (λ ds. Member 1 ds) (λ _. inr (tops m.dir)) (λ _. tops k))
+
 -- Trees and listings
 
-tree_same : (dir more : ℕ → Bool) (up : ℕ → List ℕ) → ((d : ℕ) → dir d ≡ true → more d ≡ true) → ((d : ℕ) → more d ≡ true → dir d ≡ true) → Tree dir up
+pub tree_same : (dir more : ℕ → Bool) (up : ℕ → List ℕ) → ((d : ℕ) → dir d ≡ true → more d ≡ true) → ((d : ℕ) → more d ≡ true → dir d ≡ true) → Tree dir up
     → Tree more up
 tree_same dir more up to from i = record { ways = i.ways; inside = λ d x m. to x (i.inside d x m); own = λ d is. i.own d (from d is) }
 
-listing_same : (dir more : ℕ → Bool) (up : ℕ → List ℕ) (ds : List ℕ) → ((d : ℕ) → dir d ≡ true → more d ≡ true) → ((d : ℕ) → more d ≡ true → dir d ≡ true)
+pub listing_same : (dir more : ℕ → Bool) (up : ℕ → List ℕ) (ds : List ℕ) → ((d : ℕ) → dir d ≡ true → more d ≡ true) → ((d : ℕ) → more d ≡ true → dir d ≡ true)
     → Listing dir up ds → Listing more up ds
 listing_same dir more up ds to from i =
     record { listed = λ d is. i.listed d (from d is); only = λ d m. to d (i.only d m); first = i.first; deepens = i.deepens }
@@ -131,7 +175,7 @@ module _ (dir : ℕ → Bool) (up : ℕ → List ℕ) (e p : ℕ) (new : dir e �
   listing_one true ds l = listing_more dir (λ d. dir d || (e == d)) up e p ds new above (λ d is. or_left (dir d) _ is) now_there back i l
   listing_one false ds l = listing_same dir (λ d. dir d || false) up ds (λ d is. or_left (dir d) _ is) none_more l
 
-not_dir : (dir used : ℕ → Bool) (i : ℕ) → AreUsed dir used → used i ≡ false → dir i ≡ false
+pub not_dir : (dir used : ℕ → Bool) (i : ℕ) → AreUsed dir used → used i ≡ false → dir i ≡ false
 not_dir dir used i in_use new = false_from_ne_true (dir i) (λ is. both_ways (used i) new (in_use i is))
 
 pub tree_grown : (dir used : ℕ → Bool) (ms : List Made) (up : ℕ → List ℕ) → AreUsed dir used → Grown dir used ms → Tree dir up

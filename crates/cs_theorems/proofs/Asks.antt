@@ -1,0 +1,35 @@
+-- What is known of requests in every run: the answers are settled when they are sent, and both sides know a front of what these make.
+use Rattle.std.proofs.Common.{◌≡◌, true, List, [], ◌++◌, ℕ, ◌∷◌}
+use Rattle.cs_laws.specs.declared.answers.Entry.{Entry}
+use Rattle.cs_laws.specs.Answers.{is_in_use}
+use Rattle.cs_laws.specs.ClientKnows.{client_made}
+use Rattle.cs_laws.specs.History.{durable, fresh, stand}
+use Rattle.cs_laws.specs.Made.{Made}
+use Rattle.cs_laws.specs.Names.{setup_names}
+use Rattle.cs_laws.specs.Runs.{all_setup, CanFollow}
+use Rattle.cs_laws.specs.Tree.{is_directory}
+use Rattle.cs_theorems.specs.Asked.{Asked, Settles, asked, asked_made, asked_of}
+use Rattle.cs_theorems.proofs.Asked.{SetupFresh}
+use Rattle.cs_theorems.proofs.Trees.{Grown}
+use Rattle.cs_laws.specs.declared.events.Event.{Event}
+use Rattle.cs_laws.specs.Journal.{entry}
+
+-- while all is set up nothing was asked, and nothing recorded
+pub record IsEarly (h : List Entry) : Type 0 where
+  pub asked : asked h ≡ []
+  pub client : client_made h ≡ []
+  pub durable : durable h ≡ []
+  pub fresh : fresh h ≡ []
+
+pub record Asks (h : List Entry) : Type 0 where
+  pub settles : Settles 0 (setup_names h) (asked h)
+  pub stands : (more : List Asked) × (asked h ≡ asked_of (stand h) ++ more)
+  pub told : (more : List Made) × (asked_made (asked h) ≡ client_made h ++ more)
+  pub grown : Grown (λ d. is_directory h d) (λ i. is_in_use h i) (asked_made (asked h))
+  pub setup : SetupFresh h
+  pub later : all_setup h ≡ true → IsEarly h
+
+-- what an event comes after: it may, and all this holds behind it
+pub record Goes (p : ℕ) (h : List Entry) (x : Event) : Type 0 where
+  pub can : CanFollow h x
+  pub now : Asks (entry p h x ∷ h)
