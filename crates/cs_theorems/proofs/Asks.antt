@@ -1,12 +1,12 @@
 -- What is known of requests in every run: the answers are settled when they are sent, and both sides know a front of what these make.
-use Rattle.std.proofs.Common.{◌≡◌, true, List, [], ◌++◌, ℕ, ◌∷◌}
+use Rattle.std.proofs.Common.{◌≡◌, true, List, [], ◌++◌, ℕ, ◌∷◌, refl}
 use Rattle.cs_laws.specs.declared.answers.Entry.{Entry}
 use Rattle.cs_laws.specs.Answers.{is_in_use}
 use Rattle.cs_laws.specs.ClientKnows.{client_made}
 use Rattle.cs_laws.specs.History.{durable, fresh, stand}
 use Rattle.cs_laws.specs.Made.{Made}
 use Rattle.cs_laws.specs.Names.{setup_names}
-use Rattle.cs_laws.specs.Runs.{all_setup, CanFollow}
+use Rattle.cs_laws.specs.Runs.{all_setup, CanFollow, IsRun}
 use Rattle.cs_laws.specs.Tree.{is_directory}
 use Rattle.cs_theorems.specs.Asked.{Asked, Settles, asked, asked_made, asked_of}
 use Rattle.cs_theorems.proofs.Asked.{SetupFresh}
@@ -33,3 +33,9 @@ pub record Asks (h : List Entry) : Type 0 where
 pub record Goes (p : ℕ) (h : List Entry) (x : Event) : Type 0 where
   pub can : CanFollow h x
   pub now : Asks (entry p h x ∷ h)
+
+pub asks_run : (p : ℕ) (h : List Entry) → IsRun p h → Asks h
+asks_run p h run = ?
+
+pub goes_by : (p : ℕ) (h : List Entry) (x : Event) → CanFollow h x → IsRun p h → Goes p h x
+goes_by p h x can run = record { can = can; now = asks_run p (entry p h x ∷ h) ((can, refl), run) }

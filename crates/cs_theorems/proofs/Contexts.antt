@@ -43,7 +43,7 @@ use Rattle.cs_laws.specs.Tree.{home, is_directory, path}
 -- a snapshot or a removal is told
 pub told_moves : (h : List Entry) (n d : ℕ) (now : List RealmRecord) (q : List Message) (f : ℕ) → to_client h ≡ messages.Snap n d now ∷ q → Setting h
     → Rises (context h f) (path_context (client_file_path h f) (with_first (to_client h) (realms h)))
-told_moves h n d now q f there i = told_rises h n d now q there i.front f i.tree i.drawn
+told_moves h n d now q f there i = told_rises h n d now q there i.front f i.tree i.housed i.asks i.drawn
 
 or_none : (b : Bool) → (b || false) ≡ b
 or_none true = refl

@@ -13,6 +13,7 @@ use Rattle.cs_theorems.proofs.Known.{LiveAreKnown, known_step, known_first}
 use Rattle.cs_theorems.proofs.Settings.{Setting, setting_first, setting_step}
 use Rattle.cs_theorems.proofs.Runs.{of_run}
 use Rattle.cs_theorems.proofs.Shares.{shares_first, shares_step}
+use Rattle.cs_theorems.proofs.Asks.{Asks, Goes, asks_run, goes_by}
 
 pub record Course (h : List Entry) : Type 0 where
   pub setting : Setting h
@@ -23,9 +24,9 @@ pub record Course (h : List Entry) : Type 0 where
   pub contexts : ContextsNeverFall h
   pub shares : TagsAreOfTheBegin h
 
-pub course_first : Course []
-course_first = record {
-  setting = setting_first;
+pub course_first : Asks [] → Course []
+course_first asks = record {
+  setting = setting_first asks;
   known = known_first;
   blank = blank_first;
   sent_known = sent_known_first;
@@ -34,16 +35,16 @@ course_first = record {
   shares = shares_first;
 }
 
-pub course_step : (p : ℕ) (h : List Entry) (x : Event) → Course h → Course (entry p h x ∷ h)
-course_step p h x i = record {
-  setting = setting_step p h x i.setting;
+pub course_step : (p : ℕ) (h : List Entry) (x : Event) → Goes p h x → Course h → Course (entry p h x ∷ h)
+course_step p h x on i = record {
+  setting = setting_step p h x on i.setting;
   known = known_step p h x i.known;
   blank = blank_step p h x i.known i.blank;
   sent_known = sent_known_step p h x i.sent_known;
-  order = ordered_step p h x i.setting i.known i.blank i.order;
-  contexts = (λ f known. goes_on p h x f i.setting known, i.contexts);
+  order = ordered_step p h x on i.setting i.known i.blank i.order;
+  contexts = (λ f known. goes_on p h x f on i.setting known, i.contexts);
   shares = shares_step p h x i.order i.known i.shares;
 }
 
 pub course_run : (p : ℕ) (h : List Entry) → IsRun p h → Course h
-course_run p h run = of_run p Course course_first (λ g x fit before i. course_step p g x i) h run
+course_run p h run = of_run p Course (course_first (asks_run p [] tt)) (λ g x fit before i. course_step p g x (goes_by p g x fit before) i) h run

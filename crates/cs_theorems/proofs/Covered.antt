@@ -15,8 +15,8 @@ use Rattle.cs_laws.specs.declared.answers.Entry.{Entry}
 use Rattle.cs_laws.specs.Answers.{may_write}
 use Rattle.cs_laws.specs.CapSnaps.{CapSnap, is_writing, makes, queued_mode, writers}
 use Rattle.cs_laws.specs.Context.{with_first, path_context}
-use Rattle.cs_laws.specs.ClientKnows.{client_file_path}
-use Rattle.cs_laws.specs.Events.{begun, clock, setup_file}
+use Rattle.cs_laws.specs.ClientKnows.{client_file_path, client_knows}
+use Rattle.cs_laws.specs.Events.{begun, clock}
 use Rattle.cs_laws.specs.Flushes.{Flush, flush_snap, written_meta}
 use Rattle.cs_laws.specs.History.{context, dirty, live, mode, present, queued, realms, sent, snap, to_client, writes}
 use Rattle.cs_laws.specs.Image.{Write}
@@ -27,7 +27,7 @@ use Rattle.cs_theorems.specs.Order.{HasOlder}
 use Rattle.cs_theorems.proofs.Begun.{member_without_named}
 use Rattle.cs_theorems.specs.Contexts.{Rises}
 use Rattle.cs_theorems.proofs.Blank.{none_sent}
-use Rattle.cs_theorems.proofs.Contexts.{dir_stays, file_stays, told_moves}
+use Rattle.cs_theorems.proofs.Contexts.{dir_stays, file_stays, told_moves, told_stays}
 use Rattle.cs_theorems.proofs.Course.{Course}
 use Rattle.cs_theorems.proofs.Covers.{Between, Covers, IsCovered, Made, covers_begin, covers_blank, covers_change, covers_fewer, covers_head, covers_made, covers_other, covers_sent, covers_unmade, covers_write}
 use Rattle.cs_theorems.proofs.Inversions.{ChmodIs, chmod_unknown, chmod_no_bit, chmod_snap, chmod_done, chmod_is, FlushIs, head_unknown, head_snap, head_clean, head_sent, flush_is, BeginIs, begin_unknown, begin_caps, begin_snap, begin_max, begin_full, begun_ref, begin_is, EndIs, end_unknown, ended, end_is, WriteIs, write_unknown, write_no_bit, write_past, wrote, write_is, FlushSnapsIs, flush_unknown, flush_none, flush_writing, flush_sent, flush_snaps_is, FirstIs, first_idle, first_cap, first_flush_ack, first_unsafe, first_safe, first_unlease, first_snap, first_is}
@@ -37,6 +37,7 @@ use Rattle.cs_theorems.proofs.Numbered.{Numbered, upto_numbered}
 use Rattle.cs_theorems.proofs.Order.{InOrder, none_made, none_open, why_none, written_on}
 use Rattle.cs_theorems.proofs.Tags.{Tags, at_present}
 use Rattle.cs_theorems.proofs.Uses.{named_is}
+use Rattle.cs_theorems.proofs.Asks.{Asks, Goes}
 
 abbrev pub CoversAt : List Entry → ℕ → Type 0
 CoversAt h f = Covers f (context h f).seq (live h) (writes h f) (changes h f) (dirty h f) (queued h f) (sent h)
@@ -180,23 +181,27 @@ covers_moved f n old new rs ws cs d m xs fs (inl same) mode o i =
     (subst (λ (c : Context). Covers f c.seq rs ws cs d xs fs) (sym same) i)
 covers_moved f n old new rs ws cs d m xs fs (inr rises) mode o i = covers_told f n old new rs ws cs d m xs fs rises mode o i
 
-step_client : (h : List Entry) (x : Answer) → FirstIs h x → Course h → AllCovered h → AllCovered (record { event = e.ToClient; answer = x } ∷ h)
-step_client h x first_idle o i = i
-step_client h x (first_cap f seq bits end q there) o i = i
-step_client h x (first_flush_ack f tid q there) o i = i
-step_client h x (first_snap n d now q there) o i = λ f.
-    covers_moved f _ (context h f) (path_context (client_file_path h f) (with_first (to_client h) (realms h))) (live h) (writes h f) (changes h f) (dirty h f) (mode h f) (queued h f) (sent h)
-    (told_moves h n d now q f there o.setting) (mode_is h f) (o.order.1 f) (i f)
-
 -- Files that are made
 
-covers_kept : (h : List Entry) (f : ℕ) (new : Context) → Course h → (new ≡ context h f) ⊎ (setup_file h f ≡ false) → CoversAt h f
+covers_kept : (h : List Entry) (f : ℕ) (new : Context) → Course h → (new ≡ context h f) ⊎ (client_knows h f ≡ false) → CoversAt h f
     → Covers f new.seq (live h) (writes h f) (changes h f) (dirty h f) (queued h f) (sent h)
 covers_kept h f new o (inl same) i =
     subst (λ (c : Context). Covers f c.seq (live h) (writes h f) (changes h f) (dirty h f) (queued h f) (sent h)) (sym same) i
 covers_kept h f new o (inr unknown) i =
     let was = o.blank f unknown in
     rw (was.writes, was.changes, was.dirty, was.queued) (covers_blank f new.seq (live h) (sent h) (none_sent h f unknown o.sent_known))
+
+step_client : (h : List Entry) (x : Answer) → FirstIs h x → Asks (record { event = e.ToClient; answer = x } ∷ h) → Course h → AllCovered h
+    → AllCovered (record { event = e.ToClient; answer = x } ∷ h)
+step_client h x first_idle now o i = i
+step_client h x (first_cap f seq bits end q there) now o i = i
+step_client h x (first_flush_ack f tid q there) now o i = i
+step_client h x (first_unsafe tid r ttl q there) now o i = λ f. covers_kept h f _ o (told_stays h tid r f now o.setting) (i f)
+step_client h x (first_safe tid q there) now o i = i
+step_client h x (first_unlease d name q there) now o i = i
+step_client h x (first_snap n d told q there) now o i = λ f.
+    covers_moved f _ (context h f) (path_context (client_file_path h f) (with_first (to_client h) (realms h))) (live h) (writes h f) (changes h f) (dirty h f) (mode h f) (queued h f) (sent h)
+    (told_moves h n d told q f there o.setting) (mode_is h f) (o.order.1 f) (i f)
 
 -- Flushes
 
@@ -256,17 +261,17 @@ step_flush h g x (head_sent known free changed) o numbered i = λ f. at f (g == 
 
 -- All events
 
-pub covered_step : (p : ℕ) (h : List Entry) (x : Event) → Course h → Numbered (sent h) → AllCovered h → AllCovered (entry p h x ∷ h)
-covered_step p h (e.Dir d q) o numbered i = λ f. covers_kept h f _ o (dir_stays p h d q f o.setting) (i f)
-covered_step p h (e.File g q) o numbered i = λ f. covers_kept h f _ o (file_stays p h g q f o.setting) (i f)
-covered_step p h (e.Begin c f bits end) o numbered i = step_begin h c f bits end _ (begin_is h c f bits end) i
-covered_step p h (e.End c name) o numbered i = step_end h c name _ (end_is h c name) i
-covered_step p h (e.Write c name off bytes) o numbered i = step_write h c name off bytes _ (write_is h c name off bytes) o i
-covered_step p h (e.Chmod c name mode) o numbered i = step_chmod h c name mode _ (chmod_is h c name) o i
-covered_step p h e.ToClient o numbered i = step_client h _ (first_is h) o i
-covered_step p h (e.Flush f) o numbered i = step_flush h f _ (flush_is h f) o numbered i
-covered_step p h (e.FlushSnaps f) o numbered i = step_flush_snaps h f _ (flush_snaps_is h f) o numbered i
-covered_step p h _ o numbered i = i
+pub covered_step : (p : ℕ) (h : List Entry) (x : Event) → Goes p h x → Course h → Numbered (sent h) → AllCovered h → AllCovered (entry p h x ∷ h)
+covered_step p h (e.Dir d q) on o numbered i = λ f. covers_kept h f _ o (dir_stays p h d q f on o.setting) (i f)
+covered_step p h (e.File g q) on o numbered i = λ f. covers_kept h f _ o (file_stays p h g q f on o.setting) (i f)
+covered_step p h (e.Begin c f bits end) on o numbered i = step_begin h c f bits end _ (begin_is h c f bits end) i
+covered_step p h (e.End c name) on o numbered i = step_end h c name _ (end_is h c name) i
+covered_step p h (e.Write c name off bytes) on o numbered i = step_write h c name off bytes _ (write_is h c name off bytes) o i
+covered_step p h (e.Chmod c name mode) on o numbered i = step_chmod h c name mode _ (chmod_is h c name) o i
+covered_step p h e.ToClient on o numbered i = step_client h _ (first_is h) on.now o i
+covered_step p h (e.Flush f) on o numbered i = step_flush h f _ (flush_is h f) o numbered i
+covered_step p h (e.FlushSnaps f) on o numbered i = step_flush_snaps h f _ (flush_snaps_is h f) o numbered i
+covered_step p h _ on o numbered i = i
 
 pub covered_first : AllCovered []
 covered_first f = covers_blank f 0 [] [] (each_nil (λ x. x.file ≡ f → ⊥))

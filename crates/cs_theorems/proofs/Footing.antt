@@ -15,6 +15,7 @@ use Rattle.cs_theorems.proofs.Images.{HoldsAt, holds_first, holds_step}
 use Rattle.cs_theorems.proofs.Modes.{ModesAt, modes_first, modes_step}
 use Rattle.cs_theorems.proofs.Numbered.{Numbered, numbered_step}
 use Rattle.cs_theorems.proofs.Runs.{of_run}
+use Rattle.cs_theorems.proofs.Asks.{Asks, Goes, asks_run, goes_by}
 
 pub record Footing (h : List Entry) : Type 0 where
   pub course : Course h
@@ -26,9 +27,9 @@ pub record Footing (h : List Entry) : Type 0 where
   pub modes : ModesAt h
   pub holds : HoldsAt h
 
-footing_first : Footing []
-footing_first = record {
-  course = course_first;
+footing_first : Asks [] → Footing []
+footing_first asks = record {
+  course = course_first asks;
   covered = covered_first;
   numbered = refl;
   replay = replay_first;
@@ -38,17 +39,17 @@ footing_first = record {
   holds = holds_first;
 }
 
-footing_step : (p : ℕ) (h : List Entry) (x : Event) → CanFollow h x → Footing h → Footing (entry p h x ∷ h)
-footing_step p h x can i = record {
-  course = course_step p h x i.course;
-  covered = covered_step p h x i.course i.numbered i.covered;
+footing_step : (p : ℕ) (h : List Entry) (x : Event) → Goes p h x → Footing h → Footing (entry p h x ∷ h)
+footing_step p h x on i = record {
+  course = course_step p h x on i.course;
+  covered = covered_step p h x on i.course i.numbered i.covered;
   numbered = numbered_step p h x i.numbered;
   replay = replay_step p h x i.numbered i.replay;
   acked = acked_step p h x i.acked;
-  reached = reached_step p h x can i.course.setting i.reached;
+  reached = reached_step p h x on i.course.setting i.reached;
   modes = modes_step h x _ (λ f. (i.covered f).changes_low) i.reached (has_reached h) i.modes;
   holds = holds_step p h x i.course.shares i.holds;
 }
 
 pub footing_run : (p : ℕ) (h : List Entry) → IsRun p h → Footing h
-footing_run p h run = of_run p Footing footing_first (λ g x can before i. footing_step p g x can i) h run
+footing_run p h run = of_run p Footing (footing_first (asks_run p [] tt)) (λ g x can before i. footing_step p g x (goes_by p g x can before) i) h run

@@ -16,9 +16,9 @@ use Rattle.cs_laws.specs.declared.answers.Entry.{Entry}
 use Rattle.cs_laws.specs.Answers.{may_write}
 use Rattle.cs_laws.specs.CapSnaps.{CapSnap, has_writer, is_open, is_writing, makes, writers}
 use Rattle.cs_laws.specs.Context.{differs, with_first, path_context}
-use Rattle.cs_laws.specs.Events.{begun, clock, setup_file}
+use Rattle.cs_laws.specs.Events.{begun, clock}
 use Rattle.cs_laws.specs.History.{context, dirty, live, mode, queued, realms, to_client, writes}
-use Rattle.cs_laws.specs.ClientKnows.{client_file_path}
+use Rattle.cs_laws.specs.ClientKnows.{client_file_path, client_knows}
 use Rattle.cs_laws.specs.Image.{Write}
 use Rattle.cs_laws.specs.Journal.{entry}
 use Rattle.cs_laws.specs.Writes.{with_write}
@@ -26,7 +26,7 @@ use Rattle.cs_theorems.specs.Order.{HasOlder}
 use Rattle.cs_theorems.proofs.Begun.{member_without_named}
 use Rattle.cs_theorems.specs.Contexts.{Rises}
 use Rattle.cs_theorems.proofs.Blank.{AllBlank, none_live}
-use Rattle.cs_theorems.proofs.Contexts.{dir_stays, file_stays, told_moves}
+use Rattle.cs_theorems.proofs.Contexts.{dir_stays, file_stays, told_moves, told_stays}
 use Rattle.cs_theorems.proofs.Inversions.{BeginIs, begin_unknown, begin_caps, begin_snap, begin_max, begin_full, begun_ref, begin_is, EndIs, end_unknown, ended, end_is, WriteIs, write_unknown, write_no_bit, write_past, wrote, write_is, FlushSnapsIs, flush_unknown, flush_none, flush_writing, flush_sent, flush_snaps_is, FirstIs, first_idle, first_cap, first_flush_ack, first_unsafe, first_safe, first_unlease, first_snap, first_is}
 use Rattle.cs_theorems.proofs.Listed.{Each, Member, each_nil}
 use Rattle.cs_theorems.proofs.Opens.{Names, IsNew, Opens, names_begin, names_fewer, older_opens, open_has, opens_begin, opens_fewer, opens_made, opens_sent}
@@ -35,6 +35,7 @@ use Rattle.cs_theorems.proofs.Settings.{Setting}
 use Rattle.cs_theorems.proofs.Tags.{Tags, Still, Unmade, tags_first, tags_begin, tags_fewer, tags_write, tags_made, tags_unmade, tags_sent}
 use Rattle.cs_theorems.proofs.Tests.{any_none, any_some}
 use Rattle.cs_theorems.proofs.Uses.{named_is}
+use Rattle.cs_theorems.proofs.Asks.{Asks, Goes}
 
 abbrev pub NamesAt : List Entry → Type 0
 NamesAt h = Names (λ c. begun h c) (live h)
@@ -205,17 +206,6 @@ in_order_moved f n old new rs ws xs d m (inl same) names i =
     (subst (λ (c : Context). InOrder f c.seq n rs ws xs) (sym same) i)
 in_order_moved f n old new rs ws xs d m (inr rises) names i = in_order_told f n old new rs ws xs d m rises names i
 
-step_client : (h : List Entry) (x : Answer) → FirstIs h x → Setting h → Ordered h → Ordered (record { event = e.ToClient; answer = x } ∷ h)
-step_client h x first_idle setting i = i
-step_client h x (first_cap f seq bits end q there) setting i = i
-step_client h x (first_flush_ack f tid q there) setting i = i
-step_client h x (first_snap n d now q there) setting i = (
-  i.0,
-  λ f.
-      in_order_moved f (λ c. begun h c) (context h f) (path_context (client_file_path h f) (with_first (to_client h) (realms h))) (live h) (writes h f) (queued h f) (dirty h f) (mode h f)
-      (told_moves h n d now q f there setting) i.0 (i.1 f),
-)
-
 -- Files that are made
 
 -- of a file that wasn't known: no reference to it lives
@@ -238,7 +228,7 @@ in_order_blank f s n rs none = record {
   opens = record { kept = each_nil _; has = each_nil _ };
 }
 
-in_order_kept : (h : List Entry) (f s : ℕ) → LiveAreKnown h → AllBlank h → (s ≡ (context h f).seq) ⊎ (setup_file h f ≡ false) → InOrderAt h f
+in_order_kept : (h : List Entry) (f s : ℕ) → LiveAreKnown h → AllBlank h → (s ≡ (context h f).seq) ⊎ (client_knows h f ≡ false) → InOrderAt h f
     → InOrder f s (λ c. begun h c) (live h) (writes h f) (queued h f)
 in_order_kept h f s known blank (inl same) i = subst (λ k. InOrder f k (λ c. begun h c) (live h) (writes h f) (queued h f)) (sym same) i
 in_order_kept h f s known blank (inr unknown) i =
@@ -248,6 +238,22 @@ in_order_kept h f s known blank (inr unknown) i =
 
 seq_stays : (f : ℕ) (known : Bool) (old new : Context) → (new ≡ old) ⊎ (known ≡ false) → (new.seq ≡ old.seq) ⊎ (known ≡ false)
 seq_stays f known old new stays = ⊎_elim (λ same. inl (ap (λ (c : Context). c.seq) same)) (λ unknown. inr unknown) stays
+
+step_client : (h : List Entry) (x : Answer) → FirstIs h x → Asks (record { event = e.ToClient; answer = x } ∷ h) → Setting h → LiveAreKnown h → AllBlank h → Ordered h
+    → Ordered (record { event = e.ToClient; answer = x } ∷ h)
+step_client h x first_idle now setting known blank i = i
+step_client h x (first_cap f seq bits end q there) now setting known blank i = i
+step_client h x (first_flush_ack f tid q there) now setting known blank i = i
+step_client h x (first_unsafe tid o ttl q there) now setting known blank i =
+    (i.0, λ f. in_order_kept h f _ known blank (seq_stays f _ _ _ (told_stays h tid o f now setting)) (i.1 f))
+step_client h x (first_safe tid q there) now setting known blank i = i
+step_client h x (first_unlease d name q there) now setting known blank i = i
+step_client h x (first_snap n d told q there) now setting known blank i = (
+  i.0,
+  λ f.
+      in_order_moved f (λ c. begun h c) (context h f) (path_context (client_file_path h f) (with_first (to_client h) (realms h))) (live h) (writes h f) (queued h f) (dirty h f) (mode h f)
+      (told_moves h n d told q f there setting) i.0 (i.1 f),
+)
 
 -- Flushes
 
@@ -274,15 +280,15 @@ step_flush_snaps h g x (flush_sent y ys known there closed) i = (
 
 -- All events
 
-pub ordered_step : (p : ℕ) (h : List Entry) (x : Event) → Setting h → LiveAreKnown h → AllBlank h → Ordered h → Ordered (entry p h x ∷ h)
-ordered_step p h (e.Dir d q) setting known blank i = (i.0, λ f. in_order_kept h f _ known blank (seq_stays f _ _ _ (dir_stays p h d q f setting)) (i.1 f))
-ordered_step p h (e.File g q) setting known blank i = (i.0, λ f. in_order_kept h f _ known blank (seq_stays f _ _ _ (file_stays p h g q f setting)) (i.1 f))
-ordered_step p h (e.Begin c f bits end) setting known blank i = step_begin h c f bits end _ (begin_is h c f bits end) i
-ordered_step p h (e.End c name) setting known blank i = step_end h c name _ (end_is h c name) i
-ordered_step p h (e.Write c name off bytes) setting known blank i = step_write h c name off bytes _ (write_is h c name off bytes) i
-ordered_step p h e.ToClient setting known blank i = step_client h _ (first_is h) setting i
-ordered_step p h (e.FlushSnaps f) setting known blank i = step_flush_snaps h f _ (flush_snaps_is h f) i
-ordered_step p h _ setting known blank i = i
+pub ordered_step : (p : ℕ) (h : List Entry) (x : Event) → Goes p h x → Setting h → LiveAreKnown h → AllBlank h → Ordered h → Ordered (entry p h x ∷ h)
+ordered_step p h (e.Dir d q) on setting known blank i = (i.0, λ f. in_order_kept h f _ known blank (seq_stays f _ _ _ (dir_stays p h d q f on setting)) (i.1 f))
+ordered_step p h (e.File g q) on setting known blank i = (i.0, λ f. in_order_kept h f _ known blank (seq_stays f _ _ _ (file_stays p h g q f on setting)) (i.1 f))
+ordered_step p h (e.Begin c f bits end) on setting known blank i = step_begin h c f bits end _ (begin_is h c f bits end) i
+ordered_step p h (e.End c name) on setting known blank i = step_end h c name _ (end_is h c name) i
+ordered_step p h (e.Write c name off bytes) on setting known blank i = step_write h c name off bytes _ (write_is h c name off bytes) i
+ordered_step p h e.ToClient on setting known blank i = step_client h _ (first_is h) on.now setting known blank i
+ordered_step p h (e.FlushSnaps f) on setting known blank i = step_flush_snaps h f _ (flush_snaps_is h f) i
+ordered_step p h _ on setting known blank i = i
 
 pub ordered_first : Ordered []
 ordered_first = (

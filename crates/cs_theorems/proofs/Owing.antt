@@ -14,13 +14,13 @@ use Rattle.cs_laws.specs.declared.answers.Entry.{Entry}
 use Rattle.cs_laws.specs.declared.objects.At.{At}
 use Rattle.cs_laws.specs.declared.objects.At.TheVariants as at
 use Rattle.cs_laws.specs.CapSnaps.{CapSnap, has_writer}
-use Rattle.cs_laws.specs.Events.{setup_file}
 use Rattle.cs_laws.specs.Flushes.{Flush, acked}
 use Rattle.cs_laws.specs.History.{context, dirty, live, queued, sent, writes}
 use Rattle.cs_laws.specs.Image.{Write}
 use Rattle.cs_laws.specs.Owed.{is_acked, is_later, is_unacked, is_written, owed}
 use Rattle.cs_laws.specs.Shown.{is_before}
 use Rattle.cs_laws.specs.Runs.{IsRun}
+use Rattle.cs_laws.specs.ClientKnows.{client_knows}
 use Rattle.cs_theorems.specs.Queues.{snaps}
 use Rattle.cs_theorems.specs.Unacked.{sent_of, unacked}
 use Rattle.cs_theorems.proofs.Course.{course_run}
@@ -188,7 +188,7 @@ implied false false w v from = refl
 
 -- The client owes a file's state at a snapshot where it wasn't told of it, or where it keeps a cap snap of a context before it or
 -- an unacknowledged flush under one.
-pub owed_snap : (p : ℕ) (h : List Entry) → IsRun p h → (f s : ℕ) → setup_file h f ≡ true
+pub owed_snap : (p : ℕ) (h : List Entry) → IsRun p h → (f s : ℕ) → client_knows h f ≡ true
     → owed h f (at.Snap s)
     ≡ (nat_lt (context h f).seq s || (kept.has_unacked_below s (snaps h f) || list_any (λ (u : Sent). nat_lt u.follows s) (unacked h f)))
 owed_snap p h run f s known =
@@ -206,7 +206,7 @@ written_now f rs =
     (λ t. let r = any_some (is_writer_of f) rs t in any_true (λ (r : Live). is_writer_of f r && true) rs r.0 r.1 (and_from (is_writer_of f r.0) true r.2 refl))
 
 -- the client owes a file's present state where it has a writer, dirty metadata, a cap snap in the queue or an unacknowledged flush
-pub owed_head : (p : ℕ) (h : List Entry) → IsRun p h → (f : ℕ) → setup_file h f ≡ true
+pub owed_head : (p : ℕ) (h : List Entry) → IsRun p h → (f : ℕ) → client_knows h f ≡ true
     → owed h f at.Head
     ≡ (has_writer f (live h) || (not (is_empty (dirty h f)) || (list_any (λ (y : Snap). true) (snaps h f) || list_any (λ (u : Sent). true) (unacked h f))))
 owed_head p h run f known =

@@ -40,6 +40,7 @@ use Rattle.cs_theorems.proofs.Runs.{of_run}
 use Rattle.cs_theorems.proofs.Tests.{any_none, any_some, any_true, member_end}
 use Rattle.cs_theorems.proofs.Uses.{named_is}
 use Rattle.cs_theorems.proofs.Writers.{above_closed}
+use Rattle.cs_theorems.proofs.Asks.{goes_by}
 
 -- Which cap snaps are open
 
@@ -298,4 +299,4 @@ queue_step p h _ before now i = i
 pub all_queue : (p : ℕ) (h : List Entry) → IsRun p h → AllQueue h
 all_queue p h run =
     of_run p AllQueue (λ f. queue_empty 0)
-    (λ g x fit before i. let course : Course g = course_run p g before in queue_step p g x course.order (course_step p g x course).order i) h run
+    (λ g x fit before i. let course : Course g = course_run p g before in queue_step p g x course.order (course_step p g x (goes_by p g x fit before) course).order i) h run

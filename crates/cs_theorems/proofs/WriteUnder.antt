@@ -15,7 +15,6 @@ use Rattle.cs_laws.specs.declared.answers.Answer.TheVariants as a
 use Rattle.cs_laws.specs.declared.answers.Entry.{Entry}
 use Rattle.cs_laws.specs.Answers.{answer}
 use Rattle.cs_laws.specs.CapSnaps.{CapSnap, has_writer, is_open, makes}
-use Rattle.cs_laws.specs.Events.{setup_file}
 use Rattle.cs_laws.specs.History.{context, dirty, live, mode, queued, writes}
 use Rattle.cs_laws.specs.Image.{Write, size, mtime}
 use Rattle.cs_laws.specs.Journal.{entry}
@@ -24,6 +23,7 @@ use Rattle.cs_laws.specs.References.{named, without_named}
 use Rattle.cs_laws.specs.Runs.{IsRun}
 use Rattle.cs_theorems.specs.Contexts.{HadContext}
 use Rattle.cs_laws.specs.Flushes.{written_meta}
+use Rattle.cs_laws.specs.ClientKnows.{client_knows}
 use Rattle.cs_theorems.specs.Queues.{snaps, snaps_then, makes_snap, with_ended}
 use Rattle.cs_theorems.specs.Snapshots.{BeganUnderOne}
 use Rattle.cs_theorems.proofs.Blank.{AllBlank, makes_none, no_writer, none_live}
@@ -95,18 +95,18 @@ under_then Held (e.End c name) a.Ended f makes old rs ws m xs now i = under_ende
 under_then Held _ _ f makes old rs ws m xs now i = i
 
 -- the present one, if the file is known
-had_now : (h : List Entry) (f : ℕ) → setup_file h f ≡ true → HadContext h f (context h f)
+had_now : (h : List Entry) (f : ℕ) → client_knows h f ≡ true → HadContext h f (context h f)
 had_now [] f known = absurd (false≢true known)
 had_now (x ∷ h) f known = inl (known, refl)
 
 -- a file of which a cap snap is made is known
-made_known : (h : List Entry) (f : ℕ) (new : Context) → LiveAreKnown h → AllBlank h → makes f (context h f) new (live h) (dirty h f) (queued h f) ≡ true → setup_file h f ≡ true
+made_known : (h : List Entry) (f : ℕ) (new : Context) → LiveAreKnown h → AllBlank h → makes f (context h f) new (live h) (dirty h f) (queued h f) ≡ true → client_knows h f ≡ true
 made_known h f new known blank made =
     ⊎_elim
     (λ is. is)
     (λ unknown. absurd (both_ways (makes f (context h f) new (live h) (dirty h f) (queued h f))
     (makes_none f (context h f) new (live h) (dirty h f) (queued h f) (no_writer f (live h) (none_live h f unknown known)) (blank f unknown).dirty) made))
-    (cases_Bool (setup_file h f))
+    (cases_Bool (client_knows h f))
 
 abbrev HadEach : List Entry → Type 0
 HadEach h = (f : ℕ) → Each (λ (x : Snap). HadContext h f x.context) (snaps h f)
