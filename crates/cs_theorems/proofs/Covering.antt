@@ -14,19 +14,22 @@ use Rattle.cs_laws.specs.declared.records.RecordBody.TheVariants as bodies
 use Rattle.cs_laws.specs.declared.objects.At.TheVariants as at
 use Rattle.cs_laws.specs.Answers.{covers_file, standing_context}
 use Rattle.cs_laws.specs.History.{durable, fresh, stand}
-use Rattle.cs_laws.specs.Realms.{Own, has_snap, is_realm, own, own_after, own_then, realm_record, realm_records, number_of}
+use Rattle.cs_laws.specs.Realms.{Own, has_snap, is_realm, own, own_after, own_then, realm_record, realm_records, number_of, since_of}
 use Rattle.cs_laws.specs.Standing.{dir_in, dir_of, is_removal, is_removed, is_snap}
 use Rattle.cs_laws.specs.Standing.{has_snap as snap_stands}
-use Rattle.cs_laws.specs.ClientKnows.{client_file_path}
-use Rattle.cs_laws.specs.Tree.{directories, home, is_directory, path}
+use Rattle.cs_laws.specs.Tree.{is_directory}
 use Rattle.cs_laws.specs.Runs.{IsRun}
+use Rattle.cs_laws.specs.ServerKnows.{server_dir, server_dirs, server_file_path, server_home, server_path}
 use Rattle.cs_theorems.proofs.Course.{course_run}
 use Rattle.cs_theorems.proofs.Drawn.{AllDraw, Draws}
-use Rattle.cs_theorems.proofs.Fronts.{OfDir, realm_dir}
 use Rattle.cs_theorems.proofs.Listed.{Member, each_append}
 use Rattle.cs_theorems.proofs.RealmPaths.{HasRealms, path_is_way, realm_of, way_context}
 use Rattle.cs_theorems.proofs.Settings.{Setting}
 use Rattle.cs_theorems.proofs.WayContexts.{has_realm}
+use Rattle.cs_theorems.proofs.Logs.{realm_dir}
+use Rattle.cs_theorems.proofs.Paths.{Tree}
+use Rattle.cs_theorems.proofs.Sides.{log_dirs, server_listing, server_tree}
+use Rattle.cs_theorems.specs.Covering.{covers_along, passes}
 
 -- The records of all realms
 
@@ -63,17 +66,31 @@ has_all up ds rs listed = record { has = λ d. at d (is_realm rs d) refl }
     at d true is = one_found up rs d ds is (listed d is)
     at d false not = none_found up rs d ds not
 
-pub standing_way : (h : List Entry) (f : ℕ) → Setting h → standing_context h f ≡ way_context (stand h) (client_file_path h f)
+pub standing_way : (h : List Entry) (f : ℕ) → Setting h → standing_context h f ≡ way_context (stand h) (server_file_path h f)
 standing_way h f i =
-    path_is_way (λ d. is_directory h d) (λ d. path h d) (stand h) (realm_records (λ d. path h d) (directories h) (stand h)) i.tree dirs
-    (has_all (λ d. path h d) (directories h) (stand h) (λ d is. i.listing.listed d (dirs d is))) (client_file_path h f) (i.tree.ways (home h f))
+    path_is_way (λ d. server_dir h d) (λ d. server_path h d) (stand h) (realm_records (λ d. server_path h d) (server_dirs h) (stand h)) tree dirs
+    (has_all (λ d. server_path h d) (server_dirs h) (stand h) (λ d is. (server_listing h i.tree i.listing i.asks).listed d (dirs d is))) (server_file_path h f)
+    (tree.ways (server_home h f))
   where
-    dirs : (d : ℕ) → is_realm (stand h) d ≡ true → is_directory h d ≡ true
-    dirs d is =
-        realm_dir (λ k. is_directory h k) (stand h) d refl
-        (each_append (λ r. OfDir (λ k. is_directory h k) r.body) (durable h) (fresh h) i.front.durable i.front.fresh) is
+    tree : Tree (λ d. server_dir h d) (λ d. server_path h d)
+    tree = server_tree h i.tree i.asks
+
+    dirs : (d : ℕ) → is_realm (stand h) d ≡ true → server_dir h d ≡ true
+    dirs d is = sym (log_dirs h d) ∙ realm_dir (λ k. is_directory h k) (stand h) d refl i.front.good is
 
 -- Members of merged lists
+
+or_none : (b : Bool) → (b || false) ≡ b
+or_none true = refl
+or_none false = refl
+
+and_none : (b : Bool) → (b && false) ≡ false
+and_none true = refl
+and_none false = refl
+
+and_one : (b : Bool) → (b && true) ≡ b
+and_one true = refl
+and_one false = refl
 
 any_with : (s t : ℕ) (xs : List ℕ) → list_any (λ x. x == s) (with_snap t xs) ≡ ((t == s) || list_any (λ x. x == s) xs)
 any_with s t [] = refl
@@ -101,43 +118,49 @@ any_descending : (s : ℕ) (xs : List ℕ) → list_any (λ x. x == s) (descendi
 any_descending s [] = refl
 any_descending s (x ∷ xs) = any_with s x (descending xs) ∙ ap (λ b. (x == s) || b) (any_descending s xs)
 
-any_from_one : (s : ℕ) (xs : List ℕ) → 1 ≤ s → list_any (λ x. x == s) (filter (nat_le 1) xs) ≡ list_any (λ x. x == s) xs
-any_from_one s [] low = refl
-any_from_one s (x ∷ xs) low = at (nat_le 1 x) refl (any_from_one s xs low)
+any_from : (s k : ℕ) (xs : List ℕ) → list_any (λ x. x == s) (filter (nat_le k) xs) ≡ (nat_le k s && list_any (λ x. x == s) xs)
+any_from s k [] = sym (and_none (nat_le k s))
+any_from s k (x ∷ xs) = at (nat_le k x) refl (x == s) refl (any_from s k xs)
   where
-    at : (b : Bool) → nat_le 1 x ≡ b → list_any (λ y. y == s) (filter (nat_le 1) xs) ≡ list_any (λ y. y == s) xs
-        → list_any (λ y. y == s) (cond b (x ∷ filter (nat_le 1) xs) (filter (nat_le 1) xs)) ≡ ((x == s) || list_any (λ y. y == s) xs)
-    at true up rest = ap (λ b. (x == s) || b) rest
-    at false none rest =
-        rest
-        ∙ sym (ap (λ b. b || list_any (λ y. y == s) xs) (false_from_ne_true (x == s) (λ same. both_ways (nat_le 1 x) none (le-leb 1 x (omega (arith, eqb-true x s same))))))
+    is_there : (x == s) ≡ true → nat_le k x ≡ nat_le k s
+    is_there same = ap (nat_le k) (eqb-true x s same)
 
-merged_any : (s : ℕ) (own_list : List ℕ) (seq : ℕ) (c : Context) → 1 ≤ s
-    → list_any (λ x. x == s) (merged own_list [] seq c 1).snaps ≡ (list_any (λ x. x == s) own_list || list_any (λ x. x == s) c.snaps)
-merged_any s own_list seq c low =
-    any_descending s ((own_list ++ []) ++ filter (nat_le 1) c.snaps)
-    ∙ (list_any-append (λ x. x == s) (own_list ++ []) (filter (nat_le 1) c.snaps)
-    ∙ (ap (λ b. b || list_any (λ x. x == s) (filter (nat_le 1) c.snaps)) (list_any-append (λ x. x == s) own_list [] ∙ or_none (list_any (λ x. x == s) own_list))
-    ∙ ap (λ b. list_any (λ x. x == s) own_list || b) (any_from_one s c.snaps low)))
-  where
-    or_none : (b : Bool) → (b || false) ≡ b
-    or_none true = refl
-    or_none false = refl
+    at : (b : Bool) → nat_le k x ≡ b → (c : Bool) → (x == s) ≡ c → list_any (λ y. y == s) (filter (nat_le k) xs) ≡ (nat_le k s && list_any (λ y. y == s) xs)
+        → list_any (λ y. y == s) (cond b (x ∷ filter (nat_le k) xs) (filter (nat_le k) xs)) ≡ (nat_le k s && (c || list_any (λ y. y == s) xs))
+    at true up true same rest = ap (λ b. b || list_any (λ y. y == s) (filter (nat_le k) xs)) same ∙ sym (and_one (nat_le k s) ∙ (sym (is_there same) ∙ up))
+    at true up false other rest = ap (λ b. b || list_any (λ y. y == s) (filter (nat_le k) xs)) other ∙ rest
+    at false low true same rest = rest ∙ (ap (λ b. b && list_any (λ y. y == s) xs) (sym (is_there same) ∙ low) ∙ sym (and_one (nat_le k s) ∙ (sym (is_there same) ∙ low)))
+    at false low false other rest = rest
+
+merged_any : (s : ℕ) (own_list : List ℕ) (seq : ℕ) (c : Context) (since : ℕ)
+    → list_any (λ x. x == s) (merged own_list [] seq c since).snaps ≡ (list_any (λ x. x == s) own_list || (nat_le since s && list_any (λ x. x == s) c.snaps))
+merged_any s own_list seq c since =
+    any_descending s ((own_list ++ []) ++ filter (nat_le since) c.snaps)
+    ∙ (list_any-append (λ x. x == s) (own_list ++ []) (filter (nat_le since) c.snaps)
+    ∙ (ap (λ b. b || list_any (λ x. x == s) (filter (nat_le since) c.snaps)) (list_any-append (λ x. x == s) own_list [] ∙ or_none (list_any (λ x. x == s) own_list))
+    ∙ ap (λ b. list_any (λ x. x == s) own_list || b) (any_from s since c.snaps)))
 
 -- Along a way
 
-pub way_any : (s : ℕ) (rs : List Record) (ds : List ℕ) → 1 ≤ s → list_any (λ x. x == s) (way_context rs ds).snaps ≡ list_any (λ d. has_snap s (own d rs)) ds
-way_any s rs [] low = refl
-way_any s rs (d ∷ ds) low = at (is_realm rs d) refl (way_any s rs ds low)
+-- shown d: whether the directory has the snapshot
+abbrev shown_along : (ℕ → Bool) → ℕ → List Record → List ℕ → Bool
+shown_along shown s rs [] = false
+shown_along shown s rs (d ∷ ds) = shown d || (passes s rs d && shown_along shown s rs ds)
+
+way_any : (s : ℕ) (rs : List Record) (ds : List ℕ) → list_any (λ x. x == s) (way_context rs ds).snaps ≡ shown_along (λ d. has_snap s (own d rs)) s rs ds
+way_any s rs [] = refl
+way_any s rs (d ∷ ds) = at (is_realm rs d) refl (way_any s rs ds)
   where
-    at : (b : Bool) → is_realm rs d ≡ b → list_any (λ x. x == s) (way_context rs ds).snaps ≡ list_any (λ k. has_snap s (own k rs)) ds
-        → list_any (λ x. x == s) (cond b (merged (own d rs).snaps [] (own d rs).seq (way_context rs ds) 1) (way_context rs ds)).snaps
-        ≡ (has_snap s (own d rs) || list_any (λ k. has_snap s (own k rs)) ds)
-    at true is rest = merged_any s (own d rs).snaps (own d rs).seq (way_context rs ds) low ∙ ap (λ b. has_snap s (own d rs) || b) rest
-    at false not rest =
+    at : (b : Bool) → is_realm rs d ≡ b → list_any (λ x. x == s) (way_context rs ds).snaps ≡ shown_along (λ k. has_snap s (own k rs)) s rs ds
+        → list_any (λ x. x == s) (cond b (merged (own d rs).snaps [] (own d rs).seq (way_context rs ds) (since_of rs d)) (way_context rs ds)).snaps
+        ≡ (has_snap s (own d rs) || ((not b || nat_le (since_of rs d) s) && shown_along (λ k. has_snap s (own k rs)) s rs ds))
+    at true is rest =
+        merged_any s (own d rs).snaps (own d rs).seq (way_context rs ds) (since_of rs d)
+        ∙ ap (λ b. has_snap s (own d rs) || (nat_le (since_of rs d) s && b)) rest
+    at false not_realm rest =
         rest
-        ∙ sym (ap (λ b. b || list_any (λ k. has_snap s (own k rs)) ds)
-        (false_from_ne_true (has_snap s (own d rs)) (λ there. both_ways (is_realm rs d) not (has_realm d s rs there))))
+        ∙ sym (ap (λ b. b || shown_along (λ k. has_snap s (own k rs)) s rs ds)
+        (false_from_ne_true (has_snap s (own d rs)) (λ there. both_ways (is_realm rs d) not_realm (has_realm d s rs there))))
 
 -- The directory of a snapshot
 
@@ -175,10 +198,6 @@ filter_own s (x ∷ xs) = at (x == s) refl (filter_own s xs)
     at true same rest = rest
     at false other rest = ap (λ b. b || list_any (λ y. y == s) (filter (λ y. not (y == s)) xs)) other ∙ rest
 
-or_none : (b : Bool) → (b || false) ≡ b
-or_none true = refl
-or_none false = refl
-
 -- what the directory has once one record more is there
 snap_has : (d s g n e : ℕ) (o : Own) (rs : List Record) → g < n → AllDraw (max g n) rs → (has_snap s o ≡ true → s ≤ g)
     → (has_snap s (cond (e == d) (record { seq = n; snaps = n ∷ o.snaps }) o) || is_dir d (dir_of s rs)) ≡ (has_snap s o || is_dir d (cond (n == s) (Some e) (dir_of s rs)))
@@ -211,10 +230,6 @@ own_removal s n o =
 
 abbrev Known : ℕ → ℕ → Own → List Record → Type 0
 Known d s p rs = has_snap s (own_after d p rs) ≡ ((has_snap s p || is_dir d (dir_of s rs)) && not (is_removed s rs))
-
-and_none : (b : Bool) → (b && false) ≡ false
-and_none true = refl
-and_none false = refl
 
 own_step : (d s g : ℕ) (o : Own) (b : RecordBody) (rs : List Record) → Draws g b → AllDraw (max g (number_of b)) rs → (has_snap s o ≡ true → s ≤ g)
     → ((p : Own) → (has_snap s p ≡ true → s ≤ max g (number_of b)) → Known d s p rs)
@@ -259,30 +274,26 @@ has_is d s rs draws = own_is d s 0 (record { seq = 0; snaps = [] }) rs draws (λ
 
 -- where the snapshot stands and isn't removed
 way_has : (s e : ℕ) (rs : List Record) (ds : List ℕ) → AllDraw 0 rs → dir_of s rs ≡ Some e → is_removed s rs ≡ false
-    → list_any (λ d. has_snap s (own d rs)) ds ≡ list_any (λ d. d == e) ds
+    → shown_along (λ d. has_snap s (own d rs)) s rs ds ≡ covers_along s e rs ds
 way_has s e rs [] draws there stays = refl
 way_has s e rs (d ∷ ds) draws there stays =
-    (λ i. one i || way_has s e rs ds draws there stays i)
+    (λ i. one i || (passes s rs d && way_has s e rs ds draws there stays i))
   where
     turn : (a b : ℕ) → (a == b) ≡ (b == a)
     turn a b = grind (arith, nat_tests)
-
-    and_one : (b : Bool) → (b && true) ≡ b
-    and_one true = refl
-    and_one false = refl
 
     one : has_snap s (own d rs) ≡ (d == e)
     one =
         has_is d s rs draws
         ∙ (ap (λ o. is_dir d o && not (is_removed s rs)) there ∙ (ap (λ b. (e == d) && not b) stays ∙ (and_one (e == d) ∙ turn e d)))
 
--- a snapshot of the directory e covers a file whose path has e
-pub covers_by : (p : ℕ) (h : List Entry) (f s e : ℕ) → IsRun p h → 1 ≤ s → dir_of s (stand h) ≡ Some e → is_removed s (stand h) ≡ false
-    → covers_file (at.Snap s) (standing_context h f) ≡ list_any (λ d. d == e) (client_file_path h f)
-covers_by p h f s e run low there stays =
+-- a snapshot of the directory e covers a file whose path has e, unless a realm on the way there was made too late for it
+pub covers_by : (p : ℕ) (h : List Entry) (f s e : ℕ) → IsRun p h → dir_of s (stand h) ≡ Some e → is_removed s (stand h) ≡ false
+    → covers_file (at.Snap s) (standing_context h f) ≡ covers_along s e (stand h) (server_file_path h f)
+covers_by p h f s e run there stays =
     let setting = (course_run p h run).setting in
     ap (λ (c : Context). list_any (λ t. t == s) c.snaps) (standing_way h f setting)
-    ∙ (way_any s (stand h) (client_file_path h f) low ∙ way_has s e (stand h) (client_file_path h f) setting.drawn there stays)
+    ∙ (way_any s (stand h) (server_file_path h f) ∙ way_has s e (stand h) (server_file_path h f) setting.drawn there stays)
 
 -- a snapshot stands where it has a directory
 pub stands_dir : (s : ℕ) (rs : List Record) → snap_stands s rs ≡ is_some (dir_of s rs)

@@ -5,10 +5,9 @@ use Rattle.cs_snapctx.specs.Context.{Context}
 use Rattle.cs_laws.specs.declared.answers.Entry.{Entry}
 use Rattle.cs_laws.specs.Answers.{count_made}
 use Rattle.cs_laws.specs.CapSnaps.{makes}
-use Rattle.cs_laws.specs.Events.{files}
 use Rattle.cs_laws.specs.History.{context, dirty, live, queued}
 use Rattle.cs_laws.specs.Runs.{IsRun}
-use Rattle.cs_laws.specs.ClientKnows.{client_knows}
+use Rattle.cs_laws.specs.ClientKnows.{client_knows, client_files}
 use Rattle.cs_theorems.specs.References.{IsEachOnce}
 use Rattle.cs_theorems.proofs.Files.{listed, listed_once}
 use Rattle.cs_theorems.proofs.Listed.{Member}
@@ -78,8 +77,8 @@ made_passing h new (f ∷ fs) =
 
 -- how many cap snaps new contexts make, by any list of the files
 pub count_made_any : (p : ℕ) (h : List Entry) → IsRun p h → (new : ℕ → Context) (fs : List ℕ) → IsEachOnce fs → ((f : ℕ) → (client_knows h f ≡ true) ↔ Member f fs)
-    → count_made h new fs ≡ count_made h new (files h)
+    → count_made h new fs ≡ count_made h new (client_files h)
 count_made_any p h run new fs once known =
     let test : ℕ → Bool = λ f. makes f (context h f) (new f) (live h) (dirty h f) (queued h f) in
-    let same = passing_same test fs (files h) once (listed_once p h run) (λ f. ((λ m. (listed p h run f).0 ((known f).1 m)), (λ m. (known f).0 ((listed p h run f).1 m)))) in
-    made_passing h new fs ∙ (same ∙ sym (made_passing h new (files h)))
+    let same = passing_same test fs (client_files h) once (listed_once p h run) (λ f. ((λ m. (listed p h run f).0 ((known f).1 m)), (λ m. (known f).0 ((listed p h run f).1 m)))) in
+    made_passing h new fs ∙ (same ∙ sym (made_passing h new (client_files h)))

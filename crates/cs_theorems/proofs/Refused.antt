@@ -1,5 +1,5 @@
 -- A refused event changes the journal alone.
-use Rattle.std.proofs.Common.{◌≡◌, refl, ap, ◌∙◌, ℕ, ◌==◌, ◌&&◌, ◌||◌, not, Bool, true, List, [], ◌∷◌, ◌++◌, length, reverse}
+use Rattle.std.proofs.Common.{◌≡◌, refl, ap, ◌∙◌, ℕ, ◌==◌, ◌&&◌, ◌||◌, not, Bool, true, List, [], ◌∷◌, ◌++◌, length, reverse, Option}
 use Rattle.std.specs.List.{list_any}
 use Rattle.std.proofs.lemmas.Bool.{cond-true}
 use Rattle.cs_bits.specs.declared.Caps.{Caps}
@@ -20,7 +20,7 @@ use Rattle.cs_laws.specs.Capabilities.{client_then, server_then}
 use Rattle.cs_laws.specs.declared.records.Record.{Record}
 use Rattle.cs_laws.specs.CapSnaps.{CapSnap, queued_then}
 use Rattle.cs_laws.specs.Context.{path_context, realms_then}
-use Rattle.cs_laws.specs.ClientKnows.{client_file_path, client_knows}
+use Rattle.cs_laws.specs.ClientKnows.{client_file_path, client_knows, client_home, client_made, client_made_then, client_path}
 use Rattle.cs_laws.specs.Tree.{directories, directories_then, home, home_then, path, path_then, setup_dir, setup_dir_then}
 use Rattle.cs_laws.specs.Events.{setup_file, setup_file_then, files, files_then, begun, begun_then, clock, clock_then}
 use Rattle.cs_laws.specs.Flight.{to_client_then, to_server_then}
@@ -34,6 +34,12 @@ use Rattle.cs_laws.specs.References.{live_then, mode_then, dirty_then}
 use Rattle.cs_laws.specs.Standing.{durable_then, fresh_then, last_sent_then, news}
 use Rattle.cs_laws.specs.Writes.{writes_then}
 use Rattle.cs_laws.specs.Refusals.{is_refusal}
+use Rattle.cs_laws.specs.ServerKnows.{server_dirs, server_made, server_path}
+use Rattle.cs_laws.specs.Made.{Made, dirs_with, home_with, made_in, makes_dir, makes_file, path_with, with_files}
+use Rattle.cs_laws.specs.Names.{names_after, setup_names, setup_names_then}
+use Rattle.cs_laws.specs.Namespace.{Names}
+use Rattle.cs_laws.specs.Requests.{Reply, Request, is_closed, is_closed_then, is_saved, is_saved_then, replies, replies_then, requests, requests_then}
+use Rattle.cs_laws.specs.Leases.{Lease, lease, lease_then}
 use Rattle.cs_theorems.specs.Refusals.{IsAsBefore}
 
 made : (x : Event) (y : Answer) (f : ℕ) (was : Bool) → is_refusal x y ≡ true → setup_file_then x y f was ≡ was
@@ -176,6 +182,38 @@ acks : (x : Event) (y : Answer) (f tid : ℕ) (was : Bool) → is_refusal x y �
 acks e.ToClient (a.FlushAck g t) f tid was r = cc
 acks _ _ f tid was r = refl
 
+asked : (x : Event) (y : Answer) (xs : List Request) → is_refusal x y ≡ true → requests_then x y xs ≡ xs
+asked (e.Req c op) (a.Sent tid) xs r = cc
+asked _ _ xs r = refl
+
+answered : (x : Event) (y : Answer) (rs : List Reply) → is_refusal x y ≡ true → replies_then x y rs ≡ rs
+answered e.ToClient (a.Unsafe tid o) rs r = cc
+answered _ _ rs r = refl
+
+told_made : (x : Event) (y : Answer) (xs : List Request) (rs : List Reply) (ms : List Made) → is_refusal x y ≡ true → client_made_then x y xs rs ms ≡ ms
+told_made e.ToClient (a.Unsafe tid o) xs rs ms r = cc
+told_made _ _ xs rs ms r = refl
+
+closes : (x : Event) (y : Answer) (rs : List Reply) (t : ℕ) (was : Bool) → is_refusal x y ≡ true → is_closed_then x y rs t was ≡ was
+closes e.ToClient (a.Safe tid) rs t was r = cc
+closes _ _ rs t was r = refl
+
+saves : (x : Event) (y : Answer) (t : ℕ) (was : Bool) → is_refusal x y ≡ true → is_saved_then x y t was ≡ was
+saves e.ToClient (a.Safe tid) t was r = cc
+saves _ _ t was r = refl
+
+leased : (x : Event) (y : Answer) (xs : List Request) (now d : ℕ) (name : List ℕ) (was : Option Lease) → is_refusal x y ≡ true
+    → lease_then x y xs now d name was ≡ was
+leased e.ToClient (a.Unsafe tid o) xs now d name was r = cc
+leased e.ToClient (a.Unlease k other) xs now d name was r = cc
+leased (e.Req c op) (a.Sent tid) xs now d name was r = cc
+leased _ _ xs now d name was r = refl
+
+named : (x : Event) (y : Answer) (ns : Names) → is_refusal x y ≡ true → setup_names_then x y ns ≡ ns
+named (e.Dir d p) a.Made ns r = cc
+named (e.File f p) a.Made ns r = cc
+named _ _ ns r = refl
+
 -- a state is owed by what the functions say
 owed_same : (h : List Entry) (x : Entry) (f : ℕ) (state : At) → ((g tid : ℕ) → acked (x ∷ h) g tid ≡ acked h g tid) → client_knows (x ∷ h) f ≡ client_knows h f
     → context (x ∷ h) f ≡ context h f → live (x ∷ h) ≡ live h → dirty (x ∷ h) f ≡ dirty h f → queued (x ∷ h) f ≡ queued h f → sent (x ∷ h) ≡ sent h
@@ -193,33 +231,48 @@ as_before h x r =
     let same_home : (f : ℕ) → home (x ∷ h) f ≡ home h f = λ f. homes x.event x.answer f (home h f) r in
     let same_file : (f : ℕ) → setup_file (x ∷ h) f ≡ setup_file h f = λ f. made x.event x.answer f (setup_file h f) r in
     let same_dir : (d : ℕ) → setup_dir (x ∷ h) d ≡ setup_dir h d = λ d. made_dir x.event x.answer d (setup_dir h d) r in
+    let same_made : client_made (x ∷ h) ≡ client_made h = told_made x.event x.answer (requests h) (replies h) (client_made h) r in
+    let same_known : (f : ℕ) → client_knows (x ∷ h) f ≡ client_knows h f = λ f i. same_file f i || makes_file f (same_made i) in
+    let same_way : (d : ℕ) → client_path (x ∷ h) d ≡ client_path h d = λ d i. path_with (same_made i) (λ k. same_path k i) d in
+    let same_house : (f : ℕ) → client_home (x ∷ h) f ≡ client_home h f = λ f i. home_with (same_made i) f (same_home f i) in
+    let same_durable : durable (x ∷ h) ≡ durable h = durables x.event x.answer (fresh h) (durable h) r in
+    let same_fresh : fresh (x ∷ h) ≡ fresh h = added x.event x.answer (to_server h) (fresh h) r in
+    let same_log : server_made (x ∷ h) ≡ server_made h = λ i. made_in (same_durable i ++ same_fresh i) in
+    let same_dirs : directories (x ∷ h) ≡ directories h = dirs x.event x.answer (λ d. length (path (x ∷ h) d)) (directories h) r in
+    let same_names : setup_names (x ∷ h) ≡ setup_names h = named x.event x.answer (setup_names h) r in
     let same_context : (f : ℕ) → context (x ∷ h) f ≡ context h f
-    = λ f. ap (λ ps. path_context ps (realms (x ∷ h))) (same_path (home (x ∷ h) f) ∙ ap (path h) (same_home f)) ∙ ap (λ ts. path_context (client_file_path h f) ts) same_realms in
+    = λ f. ap (λ ps. path_context ps (realms (x ∷ h))) (same_way (client_home (x ∷ h) f) ∙ ap (client_path h) (same_house f)) ∙ ap (λ ts. path_context (client_file_path h f) ts) same_realms in
     let same_live : live (x ∷ h) ≡ live h = references x.event x.answer (λ f. (context h f).seq) (live h) r in
     let same_dirty : (f : ℕ) → dirty (x ∷ h) f ≡ dirty h f = λ f. dirtied x.event x.answer (live h) f (dirty h f) r in
     let same_queue : (f : ℕ) → queued (x ∷ h) f ≡ queued h f
     = λ f. queues x.event x.answer f (context h f) (context (x ∷ h) f) (live h) (dirty h f) (mode h f) (queued h f) r in
     let same_sent : sent (x ∷ h) ≡ sent h = flushed x.event x.answer (present h) (snap h) (sent h) r in
     let same_acked : (f tid : ℕ) → acked (x ∷ h) f tid ≡ acked h f tid = λ f tid. acks x.event x.answer f tid (acked h f tid) r in
-    let told_now : List Message = news (λ d. path h d) (directories h) (last_sent h) (durable h) (fresh h) in
+    let told_now : List Message = news (λ d. server_path h d) (server_dirs h) (last_sent h) (durable h) (fresh h) in
     record {
-      client_knows = same_file;
-      server_knows = same_file;
-      client_files = listed x.event x.answer (files h) r;
-      client_dir = λ d. ap (λ b. (d == 1) || b) (same_dir d);
-      server_dir = λ d. ap (λ b. (d == 1) || b) (same_dir d);
-      server_dirs = dirs x.event x.answer (λ d. length (path (x ∷ h) d)) (directories h) r;
-      client_path = same_path;
-      server_path = same_path;
-      client_home = same_home;
-      server_home = same_home;
+      client_knows = same_known;
+      server_knows = λ f i. same_file f i || makes_file f (same_log i);
+      client_files = λ i. with_files (same_made i) (listed x.event x.answer (files h) r i);
+      client_dir = λ d i. ((d == 1) || same_dir d i) || makes_dir d (same_made i);
+      server_dir = λ d i. ((d == 1) || same_dir d i) || makes_dir d (same_log i);
+      server_dirs = λ i. dirs_with (same_log i) (λ k. same_path k i) (same_dirs i);
+      client_path = same_way;
+      server_path = λ d i. path_with (same_log i) (λ k. same_path k i) d;
+      client_home = same_house;
+      server_home = λ f i. home_with (same_log i) f (same_home f i);
+      names = λ i. names_after (same_names i) (same_durable i ++ same_fresh i);
+      requests = asked x.event x.answer (requests h) r;
+      replies = answered x.event x.answer (replies h) r;
+      closed = λ t. closes x.event x.answer (replies h) t (is_closed h t) r;
+      saved = λ t. saves x.event x.answer t (is_saved h t) r;
+      leases = λ d name. leased x.event x.answer (requests h) (clock h) d name (lease h d name) r;
       client = λ f. clients x.event x.answer f (client h f) r;
       server = λ f. servers x.event x.answer f (server h f) r;
       session = refl;
       to_client = clients_way x.event x.answer (λ f. server h f) (durable h) told_now (to_client h) r;
       to_server = servers_way x.event x.answer (present h) (snap h) (to_server h) r;
-      durable = durables x.event x.answer (fresh h) (durable h) r;
-      fresh = added x.event x.answer (to_server h) (fresh h) r;
+      durable = same_durable;
+      fresh = same_fresh;
       realms = same_realms;
       last_sent = last x.event x.answer told_now (last_sent h) r;
       clock = clocks x.event x.answer (clock h) r;
@@ -233,7 +286,7 @@ as_before h x r =
       queued = same_queue;
       sent = same_sent;
       acked = same_acked;
-      owed = λ f state. owed_same h x f state same_acked (same_file f) (same_context f) same_live (same_dirty f) (same_queue f) same_sent;
+      owed = λ f state. owed_same h x f state same_acked (same_known f) (same_context f) same_live (same_dirty f) (same_queue f) same_sent;
       modes_at = λ f s is. cond-true (had_reached h f s) (mode_at h f (at.Snap s)) (mode h f) is;
       operations = ap (λ os. reverse os ++ applied h) (none_brought x.event x.answer h (operations_drawn h) r);
       drawn = none_drawn x.event x.answer h (operations_drawn h) r;

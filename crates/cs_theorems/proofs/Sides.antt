@@ -18,7 +18,7 @@ use Rattle.cs_theorems.proofs.Asks.{Asks}
 use Rattle.cs_theorems.proofs.Listing.{Listing, ListingAt}
 use Rattle.cs_theorems.proofs.Logs.{dirs_after}
 use Rattle.cs_theorems.proofs.Paths.{Housed, IsWay, Tree, TreeAt, setup_top}
-use Rattle.cs_theorems.proofs.Trees.{AreUsed, Grown, dirs_are, dirs_of, grown_front, home_in, listing_grown, listing_same, path_of_front, tree_grown, file_used, tops_grown, used_grow, used_of}
+use Rattle.cs_theorems.proofs.Trees.{AreUsed, Grown, dirs_are, dirs_of, grown_front, home_in, listing_grown, listing_same, path_of_front, tree_grown, file_used, tops_grown, used_grow, used_of, tree_same}
 use Rattle.cs_theorems.proofs.Listed.{Member}
 
 abbrev pub all_made : List Entry → List Made
@@ -134,3 +134,9 @@ named_dirs h asks d is =
     (λ k new. or_right (is_directory h k) _ (ap (makes_dir k) (log_made (stand h)) ∙ new))
     asks.setup.entries)
     (subst (λ ns. has_dir ns d ≡ true) (names_stage (setup_names h) (stand h)) is)
+
+pub server_tree : (h : List Entry) → TreeAt h → Asks h → Tree (λ d. server_dir h d) (λ d. server_path h d)
+server_tree h tree asks =
+    tree_same (λ d. dirs_of (server_made h) (λ k. is_directory h k) d) (λ d. server_dir h d) (λ d. server_path h d)
+    (λ d is. sym (dirs_are (server_made h) (λ k. is_directory h k) d) ∙ is) (λ d is. dirs_are (server_made h) (λ k. is_directory h k) d ∙ is)
+    (tree_grown (λ d. is_directory h d) (λ i. is_in_use h i) (server_made h) (λ d. path h d) (setup_used h) (front_grown h (server_made h) (server_front h asks) asks) tree)

@@ -11,6 +11,9 @@ use Rattle.cs_laws.specs.Owed.{had_reached, mode_at, owed}
 use Rattle.cs_laws.specs.Sessions.{server_state}
 use Rattle.cs_laws.specs.History.{client, server, to_client, to_server, durable, fresh, realms, context, live, writes, mode, dirty, queued, sent, last_sent}
 use Rattle.cs_laws.specs.Operations.{begun_under, operations_drawn, applied}
+use Rattle.cs_laws.specs.Leases.{lease}
+use Rattle.cs_laws.specs.Names.{names}
+use Rattle.cs_laws.specs.Requests.{is_closed, is_saved, replies, requests}
 
 pub record IsAsBefore (h new : List Entry) : Type 0 where
   pub client_knows : (f : ℕ) → client_knows new f ≡ client_knows h f
@@ -23,6 +26,12 @@ pub record IsAsBefore (h new : List Entry) : Type 0 where
   pub server_path : (d : ℕ) → server_path new d ≡ server_path h d
   pub client_home : (f : ℕ) → client_home new f ≡ client_home h f
   pub server_home : (f : ℕ) → server_home new f ≡ server_home h f
+  pub names : names new ≡ names h
+  pub requests : requests new ≡ requests h
+  pub replies : replies new ≡ replies h
+  pub closed : (t : ℕ) → is_closed new t ≡ is_closed h t
+  pub saved : (t : ℕ) → is_saved new t ≡ is_saved h t
+  pub leases : (d : ℕ) (name : List ℕ) → lease new d name ≡ lease h d name
   pub client : (f : ℕ) → client new f ≡ client h f
   pub server : (f : ℕ) → server new f ≡ server h f
   pub session : server_state new ≡ server_state h
