@@ -2,9 +2,9 @@
 use Rattle.std.proofs.Common.{◌≡◌, true, List, [], ◌++◌, ℕ, ◌∷◌, refl}
 use Rattle.cs_laws.specs.declared.answers.Entry.{Entry}
 use Rattle.cs_laws.specs.Answers.{is_in_use}
-use Rattle.cs_laws.specs.ClientKnows.{client_made}
-use Rattle.cs_laws.specs.History.{durable, fresh, stand}
-use Rattle.cs_laws.specs.Made.{Made}
+use Rattle.cs_laws.specs.ClientKnows.{client_made, client_knows}
+use Rattle.cs_laws.specs.History.{durable, fresh, stand, to_client}
+use Rattle.cs_laws.specs.Made.{Made, made_by, makes_file}
 use Rattle.cs_laws.specs.Names.{setup_names}
 use Rattle.cs_laws.specs.Runs.{all_setup, CanFollow, IsRun}
 use Rattle.cs_laws.specs.Tree.{is_directory}
@@ -13,6 +13,13 @@ use Rattle.cs_theorems.proofs.Asked.{SetupFresh}
 use Rattle.cs_theorems.proofs.Trees.{Grown}
 use Rattle.cs_laws.specs.declared.events.Event.{Event}
 use Rattle.cs_laws.specs.Journal.{entry}
+use Rattle.cs_laws.specs.ServerKnows.{server_knows}
+use Rattle.cs_laws.specs.Requests.{op_of, requests}
+use Rattle.cs_laws.specs.declared.requests.OpAnswer.{OpAnswer}
+use Rattle.cs_laws.specs.declared.messages.Message.{Message}
+use Rattle.cs_laws.specs.declared.messages.Message.TheVariants as messages
+use Rattle.cs_laws.specs.declared.events.Event.TheVariants as e
+use Rattle.cs_laws.specs.declared.answers.Answer.TheVariants as a
 
 -- while all is set up nothing was asked, and nothing recorded
 pub record IsEarly (h : List Entry) : Type 0 where
@@ -39,3 +46,12 @@ asks_run p h run = ?
 
 pub goes_by : (p : ℕ) (h : List Entry) (x : Event) → CanFollow h x → IsRun p h → Goes p h x
 goes_by p h x can run = record { can = can; now = asks_run p (entry p h x ∷ h) ((can, refl), run) }
+
+-- what an answer that is delivered first makes is known then
+pub told_makes : (p : ℕ) (h : List Entry) → IsRun p h → (tid : ℕ) (o : OpAnswer) (ttl : ℕ) (q : List Message) → to_client h ≡ messages.Unsafe tid o ttl ∷ q → (f : ℕ)
+    → makes_file f (made_by (op_of tid (requests h)) o) ≡ true → client_knows (record { event = e.ToClient; answer = a.Unsafe tid o } ∷ h) f ≡ true
+told_makes p h run = ?
+
+-- the server knows what the client knows
+pub client_in_server : (p : ℕ) (h : List Entry) → IsRun p h → (f : ℕ) → client_knows h f ≡ true → server_knows h f ≡ true
+client_in_server p h run = ?

@@ -1,6 +1,9 @@
--- What isn't known as a file has neither capabilities nor writes, no cap snaps and no flushes, and the mode of a new file.
-use Rattle.std.proofs.Common.{◌≡◌, refl, subst, ℕ, ◌||◌, not, Bool, true, false, cond, List, [], ◌∷◌, ◌==◌, inl, Option, Some, None}
-use Rattle.std.proofs.lemmas.Bool.{cond_both, eqb-true, both_ways, and_left, and_right, or_from, false_from_ne_true}
+-- What a side doesn't know as a file has no capabilities there; what the client doesn't has no writes, cap snaps and flushes, and the mode of a new file.
+use Rattle.std.proofs.Common.{◌≡◌, refl, subst, ℕ, ◌||◌, not, Bool, true, false, cond, List, [], ◌∷◌, ◌==◌, inl, Option, Some, None, ◌+◌, ◌++◌, ◌∙◌, ap, sym, append_assoc, ⊎_elim}
+use Rattle.std.proofs.lemmas.Bool.{cond_both, eqb-true, both_ways, and_left, and_right, or_from, false_from_ne_true, or_cases, or_left, or_parts, or_right}
+use Rattle.std.proofs.lemmas.List.{append-nil}
+use Rattle.std.proofs.lemmas.List.Folds.{list_any-append}
+use Rattle.std.proofs.lemmas.Grind.{flat_map-append}
 use Rattle.cs_bits.specs.declared.Caps.{Caps}
 use Rattle.cs_bits.specs.Bits.{no_caps, is_empty, covers, file_write}
 use Rattle.cs_parts.specs.declared.capabilities.ClientCaps.{ClientCaps}
@@ -22,26 +25,32 @@ use Rattle.cs_laws.specs.Answers.{answer_check_of, answer_check, answer_grant, a
 use Rattle.cs_laws.specs.CapSnaps.{CapSnap, has_writer, makes}
 use Rattle.cs_laws.specs.ClientKnows.{client_knows}
 use Rattle.cs_laws.specs.Events.{setup_file, setup_file_then}
-use Rattle.cs_laws.specs.ServerKnows.{server_knows}
+use Rattle.cs_laws.specs.ServerKnows.{server_knows, server_made}
 use Rattle.cs_laws.specs.Flushes.{Flush}
-use Rattle.cs_laws.specs.History.{client, server, to_client, to_server, live, writes, mode, dirty, queued, context, used}
+use Rattle.cs_laws.specs.History.{client, server, to_client, to_server, live, writes, mode, dirty, queued, context, used, durable, fresh, stand}
 use Rattle.cs_laws.specs.Image.{Write}
 use Rattle.cs_laws.specs.Journal.{entry}
 use Rattle.cs_laws.specs.References.{named}
 use Rattle.cs_laws.specs.Runs.{IsRun}
+use Rattle.cs_laws.specs.Made.{is_made_file, made_in, made_of, makes_file}
+use Rattle.cs_laws.specs.Names.{names}
+use Rattle.cs_laws.specs.Namespace.{answer_on}
+use Rattle.cs_laws.specs.Standing.{greatest_number, recorded, requested}
 use Rattle.cs_theorems.specs.Queues.{snaps, with_ended}
 use Rattle.cs_theorems.specs.Unacked.{unacked}
-use Rattle.cs_theorems.specs.Underway.{IsToldClient, IsToldServer}
-use Rattle.cs_theorems.proofs.Inversions.{ChmodIs, chmod_unknown, chmod_no_bit, chmod_snap, chmod_done, chmod_is, WriteIs, write_unknown, write_no_bit, write_past, wrote, write_is, EndIs, end_unknown, ended, end_is, FlushIs, head_unknown, head_snap, head_clean, head_sent, flush_is, FlushSnapsIs, flush_unknown, flush_none, flush_writing, flush_sent, flush_snaps_is, FirstIs, first_idle, first_cap, first_flush_ack, first_unsafe, first_safe, first_unlease, first_snap, first_is, ReceivedIs, received_idle, received_ack, received_flush, received_again, received_req, received_req_again, received_is}
-use Rattle.cs_theorems.proofs.Known.{live_known}
-use Rattle.cs_theorems.proofs.Listed.{Each, each_tail}
+use Rattle.cs_theorems.proofs.Inversions.{ChmodIs, chmod_unknown, chmod_no_bit, chmod_snap, chmod_done, chmod_is, WriteIs, write_unknown, write_no_bit, write_past, wrote, write_is, EndIs, end_unknown, ended, end_is, FlushIs, head_unknown, head_snap, head_clean, head_sent, flush_is, FlushSnapsIs, flush_unknown, flush_none, flush_writing, flush_sent, flush_snaps_is, FirstIs, first_idle, first_cap, first_flush_ack, first_unsafe, first_safe, first_unlease, first_snap, first_is, ReceivedIs, received_idle, received_ack, received_flush, received_again, received_req, received_req_again, received_is, SnapIs, snap_unknown, snap_exists, snap_taken, snap_is, RemoveIs, remove_none, remove_gone, removed, remove_is}
+use Rattle.cs_theorems.proofs.Known.{live_known, LiveAreKnown, client_before, known_then}
+use Rattle.cs_theorems.proofs.Listed.{Each, each_tail, member_first}
 use Rattle.cs_theorems.proofs.Runs.{of_run}
-use Rattle.cs_theorems.proofs.Underway.{received_known, told_known}
 use Rattle.cs_theorems.proofs.Uses.{named_is}
+use Rattle.cs_theorems.proofs.Underway.{received_known, told_known}
+use Rattle.cs_theorems.proofs.Blank.{apart, makes_none, no_writer, none_live}
+use Rattle.cs_theorems.proofs.Asks.{client_in_server}
+use Rattle.cs_laws.specs.declared.records.Record.{Record}
+use Rattle.cs_laws.specs.declared.records.RecordBody.TheVariants as bodies
 
-pub record IsUntouched (c : ClientCaps) (s : ServerCaps) (ws : List Write) (m : ℕ) (d : Caps) (qs : List CapSnap) (xs : List Snap) (us : List Sent) : Type 0 where
+pub record IsUntouched (c : ClientCaps) (ws : List Write) (m : ℕ) (d : Caps) (qs : List CapSnap) (xs : List Snap) (us : List Sent) : Type 0 where
   pub client : c ≡ no_client_caps
-  pub server : s ≡ no_server_caps
   pub writes : ws ≡ []
   pub mode : m ≡ 420
   pub dirty : d ≡ no_caps
@@ -50,43 +59,14 @@ pub record IsUntouched (c : ClientCaps) (s : ServerCaps) (ws : List Write) (m : 
   pub unacked : us ≡ []
 
 abbrev pub IsUntouchedAt : List Entry → ℕ → Type 0
-IsUntouchedAt h f = IsUntouched (client h f) (server h f) (writes h f) (mode h f) (dirty h f) (queued h f) (snaps h f) (unacked h f)
+IsUntouchedAt h f = IsUntouched (client h f) (writes h f) (mode h f) (dirty h f) (queued h f) (snaps h f) (unacked h f)
 
 abbrev AllUntouched : List Entry → Type 0
-AllUntouched h = (f : ℕ) → setup_file h f ≡ false → IsUntouchedAt h f
-
--- one that is known isn't one that isn't
-pub apart : (h : List Entry) (g f : ℕ) → setup_file h g ≡ true → setup_file h f ≡ false → (g == f) ≡ false
-apart h g f known unknown =
-    false_from_ne_true (g == f) (λ same. both_ways (setup_file h f) unknown (subst (λ k. setup_file h k ≡ true) (eqb-true g f same) known))
-
-made_before : (b was : Bool) → cond b true was ≡ false → was ≡ false
-made_before true was e = absurd cc
-made_before false was e = e
-
-unknown_before : (x : Event) (y : Answer) (f : ℕ) (was : Bool) → setup_file_then x y f was ≡ false → was ≡ false
-unknown_before (e.File g p) a.Made f was unknown = made_before (g == f) was unknown
-unknown_before _ _ f was unknown = unknown
+AllUntouched h = (f : ℕ) → client_knows h f ≡ false → IsUntouchedAt h f
 
 -- Steps
 
-step_grant : (h : List Entry) (g : ℕ) (bits : Caps) (end : ℕ) → AllUntouched h
-    → AllUntouched (record { event = e.Grant g bits end; answer = answer_grant h g bits end } ∷ h)
-step_grant h g bits end i =
-    cond_both (server_knows h g) (sent_cap (granted (server h g) bits end)) a.Unknown
-    (λ x. AllUntouched (record { event = e.Grant g bits end; answer = x } ∷ h))
-    (λ known f unknown. rw (apart h g f known unknown) (i f unknown))
-    (λ _. i)
-
-step_revoke : (h : List Entry) (g : ℕ) (bits : Caps) → AllUntouched h
-    → AllUntouched (record { event = e.Revoke g bits; answer = answer_revoke h g bits } ∷ h)
-step_revoke h g bits i =
-    cond_both (server_knows h g) (sent_cap (revoked (server h g) bits)) a.Unknown
-    (λ x. AllUntouched (record { event = e.Revoke g bits; answer = x } ∷ h))
-    (λ known f unknown. rw (apart h g f known unknown) (i f unknown))
-    (λ _. i)
-
-step_checked : (h : List Entry) (g : ℕ) (c : ClientCaps) (in_use : Caps) → setup_file h g ≡ true → AllUntouched h
+step_checked : (h : List Entry) (g : ℕ) (c : ClientCaps) (in_use : Caps) → client_knows h g ≡ true → AllUntouched h
     → AllUntouched (record { event = e.Check g; answer = answer_check_of c in_use } ∷ h)
 step_checked h g c in_use known i =
     cond_both (is_complete c) _ _ (λ x. AllUntouched (record { event = e.Check g; answer = x } ∷ h)) (λ _. i)
@@ -115,7 +95,7 @@ step_flush h g x head_clean i = i
 step_flush h g x (head_sent known free changed) i = λ f unknown. rw (apart h g f known unknown) (i f unknown)
 
 step_chmod : (h : List Entry) (c : ℕ) (name : RefName) (mode : ℕ) (x : Answer) → ChmodIs h c name x
-    → Each (λ r. setup_file h r.file ≡ true) (live h) → AllUntouched h
+    → Each (λ r. client_knows h r.file ≡ true) (live h) → AllUntouched h
     → AllUntouched (record { event = e.Chmod c name mode; answer = x } ∷ h)
 step_chmod h c name mode x chmod_unknown known i = i
 step_chmod h c name mode x chmod_no_bit known i = i
@@ -125,7 +105,7 @@ step_chmod h c name mode x (chmod_done r is may free) known i = λ f unknown.
     rw is (rw (apart h r.file f (known r there) unknown) (i f unknown))
 
 step_write : (h : List Entry) (c : ℕ) (name : RefName) (off : ℕ) (bytes : List ℕ) (x : Answer) → WriteIs h c name x
-    → Each (λ r. setup_file h r.file ≡ true) (live h) → AllUntouched h
+    → Each (λ r. client_knows h r.file ≡ true) (live h) → AllUntouched h
     → AllUntouched (record { event = e.Write c name off bytes; answer = x } ∷ h)
 step_write h c name off bytes x write_unknown known i = i
 step_write h c name off bytes x write_no_bit known i = i
@@ -145,7 +125,6 @@ step_end h c name x (ended there) i = λ f unknown.
     let was : IsUntouchedAt h f = i f unknown in
     record {
       client = was.client;
-      server = was.server;
       writes = was.writes;
       mode = was.mode;
       dirty = was.dirty;
@@ -154,61 +133,104 @@ step_end h c name x (ended there) i = λ f unknown.
       unacked = was.unacked;
     }
 
--- no writer of it lives
-pub no_writer : (h : List Entry) (f : ℕ) (rs : List Live) → setup_file h f ≡ false → Each (λ r. setup_file h r.file ≡ true) rs → has_writer f rs ≡ false
-no_writer h f [] unknown known = refl
-no_writer h f (r ∷ rs) unknown known =
-    or_from _ _ (and_left (r.file == f) (covers r.bits file_write) (apart h r.file f (known r (inl refl)) unknown))
-    (no_writer h f rs unknown (each_tail (λ t. setup_file h t.file ≡ true) r rs known))
-
-makes_none : (f : ℕ) (old new : Context) (rs : List Live) (d : Caps) (qs : List CapSnap) → has_writer f rs ≡ false → d ≡ no_caps → makes f old new rs d qs ≡ false
-makes_none f old new rs d qs none clean = and_right _ (has_writer f rs || not (is_empty d)) (rw (none, clean) refl)
-
-first_known : (h : List Entry) (m : Message) (q : List Message) → to_client h ≡ m ∷ q → Each (IsToldClient h) (to_client h) → IsToldClient h m
-first_known h m q is known = known m (rw is (inl refl))
-
-step_to_client : (h : List Entry) (x : Answer) → FirstIs h x → Each (λ r. setup_file h r.file ≡ true) (live h) → Each (IsToldClient h) (to_client h)
-    → AllUntouched h → AllUntouched (record { event = e.ToClient; answer = x } ∷ h)
-step_to_client h x first_idle lives told i = i
-step_to_client h x (first_cap g seq bits end q is) lives told i = λ f unknown.
-    let known : setup_file h g ≡ true = (first_known h (messages.Cap g seq bits end) q is told).1 in
+step_to_client : (p : ℕ) (h : List Entry) (x : Answer) → IsRun p h → FirstIs h x → LiveAreKnown h → AllUntouched h
+    → AllUntouched (record { event = e.ToClient; answer = x } ∷ h)
+step_to_client p h x run first_idle lives i = i
+step_to_client p h x run (first_cap g seq bits end q is) lives i = λ f unknown.
+    let known : client_knows h g ≡ true = (told_known p h (messages.Cap g seq bits end) q run is).1 in
     rw (apart h g f known unknown) (i f unknown)
-step_to_client h x (first_flush_ack g tid q is) lives told i = λ f unknown.
-    let known : setup_file h g ≡ true = (first_known h (messages.FlushAck g tid) q is told).1 in
+step_to_client p h x run (first_flush_ack g tid q is) lives i = λ f unknown.
+    let known : client_knows h g ≡ true = (told_known p h (messages.FlushAck g tid) q run is).1 in
     rw (apart h g f known unknown) (i f unknown)
-step_to_client h x (first_snap number d realms q is) lives told i = λ f unknown.
+step_to_client p h x run (first_unsafe tid o ttl q is) lives i = λ f unknown. i f (client_before e.ToClient (a.Unsafe tid o) h f unknown)
+step_to_client p h x run (first_safe tid q is) lives i = i
+step_to_client p h x run (first_unlease d name q is) lives i = i
+step_to_client p h x run (first_snap number d now q is) lives i = λ f unknown.
     let was : IsUntouchedAt h f = i f unknown in
-    rw (makes_none f (context h f) (context (record { event = e.ToClient; answer = x } ∷ h) f) (live h) (dirty h f) (queued h f) (no_writer h f (live h) unknown lives) was.dirty) was
-
-received_first : (h : List Entry) (m : Message) (q : List Message) → to_server h ≡ m ∷ q → Each (IsToldServer h) (to_server h) → IsToldServer h m
-received_first h m q is known = known m (rw is (inl refl))
-
-step_to_mds : (h : List Entry) (x : Answer) → ReceivedIs h x → Each (IsToldServer h) (to_server h) → AllUntouched h
-    → AllUntouched (record { event = e.ToMds; answer = x } ∷ h)
-step_to_mds h x received_idle received i = i
-step_to_mds h x (received_ack g seq bits q is) received i = λ f unknown.
-    let known : setup_file h g ≡ true = (received_first h (messages.CapAck g seq bits) q is received).1 in
-    rw (apart h g f known unknown) (i f unknown)
-step_to_mds h x (received_flush y q is first) received i = i
-step_to_mds h x (received_again y q is again) received i = i
+    rw (makes_none f (context h f) (context (record { event = e.ToClient; answer = x } ∷ h) f) (live h) (dirty h f) (queued h f) (no_writer f (live h) (none_live h f unknown lives)) was.dirty) was
 
 untouched_step : (p : ℕ) (h : List Entry) (x : Event) → IsRun p h → AllUntouched h → AllUntouched (entry p h x ∷ h)
-untouched_step p h (e.File g d) run i = λ f unknown. i f (unknown_before (e.File g d) _ f (setup_file h f) unknown)
-untouched_step p h (e.Grant g bits end) run i = step_grant h g bits end i
-untouched_step p h (e.Revoke g bits) run i = step_revoke h g bits i
+untouched_step p h (e.File g d) run i = λ f unknown. i f (client_before (e.File g d) _ h f unknown)
 untouched_step p h (e.Check g) run i = step_check h g i
 untouched_step p h (e.Flush g) run i = step_flush h g _ (flush_is h g) i
 untouched_step p h (e.FlushSnaps g) run i = step_flush_snaps h g _ (flush_snaps_is h g) i
 untouched_step p h (e.Write c name off bytes) run i = step_write h c name off bytes _ (write_is h c name off bytes) (live_known p h run) i
 untouched_step p h (e.Chmod c name mode) run i = step_chmod h c name mode _ (chmod_is h c name) (live_known p h run) i
 untouched_step p h (e.End c name) run i = step_end h c name _ (end_is h c name) i
-untouched_step p h e.ToClient run i = step_to_client h _ (first_is h) (live_known p h run) (told_known p h run) i
-untouched_step p h e.ToMds run i = step_to_mds h _ (received_is h) (received_known p h run) i
+untouched_step p h e.ToClient run i = step_to_client p h _ run (first_is h) (live_known p h run) i
 untouched_step p h _ run i = i
 
 nothing_touched : AllUntouched []
-nothing_touched = λ f unknown.
-    record { client = refl; server = refl; writes = refl; mode = refl; dirty = refl; queued = refl; snaps = refl; unacked = refl }
+nothing_touched = λ f unknown. record { client = refl; writes = refl; mode = refl; dirty = refl; queued = refl; snaps = refl; unacked = refl }
 
-pub untouched : (p : ℕ) (h : List Entry) → IsRun p h → (f : ℕ) → setup_file h f ≡ false → IsUntouchedAt h f
+pub untouched : (p : ℕ) (h : List Entry) → IsRun p h → (f : ℕ) → client_knows h f ≡ false → IsUntouchedAt h f
 untouched p h run = of_run p AllUntouched nothing_touched (λ g x fit before i. untouched_step p g x before i) h run
+
+-- The server's end
+
+abbrev AllUngiven : List Entry → Type 0
+AllUngiven h = (f : ℕ) → server_knows h f ≡ false → server h f ≡ no_server_caps
+
+-- one that it doesn't know it didn't know
+known_more : (h : List Entry) (rs : List Record) (f : ℕ) → (setup_file h f || makes_file f (made_in (durable h ++ (fresh h ++ rs)))) ≡ false → server_knows h f ≡ false
+known_more h rs f unknown =
+    false_from_ne_true (server_knows h f)
+    (λ known. both_ways (setup_file h f || makes_file f (made_in (durable h ++ (fresh h ++ rs)))) unknown
+    (⊎_elim
+    (λ setup. or_left (setup_file h f) _ setup)
+    (λ made. or_right (setup_file h f) _ (ap (makes_file f) (ap made_in (sym (append_assoc (durable h) (fresh h) rs)) ∙ flat_map-append (λ r. made_of r.body) (stand h) rs)
+    ∙ (list_any-append (is_made_file f) (made_in (stand h)) (made_in rs) ∙ or_left (makes_file f (made_in (stand h))) _ made)))
+    (or_cases (setup_file h f) (makes_file f (server_made h)) known)))
+
+server_apart : (h : List Entry) (g f : ℕ) → server_knows h g ≡ true → server_knows h f ≡ false → (g == f) ≡ false
+server_apart h g f known unknown =
+    false_from_ne_true (g == f) (λ same. both_ways (server_knows h f) unknown (subst (λ k. server_knows h k ≡ true) (eqb-true g f same) known))
+
+ungiven_grant : (h : List Entry) (g : ℕ) (bits : Caps) (end : ℕ) → AllUngiven h
+    → AllUngiven (record { event = e.Grant g bits end; answer = answer_grant h g bits end } ∷ h)
+ungiven_grant h g bits end i =
+    cond_both (server_knows h g) (sent_cap (granted (server h g) bits end)) a.Unknown (λ x. AllUngiven (record { event = e.Grant g bits end; answer = x } ∷ h))
+    (λ known f unknown. rw (server_apart h g f known unknown) (i f unknown)) (λ _. i)
+
+ungiven_revoke : (h : List Entry) (g : ℕ) (bits : Caps) → AllUngiven h → AllUngiven (record { event = e.Revoke g bits; answer = answer_revoke h g bits } ∷ h)
+ungiven_revoke h g bits i =
+    cond_both (server_knows h g) (sent_cap (revoked (server h g) bits)) a.Unknown (λ x. AllUngiven (record { event = e.Revoke g bits; answer = x } ∷ h))
+    (λ known f unknown. rw (server_apart h g f known unknown) (i f unknown)) (λ _. i)
+
+ungiven_to_mds : (p : ℕ) (h : List Entry) (x : Answer) → IsRun p h → ReceivedIs h x → AllUngiven h → AllUngiven (record { event = e.ToMds; answer = x } ∷ h)
+ungiven_to_mds p h x run received_idle i = i
+ungiven_to_mds p h x run (received_ack g seq bits q is) i = λ f unknown.
+    let known : client_knows h g ≡ true = (received_known p h run (messages.CapAck g seq bits) (member_first (messages.CapAck g seq bits) q (to_server h) is)).1 in
+    rw (server_apart h g f (client_in_server p h run g known) unknown) (i f unknown)
+ungiven_to_mds p h x run (received_flush y q is first) i = λ f unknown. i f (known_more h (recorded (to_server h)) f unknown)
+ungiven_to_mds p h x run (received_again y q is again) i = i
+ungiven_to_mds p h x run (received_req tid ino op q is first) i = λ f unknown. i f (known_more h (requested (answer_on (names h) op) (to_server h)) f unknown)
+ungiven_to_mds p h x run (received_req_again tid ino op q is again) i = i
+
+ungiven_snap : (h : List Entry) (d : ℕ) (name : List ℕ) (x : Answer) → SnapIs h d name x → AllUngiven h → AllUngiven (record { event = e.Snap d name; answer = x } ∷ h)
+ungiven_snap h d name x snap_unknown i = i
+ungiven_snap h d name x snap_exists i = i
+ungiven_snap h d name x (snap_taken directory free) i = λ f unknown. i f (known_more h (record { body = bodies.Snap (greatest_number (stand h) + 1) d name } ∷ []) f unknown)
+
+ungiven_remove : (h : List Entry) (s : ℕ) (x : Answer) → RemoveIs h s x → AllUngiven h → AllUngiven (record { event = e.RmSnap s; answer = x } ∷ h)
+ungiven_remove h s x remove_none i = i
+ungiven_remove h s x remove_gone i = i
+ungiven_remove h s x (removed there stays) i = λ f unknown. i f (known_more h (record { body = bodies.Removal s (greatest_number (stand h) + 1) } ∷ []) f unknown)
+
+setup_before : (x : Event) (y : Answer) (f : ℕ) (was made : Bool) → (setup_file_then x y f was || made) ≡ false → (was || made) ≡ false
+setup_before x y f was made none =
+    let parts = or_parts (setup_file_then x y f was) made none in
+    or_from was made (false_from_ne_true was (λ is. both_ways (setup_file_then x y f was) parts.0 (known_then x y f was is))) parts.1
+
+ungiven_step : (p : ℕ) (h : List Entry) (x : Event) → IsRun p h → AllUngiven h → AllUngiven (entry p h x ∷ h)
+ungiven_step p h (e.File g d) run i = λ f unknown. i f (setup_before (e.File g d) _ f (setup_file h f) (makes_file f (server_made h)) unknown)
+ungiven_step p h (e.Grant g bits end) run i = ungiven_grant h g bits end i
+ungiven_step p h (e.Revoke g bits) run i = ungiven_revoke h g bits i
+ungiven_step p h e.ToMds run i = ungiven_to_mds p h _ run (received_is h) i
+ungiven_step p h (e.Snap d name) run i = ungiven_snap h d name _ (snap_is h d name) i
+ungiven_step p h (e.RmSnap s) run i = ungiven_remove h s _ (remove_is h s) i
+ungiven_step p h e.Commit run i = λ f unknown. i f (ap (λ rs. setup_file h f || makes_file f (made_in rs)) (sym (append-nil (durable h ++ fresh h))) ∙ unknown)
+ungiven_step p h _ run i = i
+
+pub ungiven : (p : ℕ) (h : List Entry) → IsRun p h → (f : ℕ) → server_knows h f ≡ false → server h f ≡ no_server_caps
+ungiven p h run = of_run p AllUngiven (λ f unknown. refl) (λ g x fit before i. ungiven_step p g x before i) h run

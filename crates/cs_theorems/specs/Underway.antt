@@ -4,7 +4,6 @@ use Rattle.cs_laws.specs.declared.answers.Entry.{Entry}
 use Rattle.cs_laws.specs.declared.messages.Message.{Message}
 use Rattle.cs_laws.specs.Carried.{file_of, is_for_client}
 use Rattle.cs_laws.specs.ClientKnows.{client_knows}
-use Rattle.cs_laws.specs.ServerKnows.{server_knows}
 
 -- known: whether there is a file of this number
 abbrev pub IfFile : (ℕ → Type 0) → Option ℕ → Type 0
@@ -23,4 +22,4 @@ IsToldClient h m = ForClient (λ f. client_knows h f ≡ true) m
 
 -- a message that can be on its way to the server
 abbrev pub IsToldServer : List Entry → Message → Type 0
-IsToldServer h m = ForServer (λ f. server_knows h f ≡ true) m
+IsToldServer h m = ForServer (λ f. client_knows h f ≡ true) m
