@@ -1,6 +1,6 @@
 -- The form of each event: its first word, its fields, and the event of their values. An event has a form here,
 -- a clause in each function by cases below, and one in event_read and event_by_spells of RoundTrip.
-use Rattle.std.proofs.Common.{◌≡◌, refl, ℕ, ◌+◌, ◌≤◌, Bool, true, false, ◌&&◌, not, nat_lt, nat_le, List, [], ◌∷◌, ◌++◌, length, codes, decimal, arith, append_assoc}
+use Rattle.std.proofs.Common.{◌≡◌, ◌∙◌, ap, refl, ℕ, ◌+◌, ◌≤◌, Bool, true, false, ◌&&◌, not, nat_lt, nat_le, List, [], ◌∷◌, ◌++◌, length, codes, decimal, arith, append_assoc}
 use Rattle.std.specs.List.{join_with_byte, list_all}
 use Rattle.std.proofs.lemmas.Bool.{and_parts, leb-true, ltb-true}
 use Rattle.std.proofs.lemmas.Bool.Decides.{nat_tests}
@@ -8,11 +8,13 @@ use Rattle.cs_ids.specs.Ranges.{IsIn}
 use Rattle.cs_bits.specs.declared.Caps.{Caps}
 use Rattle.cs_laws.specs.declared.events.Event.{Event}
 use Rattle.cs_laws.specs.declared.events.Event.TheVariants as events
+use Rattle.cs_laws.specs.declared.requests.ReqOp.{ReqOp}
+use Rattle.cs_laws.specs.declared.requests.ReqOp.TheVariants as ops
 use Rattle.cs_laws.specs.Fits.{fits, is_built, is_write, is_shown, is_state, greatest_end, greatest_time, most_written, most_shown}
 use Rattle.cs_laws.specs.Grammar.{Words, is_skipped}
 use Rattle.cs_laws.specs.Texts.{event_text, name_text, mode_text}
 use Rattle.cs_script.specs.Spelling.{IsEvent}
-use Rattle.cs_script.proofs.FieldKinds.{Field, inode, made_inode, time, caller, size, offset, count, set, reference, octal, payload, snap_name, state}
+use Rattle.cs_script.proofs.FieldKinds.{Field, inode, made_inode, time, caller, size, offset, count, set, reference, octal, payload, entry_name, state, keyword}
 use Rattle.cs_script.proofs.FieldLists.{Values, texts_of, AreGood, most_of_all}
 
 pub record Form : Type 0 where
@@ -53,6 +55,36 @@ flush_form = record { word = codes "flush"; fields = inode ∷ []; make = λ v. 
 abbrev pub flush_snaps_form : Form
 flush_snaps_form = record { word = codes "flushsnaps"; fields = inode ∷ []; make = λ v. events.FlushSnaps v.0 }
 
+abbrev pub lookup_form : Form
+lookup_form = record { word = codes "lookup"; fields = caller ∷ inode ∷ entry_name ∷ []; make = λ v. events.Lookup v.0 v.1.0 v.1.1.0 }
+
+-- a request has its word behind its caller
+abbrev pub request_form : (w : List ℕ) → (list_all (λ b. nat_lt 32 b) w && nat_le (length w) 20) ≡ true → (ℕ → List ℕ → ReqOp) → Form
+request_form w plain op = record {
+    word = codes "req";
+    fields = caller ∷ keyword w plain ∷ inode ∷ entry_name ∷ [];
+    make = λ v. events.Req v.0 (op v.1.1.0 v.1.1.1.0);
+  }
+
+abbrev pub mkdir_req_form : Form
+mkdir_req_form = request_form (codes "mkdir") refl ops.Mkdir
+
+abbrev pub create_req_form : Form
+create_req_form = request_form (codes "create") refl ops.Create
+
+abbrev pub unlink_req_form : Form
+unlink_req_form = request_form (codes "unlink") refl ops.Unlink
+
+abbrev pub lookup_req_form : Form
+lookup_req_form = request_form (codes "lookup") refl ops.Lookup
+
+abbrev pub rename_req_form : Form
+rename_req_form = record {
+    word = codes "req";
+    fields = caller ∷ keyword (codes "rename") refl ∷ inode ∷ entry_name ∷ entry_name ∷ [];
+    make = λ v. events.Req v.0 (ops.Rename v.1.1.0 v.1.1.1.0 v.1.1.1.1.0);
+  }
+
 abbrev pub to_client_form : Form
 to_client_form = record { word = codes "toclient"; fields = []; make = λ v. events.ToClient }
 
@@ -66,16 +98,22 @@ abbrev pub revoke_form : Form
 revoke_form = record { word = codes "revoke"; fields = inode ∷ set ∷ []; make = λ v. events.Revoke v.0 v.1.0 }
 
 abbrev pub snap_form : Form
-snap_form = record { word = codes "snap"; fields = inode ∷ snap_name ∷ []; make = λ v. events.Snap v.0 v.1.0 }
+snap_form = record { word = codes "snap"; fields = inode ∷ entry_name ∷ []; make = λ v. events.Snap v.0 v.1.0 }
 
 abbrev pub remove_form : Form
 remove_form = record { word = codes "rmsnap"; fields = inode ∷ []; make = λ v. events.RmSnap v.0 }
+
+abbrev pub unlease_form : Form
+unlease_form = record { word = codes "unlease"; fields = inode ∷ entry_name ∷ []; make = λ v. events.Unlease v.0 v.1.0 }
 
 abbrev pub commit_form : Form
 commit_form = record { word = codes "commit"; fields = []; make = λ v. events.Commit }
 
 abbrev pub show_form : Form
 show_form = record { word = codes "show"; fields = inode ∷ state ∷ offset ∷ count ∷ []; make = λ v. events.Show v.0 v.1.0 v.1.1.0 v.1.1.1.0 }
+
+abbrev pub names_form : Form
+names_form = record { word = codes "names"; fields = inode ∷ []; make = λ v. events.Names v.0 }
 
 -- an event's form, and its values
 abbrev pub spelling : Event → (F : Form) × Values F.fields
@@ -90,14 +128,22 @@ spelling (events.Chmod c name mode) = (chmod_form, (c, (name, (mode, tt))))
 spelling (events.Check f) = (check_form, (f, tt))
 spelling (events.Flush f) = (flush_form, (f, tt))
 spelling (events.FlushSnaps f) = (flush_snaps_form, (f, tt))
+spelling (events.Lookup c d name) = (lookup_form, (c, (d, (name, tt))))
+spelling (events.Req c (ops.Mkdir d name)) = (mkdir_req_form, (c, (tt, (d, (name, tt)))))
+spelling (events.Req c (ops.Create d name)) = (create_req_form, (c, (tt, (d, (name, tt)))))
+spelling (events.Req c (ops.Unlink d name)) = (unlink_req_form, (c, (tt, (d, (name, tt)))))
+spelling (events.Req c (ops.Rename d name new)) = (rename_req_form, (c, (tt, (d, (name, (new, tt))))))
+spelling (events.Req c (ops.Lookup d name)) = (lookup_req_form, (c, (tt, (d, (name, tt)))))
 spelling events.ToClient = (to_client_form, tt)
 spelling events.ToMds = (to_mds_form, tt)
 spelling (events.Grant f bits max) = (grant_form, (f, (bits, (max, tt))))
 spelling (events.Revoke f bits) = (revoke_form, (f, (bits, tt)))
 spelling (events.Snap d name) = (snap_form, (d, (name, tt)))
 spelling (events.RmSnap s) = (remove_form, (s, tt))
+spelling (events.Unlease d name) = (unlease_form, (d, (name, tt)))
 spelling events.Commit = (commit_form, tt)
 spelling (events.Show f a off len) = (show_form, (f, (a, (off, (len, tt)))))
+spelling (events.Names d) = (names_form, (d, tt))
 
 abbrev pub words_by : (F : Form) → Values F.fields → Words
 words_by F v = F.word ∷ texts_of F.fields v
@@ -141,14 +187,22 @@ spelled_fits (events.Chmod c name mode) s = ((s.0.0, s.0.1.0), s.0.1.1.0)
 spelled_fits (events.Check f) s = (s.0.0, refl)
 spelled_fits (events.Flush f) s = (s.0.0, refl)
 spelled_fits (events.FlushSnaps f) s = (s.0.0, refl)
+spelled_fits (events.Lookup c d name) s = ((s.0.0, (s.0.1.0, s.0.1.1.0)), refl)
+spelled_fits (events.Req c (ops.Mkdir d name)) s = ((s.0.0, (s.0.1.1.0, s.0.1.1.1.0)), refl)
+spelled_fits (events.Req c (ops.Create d name)) s = ((s.0.0, (s.0.1.1.0, s.0.1.1.1.0)), refl)
+spelled_fits (events.Req c (ops.Unlink d name)) s = ((s.0.0, (s.0.1.1.0, s.0.1.1.1.0)), refl)
+spelled_fits (events.Req c (ops.Rename d name new)) s = ((s.0.0, ((s.0.1.1.0, s.0.1.1.1.0), s.0.1.1.1.1.0)), refl)
+spelled_fits (events.Req c (ops.Lookup d name)) s = ((s.0.0, (s.0.1.1.0, s.0.1.1.1.0)), refl)
 spelled_fits events.ToClient s = (tt, refl)
 spelled_fits events.ToMds s = (tt, refl)
 spelled_fits (events.Grant f bits max) s = (s.0.0, both _ _ s.0.1.0 (at_most max greatest_end s.0.1.1.0.1))
 spelled_fits (events.Revoke f bits) s = (s.0.0, s.0.1.0)
 spelled_fits (events.Snap d name) s = ((s.0.0, s.0.1.0), refl)
 spelled_fits (events.RmSnap n) s = ((omega arith, s.0.0.1), grind (arith, nat_tests))
+spelled_fits (events.Unlease d name) s = ((s.0.0, s.0.1.0), refl)
 spelled_fits events.Commit s = (tt, refl)
 spelled_fits (events.Show f a off len) s = ((s.0.0, s.0.1.0.0), both _ _ s.0.1.0.1 (shown off len (omega arith) (omega arith) (omega arith)))
+spelled_fits (events.Names d) s = (s.0.0, refl)
 
 -- ---- and an event that fits is spelled
 
@@ -197,6 +251,12 @@ fits_spelled (events.Chmod c name mode) is fit = ((is.0, (is.1, (fit, tt))), ref
 fits_spelled (events.Check f) is fit = ((is, tt), refl)
 fits_spelled (events.Flush f) is fit = ((is, tt), refl)
 fits_spelled (events.FlushSnaps f) is fit = ((is, tt), refl)
+fits_spelled (events.Lookup c d name) is fit = ((is.0, (is.1.0, (is.1.1, tt))), refl)
+fits_spelled (events.Req c (ops.Mkdir d name)) is fit = ((is.0, (tt, (is.1.0, (is.1.1, tt)))), refl)
+fits_spelled (events.Req c (ops.Create d name)) is fit = ((is.0, (tt, (is.1.0, (is.1.1, tt)))), refl)
+fits_spelled (events.Req c (ops.Unlink d name)) is fit = ((is.0, (tt, (is.1.0, (is.1.1, tt)))), refl)
+fits_spelled (events.Req c (ops.Rename d name new)) is fit = ((is.0, (tt, (is.1.0.0, (is.1.0.1, (is.1.1, tt))))), refl)
+fits_spelled (events.Req c (ops.Lookup d name)) is fit = ((is.0, (tt, (is.1.0, (is.1.1, tt)))), refl)
 fits_spelled events.ToClient is fit = (tt, refl)
 fits_spelled events.ToMds is fit = (tt, refl)
 fits_spelled (events.Grant f bits max) is fit =
@@ -205,17 +265,34 @@ fits_spelled (events.Grant f bits max) is fit =
 fits_spelled (events.Revoke f bits) is fit = ((is, (fit, tt)), refl)
 fits_spelled (events.Snap d name) is fit = ((is.0, (is.1, tt)), refl)
 fits_spelled (events.RmSnap s) is fit = (((leb-true 1 s fit, is.1), tt), refl)
+fits_spelled (events.Unlease d name) is fit = ((is.0, (is.1, tt)), refl)
 fits_spelled events.Commit is fit = (tt, refl)
 fits_spelled (events.Show f a off len) is fit =
     let parts = and_parts (is_state a) (is_shown off len) fit in
     let range = shown_range off len parts.1 in
     ((is.0, ((is.1, parts.0), (range.0, (range.1, tt)))), refl)
+fits_spelled (events.Names d) is fit = ((is, tt), refl)
 
 -- ---- an event's text is its words with spaces between them
 
 -- a mode's own digits stay together
 mode_joined : (c r m : List ℕ) → codes "chmod " ++ c ++ codes " " ++ r ++ codes " " ++ m ≡ join_with_byte 32 (codes "chmod" ∷ c ∷ r ∷ m ∷ [])
 mode_joined c r m = simp append_assoc
+
+-- a request's own words stay together
+request_parts : (c op rest : List ℕ) → op ≡ rest → codes "req " ++ c ++ codes " " ++ op ≡ codes "req " ++ (c ++ 32 ∷ rest)
+request_parts c op rest same = ap (λ x. codes "req " ++ x) (append_assoc c (codes " ") op ∙ ap (λ x. c ++ 32 ∷ x) same)
+
+request_joined : (w c d n : List ℕ) → codes "req " ++ c ++ codes " " ++ ((w ++ codes " ") ++ d ++ codes " " ++ n)
+    ≡ join_with_byte 32 (codes "req" ∷ c ∷ w ∷ d ∷ n ∷ [])
+request_joined w c d n =
+    request_parts c ((w ++ codes " ") ++ d ++ codes " " ++ n) (w ++ 32 ∷ (d ++ 32 ∷ n)) (simp append_assoc)
+
+rename_joined : (c d n m : List ℕ) → codes "req " ++ c ++ codes " " ++ (codes "rename " ++ d ++ codes " " ++ n ++ codes " " ++ m)
+    ≡ join_with_byte 32 (codes "req" ∷ c ∷ codes "rename" ∷ d ∷ n ∷ m ∷ [])
+rename_joined c d n m =
+    request_parts c (codes "rename " ++ d ++ codes " " ++ n ++ codes " " ++ m)
+    (codes "rename " ++ (d ++ 32 ∷ (n ++ 32 ∷ m))) (simp append_assoc)
 
 pub joined : (e : Event) → event_text e ≡ join_with_byte 32 (words_of e)
 joined (events.Dir d p) = simp append_assoc
@@ -229,14 +306,22 @@ joined (events.Chmod c name mode) = mode_joined (decimal c) (name_text name) (mo
 joined (events.Check f) = refl
 joined (events.Flush f) = refl
 joined (events.FlushSnaps f) = refl
+joined (events.Lookup c d name) = simp append_assoc
+joined (events.Req c (ops.Mkdir d name)) = request_joined (codes "mkdir") (decimal c) (decimal d) name
+joined (events.Req c (ops.Create d name)) = request_joined (codes "create") (decimal c) (decimal d) name
+joined (events.Req c (ops.Unlink d name)) = request_joined (codes "unlink") (decimal c) (decimal d) name
+joined (events.Req c (ops.Rename d name new)) = rename_joined (decimal c) (decimal d) name new
+joined (events.Req c (ops.Lookup d name)) = request_joined (codes "lookup") (decimal c) (decimal d) name
 joined events.ToClient = refl
 joined events.ToMds = refl
 joined (events.Grant f bits max) = simp append_assoc
 joined (events.Revoke f bits) = simp append_assoc
 joined (events.Snap d name) = simp append_assoc
 joined (events.RmSnap s) = refl
+joined (events.Unlease d name) = simp append_assoc
 joined events.Commit = refl
 joined (events.Show f a off len) = simp append_assoc
+joined (events.Names d) = refl
 
 -- the first word is above the space throughout, the line isn't too long, and isn't passed over
 pub record IsPlain (F : Form) : Type 0 where
@@ -259,14 +344,22 @@ forms_plain (events.Chmod c name mode) = refl
 forms_plain (events.Check f) = refl
 forms_plain (events.Flush f) = refl
 forms_plain (events.FlushSnaps f) = refl
+forms_plain (events.Lookup c d name) = refl
+forms_plain (events.Req c (ops.Mkdir d name)) = refl
+forms_plain (events.Req c (ops.Create d name)) = refl
+forms_plain (events.Req c (ops.Unlink d name)) = refl
+forms_plain (events.Req c (ops.Rename d name new)) = refl
+forms_plain (events.Req c (ops.Lookup d name)) = refl
 forms_plain events.ToClient = refl
 forms_plain events.ToMds = refl
 forms_plain (events.Grant f bits max) = refl
 forms_plain (events.Revoke f bits) = refl
 forms_plain (events.Snap d name) = refl
 forms_plain (events.RmSnap s) = refl
+forms_plain (events.Unlease d name) = refl
 forms_plain events.Commit = refl
 forms_plain (events.Show f a off len) = refl
+forms_plain (events.Names d) = refl
 
 plain_by : (visible short skipped : Bool) → (visible && (short && not skipped)) ≡ true → (visible ≡ true) × (short ≡ true) × (skipped ≡ false)
 plain_by true true false h = (refl, refl, refl)

@@ -38,9 +38,9 @@ mode_few m fit =
     ))
 
 -- a snapshot's name has at most 32 bytes
-pub snap_name_few : (n : List ℕ) → is_name n ≡ true → length n ≤ 32
-snap_name_few [] h = omega arith
-snap_name_few (c ∷ cs) h =
+pub entry_name_few : (n : List ℕ) → is_name n ≡ true → length n ≤ 32
+entry_name_few [] h = omega arith
+entry_name_few (c ∷ cs) h =
     let parts = and_parts (is_letter_or_digit c) (nat_le (length cs) 31 && list_all is_name_byte cs) h in
     let few = leb-true (length cs) 31 (and_parts (nat_le (length cs) 31) (list_all is_name_byte cs) parts.1).0 in
     omega arith

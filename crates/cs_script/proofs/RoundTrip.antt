@@ -10,14 +10,15 @@ use Rattle.cs_laws.specs.declared.events.Event.{Event}
 use Rattle.cs_laws.specs.declared.events.Event.TheVariants as events
 use Rattle.cs_laws.specs.declared.faults.Kind.{Kind}
 use Rattle.cs_laws.specs.declared.faults.Kind.TheVariants as kinds
+use Rattle.cs_laws.specs.declared.requests.ReqOp.TheVariants as ops
 use Rattle.cs_laws.specs.Fits.{fits}
-use Rattle.cs_laws.specs.Grammar.{Words, ◌>>=◌, words_in, only, ends_in_file, dir_of, file_of, clock_of, begin_of, end_of, write_of, read_of, chmod_of, check_of, flush_of, flush_snaps_of, grant_of, revoke_of, snap_of, remove_of, show_of, is_later_word, event_by, event_of, in_time, is_setup, is_skipped, line_event}
+use Rattle.cs_laws.specs.Grammar.{Words, ◌>>=◌, number_in, number_at, word_in, words_in, only, ends_in_file, dir_of, file_of, clock_of, begin_of, end_of, write_of, read_of, chmod_of, check_of, flush_of, flush_snaps_of, grant_of, revoke_of, snap_of, remove_of, show_of, lookup_of, name_req_of, rename_req_of, req_by, req_of, unlease_of, names_of, is_later_word, event_by, event_of, in_time, is_setup, is_skipped, line_event}
 use Rattle.cs_laws.specs.Texts.{event_text}
 use Rattle.cs_script.specs.Spelling.{IsEvent}
-use Rattle.cs_script.proofs.EventForms.{Form, dir_form, file_form, clock_form, begin_form, end_form, write_form, read_form, chmod_form, check_form, flush_form, flush_snaps_form, to_client_form, to_mds_form, grant_form, revoke_form, snap_form, remove_form, commit_form, show_form, spelling, words_by, words_of, IsSpelled, spelled_fits, fits_spelled, joined, form_plain}
+use Rattle.cs_script.proofs.EventForms.{Form, dir_form, file_form, clock_form, begin_form, end_form, write_form, read_form, chmod_form, check_form, flush_form, flush_snaps_form, to_client_form, to_mds_form, grant_form, revoke_form, snap_form, remove_form, commit_form, show_form, lookup_form, mkdir_req_form, create_req_form, unlink_req_form, rename_req_form, lookup_req_form, unlease_form, names_form, spelling, words_by, words_of, IsSpelled, spelled_fits, fits_spelled, joined, form_plain}
 use Rattle.cs_script.proofs.FieldFacts.{binds, word_is, only_is, ends_is}
 use Rattle.cs_script.proofs.FieldLists.{Values, texts_of, AreGood, read_fields, Begins, with_first, begin_themselves, same_words, length-texts, texts_are_read, words_are_texts, texts_visible, line_few, line_skipped}
-use Rattle.cs_script.proofs.Visible.{AreVisible, text_visible, words_joined, one_line}
+use Rattle.cs_script.proofs.Visible.{AreVisible, word_visible, words_joined, one_line}
 
 -- ---- an event's words are read as the event
 
@@ -41,7 +42,7 @@ abbrev and_ends : Words → Values write_form.fields → Result Event Kind
 and_ends ws v = plainly write_form ws v >>= ends_in_file v.1.1.0 (length v.1.1.1.0)
 
 event_read : (e : Event) → IsSpelled e → event_of (words_of e) ≡ Ok e
-unfolding event_of event_by dir_of file_of clock_of begin_of end_of write_of read_of chmod_of check_of flush_of flush_snaps_of grant_of revoke_of snap_of remove_of show_of
+unfolding event_of event_by dir_of file_of clock_of begin_of end_of write_of read_of chmod_of check_of flush_of flush_snaps_of grant_of revoke_of snap_of remove_of show_of lookup_of req_of req_by name_req_of rename_req_of unlease_of names_of
 event_read (events.Dir d p) s = plainly_read dir_form (d, (p, tt)) s.0
 event_read (events.File f p) s = plainly_read file_form (f, (p, tt)) s.0
 event_read (events.Clock t) s = plainly_read clock_form (t, tt) s.0
@@ -53,17 +54,25 @@ event_read (events.Chmod c name mode) s = plainly_read chmod_form (c, (name, (mo
 event_read (events.Check f) s = plainly_read check_form (f, tt) s.0
 event_read (events.Flush f) s = plainly_read flush_form (f, tt) s.0
 event_read (events.FlushSnaps f) s = plainly_read flush_snaps_form (f, tt) s.0
+event_read (events.Lookup c d name) s = plainly_read lookup_form (c, (d, (name, tt))) s.0
+event_read (events.Req c (ops.Mkdir d name)) s = plainly_read mkdir_req_form (c, (tt, (d, (name, tt)))) s.0
+event_read (events.Req c (ops.Create d name)) s = plainly_read create_req_form (c, (tt, (d, (name, tt)))) s.0
+event_read (events.Req c (ops.Unlink d name)) s = plainly_read unlink_req_form (c, (tt, (d, (name, tt)))) s.0
+event_read (events.Req c (ops.Rename d name new)) s = plainly_read rename_req_form (c, (tt, (d, (name, (new, tt))))) s.0
+event_read (events.Req c (ops.Lookup d name)) s = plainly_read lookup_req_form (c, (tt, (d, (name, tt)))) s.0
 event_read events.ToClient s = refl
 event_read events.ToMds s = refl
 event_read (events.Grant f bits max) s = plainly_read grant_form (f, (bits, (max, tt))) s.0
 event_read (events.Revoke f bits) s = plainly_read revoke_form (f, (bits, tt)) s.0
 event_read (events.Snap d name) s = plainly_read snap_form (d, (name, tt)) s.0
 event_read (events.RmSnap n) s = plainly_read remove_form (n, tt) s.0
+event_read (events.Unlease d name) s = plainly_read unlease_form (d, (name, tt)) s.0
 event_read events.Commit s = refl
 event_read (events.Show f a off len) s = plainly_read show_form (f, (a, (off, (len, tt)))) s.0
+event_read (events.Names d) s = plainly_read names_form (d, tt) s.0
 
 words_visible : (e : Event) → IsSpelled e → AreVisible (words_of e)
-words_visible e s = (text_visible (spelling e).0.word (form_plain e).visible, texts_visible (spelling e).0.fields (spelling e).1 s.0)
+words_visible e s = (word_visible (spelling e).0.word (form_plain e).visible, texts_visible (spelling e).0.fields (spelling e).1 s.0)
 
 words_are : (e : Event) → IsSpelled e → words_in (event_text e) ≡ words_of e
 words_are e s = ap words_in (joined e) ∙ words_joined (spelling e).0.word (texts_of (spelling e).0.fields (spelling e).1) (words_visible e s)
@@ -130,13 +139,13 @@ write_spells ws first e h =
     moved ws (words_by F t.values) e (F.make t.values) (w.same ∙ o.same) (all_words F ws t.values first t.words o.test)
     (record { spelled = (t.good, w.test); words = refl })
 
--- by whether the first word is this one
-named : (ws : Words) (w name : List ℕ) (r s : Result Event Kind) → slice_get ws 0 ≡ Some w
-    → (slice_get ws 0 ≡ Some name → Spelling ws r) → Spelling ws s → Spelling ws (if bytes_eq w name then r else s)
-named ws w name r s first here behind = by (bytes_eq w name) refl
+-- by whether the word at a place is this one
+named : (ws : Words) (i : ℕ) (w name : List ℕ) (r s : Result Event Kind) → slice_get ws i ≡ Some w
+    → (slice_get ws i ≡ Some name → Spelling ws r) → Spelling ws s → Spelling ws (if bytes_eq w name then r else s)
+named ws i w name r s is here behind = by (bytes_eq w name) refl
   where
     by : (b : Bool) → bytes_eq w name ≡ b → Spelling ws (if b then r else s)
-    by true same = here (first ∙ ap Some ((bytes_eq-Decides w name).0 same))
+    by true same = here (is ∙ ap Some ((bytes_eq-Decides w name).0 same))
     by false other = behind
 
 none_spelled : (ws : Words) (b : Bool) → Spelling ws (if b then Err kinds.NotBuilt else Err kinds.Word)
@@ -147,29 +156,57 @@ none_spelled ws false e h = cc h
 makes : (ws : Words) (e : Event) → IsSpelled e → ws ≡ words_of e → Spells ws e
 makes ws e s same = record { spelled = s; words = same }
 
+-- what follows the word of a request, by the form that has the word
+behind_word : (F : Form) → Makes F → (ws : Words) (r : Result Event Kind) → slice_get ws 0 ≡ Some F.word
+    → (r ≡ read_fields F.fields 1 (plainly F ws) ws) → Spelling ws r
+behind_word F makes ws r first same e h = plainly_spells F makes ws first e (sym same ∙ h)
+
+request_by_spells : (ws : Words) (c : ℕ) (v w : List ℕ) → slice_get ws 0 ≡ Some (codes "req") → slice_get ws 1 ≡ Some v → number_in 0 32 v ≡ Ok c
+    → slice_get ws 2 ≡ Some w → Spelling ws (req_by c ws w)
+unfolding req_by name_req_of rename_req_of
+request_by_spells ws c v w first caller is word =
+    named ws 2 w (codes "mkdir") _ _ word (λ own. behind_word mkdir_req_form (λ v g. makes _ (mkdir_req_form.make v) (g, refl) refl) ws _ first (rw (caller, own, is) refl))
+    (named ws 2 w (codes "create") _ _ word (λ own. behind_word create_req_form (λ v g. makes _ (create_req_form.make v) (g, refl) refl) ws _ first (rw (caller, own, is) refl))
+    (named ws 2 w (codes "unlink") _ _ word (λ own. behind_word unlink_req_form (λ v g. makes _ (unlink_req_form.make v) (g, refl) refl) ws _ first (rw (caller, own, is) refl))
+    (named ws 2 w (codes "rename") _ _ word (λ own. behind_word rename_req_form (λ v g. makes _ (rename_req_form.make v) (g, refl) refl) ws _ first (rw (caller, own, is) refl))
+    (named ws 2 w (codes "lookup") _ _ word (λ own. behind_word lookup_req_form (λ v g. makes _ (lookup_req_form.make v) (g, refl) refl) ws _ first (rw (caller, own, is) refl))
+    (λ e h. cc h)))))
+
+request_spells : (ws : Words) → slice_get ws 0 ≡ Some (codes "req") → Spelling ws (req_of ws)
+unfolding req_of
+request_spells ws first e h =
+    let c = binds (number_at 1 0 32 ws) (λ c. word_in (req_by c ws) (slice_get ws 2)) e h in
+    let v = word_is (number_in 0 32) (slice_get ws 1) c.value c.is in
+    let w = word_is (req_by c.value ws) (slice_get ws 2) e c.rest in
+    request_by_spells ws c.value v.word w.word first v.is v.reads w.is e w.reads
+
 event_by_spells : (ws : Words) (w : List ℕ) → slice_get ws 0 ≡ Some w → Spelling ws (event_by w ws)
-unfolding event_by dir_of file_of clock_of begin_of end_of read_of chmod_of check_of flush_of flush_snaps_of grant_of revoke_of snap_of remove_of show_of
+unfolding event_by dir_of file_of clock_of begin_of end_of read_of chmod_of check_of flush_of flush_snaps_of grant_of revoke_of snap_of remove_of show_of lookup_of unlease_of names_of
 event_by_spells ws w first =
-    named ws w (codes "dir") _ _ first (plainly_spells dir_form (λ v g. makes _ (dir_form.make v) (g, refl) refl) ws)
-    (named ws w (codes "file") _ _ first (plainly_spells file_form (λ v g. makes _ (file_form.make v) (g, refl) refl) ws)
-    (named ws w (codes "clock") _ _ first (plainly_spells clock_form (λ v g. makes _ (clock_form.make v) (g, refl) refl) ws)
-    (named ws w (codes "begin") _ _ first (plainly_spells begin_form (λ v g. makes _ (begin_form.make v) (g, refl) refl) ws)
-    (named ws w (codes "end") _ _ first (plainly_spells end_form (λ v g. makes _ (end_form.make v) (g, refl) refl) ws)
-    (named ws w (codes "write") _ _ first (write_spells ws)
-    (named ws w (codes "read") _ _ first (plainly_spells read_form (λ v g. makes _ (read_form.make v) (g, refl) refl) ws)
-    (named ws w (codes "chmod") _ _ first (plainly_spells chmod_form (λ v g. makes _ (chmod_form.make v) (g, refl) refl) ws)
-    (named ws w (codes "check") _ _ first (plainly_spells check_form (λ v g. makes _ (check_form.make v) (g, refl) refl) ws)
-    (named ws w (codes "flush") _ _ first (plainly_spells flush_form (λ v g. makes _ (flush_form.make v) (g, refl) refl) ws)
-    (named ws w (codes "flushsnaps") _ _ first (plainly_spells flush_snaps_form (λ v g. makes _ (flush_snaps_form.make v) (g, refl) refl) ws)
-    (named ws w (codes "toclient") _ _ first (plainly_spells to_client_form (λ v g. makes _ (to_client_form.make v) (g, refl) refl) ws)
-    (named ws w (codes "tomds") _ _ first (plainly_spells to_mds_form (λ v g. makes _ (to_mds_form.make v) (g, refl) refl) ws)
-    (named ws w (codes "grant") _ _ first (plainly_spells grant_form (λ v g. makes _ (grant_form.make v) (g, refl) refl) ws)
-    (named ws w (codes "revoke") _ _ first (plainly_spells revoke_form (λ v g. makes _ (revoke_form.make v) (g, refl) refl) ws)
-    (named ws w (codes "snap") _ _ first (plainly_spells snap_form (λ v g. makes _ (snap_form.make v) (g, refl) refl) ws)
-    (named ws w (codes "rmsnap") _ _ first (plainly_spells remove_form (λ v g. makes _ (remove_form.make v) (g, refl) refl) ws)
-    (named ws w (codes "commit") _ _ first (plainly_spells commit_form (λ v g. makes _ (commit_form.make v) (g, refl) refl) ws)
-    (named ws w (codes "show") _ _ first (plainly_spells show_form (λ v g. makes _ (show_form.make v) (g, refl) refl) ws)
-    (none_spelled ws (is_later_word w))))))))))))))))))))
+    named ws 0 w (codes "dir") _ _ first (plainly_spells dir_form (λ v g. makes _ (dir_form.make v) (g, refl) refl) ws)
+    (named ws 0 w (codes "file") _ _ first (plainly_spells file_form (λ v g. makes _ (file_form.make v) (g, refl) refl) ws)
+    (named ws 0 w (codes "clock") _ _ first (plainly_spells clock_form (λ v g. makes _ (clock_form.make v) (g, refl) refl) ws)
+    (named ws 0 w (codes "begin") _ _ first (plainly_spells begin_form (λ v g. makes _ (begin_form.make v) (g, refl) refl) ws)
+    (named ws 0 w (codes "end") _ _ first (plainly_spells end_form (λ v g. makes _ (end_form.make v) (g, refl) refl) ws)
+    (named ws 0 w (codes "write") _ _ first (write_spells ws)
+    (named ws 0 w (codes "read") _ _ first (plainly_spells read_form (λ v g. makes _ (read_form.make v) (g, refl) refl) ws)
+    (named ws 0 w (codes "chmod") _ _ first (plainly_spells chmod_form (λ v g. makes _ (chmod_form.make v) (g, refl) refl) ws)
+    (named ws 0 w (codes "check") _ _ first (plainly_spells check_form (λ v g. makes _ (check_form.make v) (g, refl) refl) ws)
+    (named ws 0 w (codes "flush") _ _ first (plainly_spells flush_form (λ v g. makes _ (flush_form.make v) (g, refl) refl) ws)
+    (named ws 0 w (codes "flushsnaps") _ _ first (plainly_spells flush_snaps_form (λ v g. makes _ (flush_snaps_form.make v) (g, refl) refl) ws)
+    (named ws 0 w (codes "lookup") _ _ first (plainly_spells lookup_form (λ v g. makes _ (lookup_form.make v) (g, refl) refl) ws)
+    (named ws 0 w (codes "req") _ _ first (request_spells ws)
+    (named ws 0 w (codes "toclient") _ _ first (plainly_spells to_client_form (λ v g. makes _ (to_client_form.make v) (g, refl) refl) ws)
+    (named ws 0 w (codes "tomds") _ _ first (plainly_spells to_mds_form (λ v g. makes _ (to_mds_form.make v) (g, refl) refl) ws)
+    (named ws 0 w (codes "grant") _ _ first (plainly_spells grant_form (λ v g. makes _ (grant_form.make v) (g, refl) refl) ws)
+    (named ws 0 w (codes "revoke") _ _ first (plainly_spells revoke_form (λ v g. makes _ (revoke_form.make v) (g, refl) refl) ws)
+    (named ws 0 w (codes "snap") _ _ first (plainly_spells snap_form (λ v g. makes _ (snap_form.make v) (g, refl) refl) ws)
+    (named ws 0 w (codes "rmsnap") _ _ first (plainly_spells remove_form (λ v g. makes _ (remove_form.make v) (g, refl) refl) ws)
+    (named ws 0 w (codes "unlease") _ _ first (plainly_spells unlease_form (λ v g. makes _ (unlease_form.make v) (g, refl) refl) ws)
+    (named ws 0 w (codes "commit") _ _ first (plainly_spells commit_form (λ v g. makes _ (commit_form.make v) (g, refl) refl) ws)
+    (named ws 0 w (codes "show") _ _ first (plainly_spells show_form (λ v g. makes _ (show_form.make v) (g, refl) refl) ws)
+    (named ws 0 w (codes "names") _ _ first (plainly_spells names_form (λ v g. makes _ (names_form.make v) (g, refl) refl) ws)
+    (none_spelled ws (is_later_word w))))))))))))))))))))))))
 
 event_spells : (ws : Words) → Spelling ws (event_of ws)
 unfolding event_of

@@ -56,8 +56,8 @@ bytes_read bs bytes count =
     let parts = and_parts (nat_le 1 (length bs)) (nat_le (length bs) most_written) count in
     rw (bytes_of_hex-text bs bytes) (few_bytes bs (leb-true 1 (length bs) parts.0) (leb-true (length bs) most_written parts.1))
 
-pub snap_name_read : (n : List ℕ) → is_name n ≡ true → name_in n ≡ Ok n
-snap_name_read n h = rw h refl
+pub entry_name_read : (n : List ℕ) → is_name n ≡ true → name_in n ≡ Ok n
+entry_name_read n h = rw h refl
 
 -- digits don't begin with an `h`
 snap_read : (w : List ℕ) (s : ℕ) → all_ascii_digits w ≡ true → number_in 1 99999 w ≡ Ok s → at_in w ≡ Ok (at.Snap s)

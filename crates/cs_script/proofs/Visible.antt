@@ -31,11 +31,11 @@ visible-nil = record { at = All-nil (λ b. 32 < b) }
 pub visible-cons : (b : ℕ) (bs : List ℕ) → 32 < b → IsVisible bs → IsVisible (b ∷ bs)
 visible-cons b bs h more = record { at = All-cons (λ b. 32 < b) b bs h more.at }
 
-pub text_visible : (w : List ℕ) → list_all (λ b. nat_lt 32 b) w ≡ true → IsVisible w
-text_visible [] h = visible-nil
-text_visible (b ∷ bs) h =
+pub word_visible : (w : List ℕ) → list_all (λ b. nat_lt 32 b) w ≡ true → IsVisible w
+word_visible [] h = visible-nil
+word_visible (b ∷ bs) h =
     let parts = and_parts (nat_lt 32 b) (list_all (λ x. nat_lt 32 x) bs) h in
-    visible-cons b bs (ltb-true 32 b parts.0) (text_visible bs parts.1)
+    visible-cons b bs (ltb-true 32 b parts.0) (word_visible bs parts.1)
 
 -- ---- splitting
 
@@ -80,10 +80,10 @@ name_visible (names.Own n) h = decimal_visible n (omega arith)
 name_visible (names.Kept n) h = visible-cons 103 (decimal n) (omega arith) (decimal_visible n (omega arith))
 
 pub at_visible : (a : At) → IsAt a → IsVisible (at_text a)
-at_visible at.Head h = text_visible (codes "head") refl
+at_visible at.Head h = word_visible (codes "head") refl
 at_visible (at.Snap s) h = decimal_visible s (omega arith)
 
--- ---- names of snapshots
+-- ---- names of snapshots and of entries
 
 letter_visible : (c : ℕ) → is_letter_or_digit c ≡ true → 32 < c
 letter_visible c h = grind (arith, nat_tests)
@@ -97,9 +97,9 @@ name_bytes_visible (c ∷ cs) h =
     let parts = and_parts (is_name_byte c) (list_all is_name_byte cs) h in
     visible-cons c cs (name_byte_visible c parts.0) (name_bytes_visible cs parts.1)
 
-pub snap_name_visible : (n : List ℕ) → is_name n ≡ true → IsVisible n
-snap_name_visible [] h = visible-nil
-snap_name_visible (c ∷ cs) h =
+pub entry_name_visible : (n : List ℕ) → is_name n ≡ true → IsVisible n
+entry_name_visible [] h = visible-nil
+entry_name_visible (c ∷ cs) h =
     let parts = and_parts (is_letter_or_digit c) (nat_le (length cs) 31 && list_all is_name_byte cs) h in
     visible-cons c cs (letter_visible c parts.0) (name_bytes_visible cs (and_parts (nat_le (length cs) 31) (list_all is_name_byte cs) parts.1).1)
 

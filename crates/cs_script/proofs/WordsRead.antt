@@ -60,8 +60,8 @@ pub name_is_text : (w : List ℕ) (r : RefName) → name_of w ≡ Ok r → (name
 name_is_text [] r h = cc h
 name_is_text (c ∷ cs) r h = name_by (c == 103) c cs r refl h
 
-pub snap_name_is_text : (w n : List ℕ) → name_in w ≡ Ok n → (n ≡ w) × (is_name n ≡ true)
-snap_name_is_text w n h =
+pub entry_name_is_text : (w n : List ℕ) → name_in w ≡ Ok n → (n ≡ w) × (is_name n ≡ true)
+entry_name_is_text w n h =
     let p = passed (is_name w) w n kinds.Word h in
     (p.same, rw p.same p.test)
 

@@ -8,6 +8,8 @@ use Rattle.cs_laws.specs.declared.events.RefName.{RefName}
 use Rattle.cs_laws.specs.declared.events.RefName.TheVariants as names
 use Rattle.cs_laws.specs.declared.objects.At.{At}
 use Rattle.cs_laws.specs.declared.objects.At.TheVariants as at
+use Rattle.cs_laws.specs.declared.requests.ReqOp.{ReqOp}
+use Rattle.cs_laws.specs.declared.requests.ReqOp.TheVariants as ops
 use Rattle.cs_laws.specs.Grammar.{script_header}
 use Rattle.cs_laws.specs.Texts.{event_text}
 
@@ -31,6 +33,17 @@ IsAt (at.Snap s) = IsSnap s
 abbrev pub IsBytes : List ℕ → Type 0
 IsBytes bs = All (λ b. b < 256) bs
 
+-- an entry of a directory
+abbrev pub IsEntry : ℕ → List ℕ → Type 0
+IsEntry d name = IsIno d × (is_name name ≡ true)
+
+abbrev pub IsOp : ReqOp → Type 0
+IsOp (ops.Mkdir d name) = IsEntry d name
+IsOp (ops.Create d name) = IsEntry d name
+IsOp (ops.Unlink d name) = IsEntry d name
+IsOp (ops.Rename d name new) = IsEntry d name × (is_name new ≡ true)
+IsOp (ops.Lookup d name) = IsEntry d name
+
 -- each field is in the range of its type
 abbrev pub IsEvent : Event → Type 0
 IsEvent (events.Dir d p) = IsIno d × IsIno p
@@ -44,14 +57,18 @@ IsEvent (events.Chmod c name mode) = IsCaller c × IsName name
 IsEvent (events.Check f) = IsIno f
 IsEvent (events.Flush f) = IsIno f
 IsEvent (events.FlushSnaps f) = IsIno f
+IsEvent (events.Lookup c d name) = IsCaller c × IsEntry d name
+IsEvent (events.Req c op) = IsCaller c × IsOp op
 IsEvent events.ToClient = Unit {0}
 IsEvent events.ToMds = Unit {0}
 IsEvent (events.Grant f bits max) = IsIno f
 IsEvent (events.Revoke f bits) = IsIno f
-IsEvent (events.Snap d name) = IsIno d × (is_name name ≡ true)
+IsEvent (events.Snap d name) = IsEntry d name
 IsEvent (events.RmSnap s) = IsSnap s
+IsEvent (events.Unlease d name) = IsEntry d name
 IsEvent events.Commit = Unit {0}
 IsEvent (events.Show f a off len) = IsIno f × IsAt a
+IsEvent (events.Names d) = IsIno d
 
 -- a line for each event, with its newline
 abbrev pub lines_of : List Event → List ℕ

@@ -138,7 +138,7 @@ pub fn bytes_at(alloc: Global, words: &[&[u8]], i: usize) -> Result<Bytes, LineF
     Ok(written(bytes)?)
 }
 
-/// The name of a snapshot.
+/// A name: of a snapshot, or of an entry of a directory.
 pub fn name_field(alloc: Global, words: &[&[u8]], i: usize) -> Result<Name, LineFault>
     ensures { Spells result (name_field i (texts words.now)) }
 {

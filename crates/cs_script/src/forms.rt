@@ -1,6 +1,6 @@
 // The forms of events, each by the fields behind its first word.
 ghost use Rattle.std.specs.Prelude.{◌≡◌};
-ghost use Rattle.cs_laws.specs.Grammar.{event_by, dir_of, file_of, clock_of, begin_of, end_of, write_of, read_of, chmod_of, check_of, flush_of, flush_snaps_of, grant_of, revoke_of, snap_of, remove_of, show_of, event_of, is_later_word, is_later_caller_word, is_later_client_word, is_later_server_word};
+ghost use Rattle.cs_laws.specs.Grammar.{event_by, dir_of, file_of, clock_of, begin_of, end_of, write_of, read_of, chmod_of, check_of, flush_of, flush_snaps_of, grant_of, revoke_of, snap_of, remove_of, show_of, lookup_of, unlease_of, names_of, event_of, is_later_word, is_later_client_word, is_later_server_word};
 ghost use Rattle.cs_script.specs.Reading.{Spells, texts};
 
 use crate::fields::{
@@ -8,6 +8,7 @@ use crate::fields::{
     name_field, off_at, only, set_at, snap_at, time_at,
 };
 use crate::line_fault::LineFault;
+use crate::requests::request_from;
 use cs_laws::{At, Event, Kind, RefName};
 use std::alloc::Global;
 
@@ -192,10 +193,31 @@ fn show_from(words: &[&[u8]]) -> Result<Event, LineFault>
     only(5, Event::Show { file, at, off, len }, words)
 }
 
-fn is_later_caller_word(word: &[u8]) -> bool
-    ensures { result ≡ is_later_caller_word word.now }
+#[tactic(auto, unfolding(cs_laws::specs::Grammar::lookup_of))]
+fn lookup_from(alloc: Global, words: &[&[u8]]) -> Result<Event, LineFault>
+    ensures { Spells result (lookup_of (texts words.now)) }
 {
-    word == b"lookup".as_slice() || word == b"req".as_slice() || word == b"names".as_slice()
+    let caller = caller_at(words, 1)?;
+    let dir = ino_at(words, 2, 1, 99_999)?;
+    let name = name_field(alloc, words, 3)?;
+    only(4, Event::Lookup { caller, dir, name }, words)
+}
+
+#[tactic(auto, unfolding(cs_laws::specs::Grammar::unlease_of))]
+fn unlease_from(alloc: Global, words: &[&[u8]]) -> Result<Event, LineFault>
+    ensures { Spells result (unlease_of (texts words.now)) }
+{
+    let dir = ino_at(words, 1, 1, 99_999)?;
+    let name = name_field(alloc, words, 2)?;
+    only(3, Event::Unlease { dir, name }, words)
+}
+
+#[tactic(auto, unfolding(cs_laws::specs::Grammar::names_of))]
+fn names_from(words: &[&[u8]]) -> Result<Event, LineFault>
+    ensures { Spells result (names_of (texts words.now)) }
+{
+    let dir = ino_at(words, 1, 1, 99_999)?;
+    only(2, Event::Names { dir }, words)
 }
 
 fn is_later_client_word(word: &[u8]) -> bool
@@ -214,14 +236,13 @@ fn is_later_server_word(word: &[u8]) -> bool
 {
     word == b"drop".as_slice()
         || word == b"reconnect".as_slice()
-        || word == b"unlease".as_slice()
         || word == b"failover".as_slice()
 }
 
 fn is_later_word(word: &[u8]) -> bool
     ensures { result ≡ is_later_word word.now }
 {
-    is_later_caller_word(word) || is_later_client_word(word) || is_later_server_word(word)
+    is_later_client_word(word) || is_later_server_word(word)
 }
 
 #[tactic(auto, unfolding(cs_laws::specs::Grammar::event_by))]
@@ -250,6 +271,10 @@ fn event_by(alloc: Global, word: &[u8], words: &[&[u8]]) -> Result<Event, LineFa
         flush_from(words)
     } else if word == b"flushsnaps".as_slice() {
         flush_snaps_from(words)
+    } else if word == b"lookup".as_slice() {
+        lookup_from(alloc, words)
+    } else if word == b"req".as_slice() {
+        request_from(alloc, words)
     } else if word == b"toclient".as_slice() {
         only(1, Event::ToClient, words)
     } else if word == b"tomds".as_slice() {
@@ -262,10 +287,14 @@ fn event_by(alloc: Global, word: &[u8], words: &[&[u8]]) -> Result<Event, LineFa
         snap_from(alloc, words)
     } else if word == b"rmsnap".as_slice() {
         remove_from(words)
+    } else if word == b"unlease".as_slice() {
+        unlease_from(alloc, words)
     } else if word == b"commit".as_slice() {
         only(1, Event::Commit, words)
     } else if word == b"show".as_slice() {
         show_from(words)
+    } else if word == b"names".as_slice() {
+        names_from(words)
     } else if is_later_word(word) {
         Err(LineFault::Kind(Kind::NotBuilt))
     } else {

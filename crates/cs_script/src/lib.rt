@@ -8,6 +8,7 @@ pub mod laws;
 mod line_fault;
 mod lines;
 mod printing;
+mod requests;
 mod script;
 
 pub use cs_laws::{Kind, ScriptFault};
