@@ -231,3 +231,22 @@ none_from_some (Some x) is = absurd (true≢false is)
 pub any-named : (p : Named → Bool) (es : List (EntryKey × Entry)) → list_any p (named_all es) ≡ list_any (λ e. p (named_of e)) es
 any-named p [] = refl
 any-named p (e ∷ es) = λ j. p (named_of e) || any-named p es j
+
+-- the entries of a directory, with names
+pub named-in : (d : ℕ) (es : List (EntryKey × Entry)) → named_all (entries_in d es) ≡ filter (λ e. e.dir == d) (named_all es)
+named-in d [] = refl
+named-in d (e ∷ es) = by (e.0.dir == d) (named-in d es)
+  where
+    by : (b : Bool) → named_all (entries_in d es) ≡ filter (λ x. x.dir == d) (named_all es)
+        → named_all (cond b (e ∷ entries_in d es) (entries_in d es)) ≡ cond b (named_of e ∷ filter (λ x. x.dir == d) (named_all es)) (filter (λ x. x.dir == d) (named_all es))
+    by true rest = λ j. named_of e ∷ rest j
+    by false rest = rest
+
+-- what holds of the keys of all holds of theirs
+pub each-in : (P : EntryKey → Type 0) (d : ℕ) (es : List (EntryKey × Entry)) → AllByRecursion P (keys_of es) → AllByRecursion (λ (e : EntryKey × Entry). P e.0) (entries_in d es)
+each-in P d [] all = tt
+each-in P d (e ∷ es) all = by (e.0.dir == d) (each-in P d es all.1)
+  where
+    by : (b : Bool) → AllByRecursion (λ (x : EntryKey × Entry). P x.0) (entries_in d es) → AllByRecursion (λ (x : EntryKey × Entry). P x.0) (cond b (e ∷ entries_in d es) (entries_in d es))
+    by true rest = (all.0, rest)
+    by false rest = rest

@@ -63,6 +63,11 @@ pub after-exists : (ns : Names) (d : ℕ) (name : List ℕ) (is_dir : Bool) → 
 after-exists ns d name true = refl
 after-exists ns d name false = refl
 
+-- what is found by one key stays where another key gets the same
+pub still_there : (b : Bool) (v : Entry) (was : Option Entry) {now : Option Entry} → was ≡ Some v → now ≡ cond b (Some v) was → now ≡ Some v
+still_there true v was is then = then
+still_there false v was is then = then ∙ is
+
 -- keys of which one is found and the other isn't are not tied
 apart : (k new : EntryKey) (v : Entry) (es : List (EntryKey × Entry)) → lookup (is_at (key_cmp k)) es ≡ Some v → lookup (is_at (key_cmp new)) es ≡ None → is_at (key_cmp k) new ≡ false
 apart k new v es there free = by (is_at (key_cmp k) new) refl

@@ -1,5 +1,5 @@
 -- What lines make before the run begins.
-use Rattle.std.specs.Prelude.{◌≡◌, ℕ, ◌==◌, ◌||◌, Bool, true, false, List, ◌++◌, codes, decimal, if◌then◌else◌}
+use Rattle.std.specs.Prelude.{◌≡◌, ℕ, ◌≤◌, ◌==◌, ◌||◌, Bool, true, false, List, ◌++◌, codes, decimal, if◌then◌else◌}
 use Rattle.std.specs.List.{AllByRecursion, list_any}
 use Rattle.cs_laws.specs.Namespace.{Named, Names, has_dir, has_file, with_setup_dir, with_setup_file}
 use Rattle.cs_names.specs.declared.setup.SetupStep.{SetupStep}
@@ -32,6 +32,7 @@ after_setup is_dir i d ns = after_step (setup_step i d ns) is_dir i d ns
 -- an entry that such a line made
 pub record IsSetupEntry (files : List ℕ) (e : Named) : Type 0 where
   pub name : e.name ≡ setup_name e.is_dir e.ino
+  pub small : e.ino ≤ 9999
   pub file : (e.is_dir || list_any (λ g. g == e.ino) files) ≡ true
 
 -- no operation came yet: each entry is as such a line made it

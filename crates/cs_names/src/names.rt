@@ -2,7 +2,7 @@
 ghost use Rattle.std.specs.Prelude.{◌≡◌, ◌<◌, ◌≤◌, None, Some, if◌then◌else◌, IfOk, OnOk, OnErr};
 ghost use Rattle.cs_laws.specs.Namespace.{after, after_answer, answer_on, entry_at, found, has_dir, made_at, no_names, renamed, unlinked, within};
 ghost use Rattle.cs_laws.specs.Names.{listed};
-ghost use Rattle.cs_names.specs.Setup.{IsSetUp, after_setup, setup_step};
+ghost use Rattle.cs_names.specs.Setup.{IsSetUp, after_setup, is_in_use, setup_step};
 ghost use Rattle.cs_laws.specs.declared.requests.ReqOp.TheVariants as ops;
 ghost use Rattle.cs_names.specs.Table.{making, refusal};
 
@@ -125,10 +125,10 @@ impl Names {
         ensures first { OnOk result (IsSetUp self.new) }
         ensures err { OnErr result (self.new ≡ self.old) }
     {
-        if self.dirs.contains(&ino) || self.files.contains(&ino) {
+        if self.is_in_use(ino) {
             return Ok(SetupStep::Exists);
         }
-        if !self.dirs.contains(&dir) {
+        if !self.has_dir(dir) {
             return Ok(SetupStep::NoDir);
         }
         let key = EntryKey {
@@ -143,6 +143,13 @@ impl Names {
             Entry { ino, is_dir },
         )?;
         Ok(SetupStep::Made)
+    }
+
+    // Whether a standing directory or a file has the inode.
+    fn is_in_use(&self, ino: Ino) -> bool
+        ensures { result ≡ is_in_use ino self.now }
+    {
+        self.dirs.contains(&ino) || self.files.contains(&ino)
     }
 
     // Makes a directory or a file under a name.
