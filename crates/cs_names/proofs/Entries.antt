@@ -1,5 +1,5 @@
 -- The table's entries against the list of the entries with names.
-use Rattle.std.proofs.Common.{◌≡◌, ℕ, ◌+◌, ◌<◌, ◌≤◌, ◌==◌, ◌&&◌, ◌||◌, not, Bool, true, false, cond, List, [], ◌∷◌, ◌++◌, Option, Some, None, is_some, filter, find, map, nat_lt, refl, sym, ap, subst, ◌∙◌, true≢false, arith}
+use Rattle.std.proofs.Common.{◌≡◌, ℕ, ◌+◌, ◌==◌, ◌&&◌, ◌||◌, not, Bool, true, false, cond, List, [], ◌∷◌, Option, Some, None, is_some, filter, find, nat_lt, refl, sym, ap, ◌∙◌, true≢false, arith}
 use Rattle.std.proofs.lemmas.Bool.{eqb-true}
 use Rattle.std.proofs.lemmas.Bool.Decides.{nat_tests}
 use Rattle.std.specs.declared.ops.Bound.TheVariants.{Included, Excluded}
@@ -8,7 +8,7 @@ use Rattle.std.proofs.lemmas.Map.Keys.{sorted_head, sorted_tail}
 use Rattle.std.proofs.lemmas.Map.Text.{is_eq-slice_cmp}
 use Rattle.std.proofs.lemmas.Slice.Eq.{bytes_eq-Decides}
 use Rattle.std.specs.BTreeMap.{insert_entry, is_at}
-use Rattle.std.specs.BTreeMap.Range.{entries_between, range_contains}
+use Rattle.std.specs.BTreeMap.Range.{entries_between}
 use Rattle.std.specs.Cmp.{IsTotalOrder, Equal-is, both_tied, first_so, on_total, second_so, then_total, unsigned_ties}
 use Rattle.std.specs.Cmp.Lexicographic.{nat_list_eq_equiv, slice_cmp}
 use Rattle.std.specs.List.{AllByRecursion, list_any}
@@ -84,7 +84,7 @@ module _ (k : EntryKey) where
       (λ j. is_entry-key k e j || list_any (is_entry k.dir k.name.items) (named_all es))
       ∙ any_here (is_at (key_cmp k) e.0) (list_any (is_entry k.dir k.name.items) (named_all es)) e.1 (lookup (is_at (key_cmp k)) es) (any-lookup es)
 
--- A new entry
+  -- A new entry
 
   put_here : (v : Entry) (o : Ordering) (e : EntryKey × Entry) (es later : List (EntryKey × Entry)) (s : Option Entry) → cond (is_eq o) (Some e.1) s ≡ None
       → (s ≡ None → named_all later ≡ with_entry (named_at v) (named_all es))
@@ -100,7 +100,7 @@ module _ (k : EntryKey) where
       put_here v (key_cmp k e.0) e es (insert_entry key_cmp es k v) (lookup (is_at (key_cmp k)) es) none (insert-with v es)
       ∙ (λ j. cond (sym (is_ahead-key (k, v) e) j) (named_at v ∷ named_all (e ∷ es)) (named_of e ∷ with_entry (named_at v) (named_all es)))
 
--- An entry less
+  -- An entry less
 
   -- a key behind one that is tied with this one isn't tied with it
   untied : (x y : EntryKey) → key_cmp k x ≡ Equal → key_cmp x y ≡ Less → is_at (key_cmp k) y ≡ false
@@ -125,7 +125,7 @@ module _ (k : EntryKey) where
       (λ tied. all_stay e.0 es tied (sorted_head key_cmp e.0 (keys_of es) sorted)) (remove-without es (sorted_tail key_cmp e.0 (keys_of es) sorted))
       ∙ (λ j. cond (not (sym (is_entry-key k e) j)) (named_of e ∷ without_entry k.dir k.name.items (named_all es)) (without_entry k.dir k.name.items (named_all es)))
 
--- A new entry and an entry less, in either order
+  -- A new entry and an entry less, in either order
 
   -- a new entry that is ahead of the first one is ahead of all
   first_of_all : (x e : EntryKey × Entry) (es : List (EntryKey × Entry)) → is_lt (key_cmp x.0 e.0) ≡ true → AllByRecursion (λ y. key_cmp e.0 y ≡ Less) (keys_of es)

@@ -1,6 +1,5 @@
 -- What lines before the run make, by the tables.
-use Rattle.std.proofs.Common.{◌≡◌, ℕ, ◌+◌, ◌*◌, ◌/◌, ◌%◌, ◌^◌, ◌<◌, ◌≤◌, ◌==◌, ◌&&◌, ◌||◌, not, Bool, true, false, cond, List, [], ◌∷◌, ◌++◌, Option, Some, None, is_some, map, nat_le, length, codes, refl, sym, ap, subst, ◌∙◌, true≢false, arith}
-use Rattle.std.proofs.lemmas.Bool.{eqb-true}
+use Rattle.std.proofs.Common.{◌≡◌, ℕ, ◌+◌, ◌%◌, ◌^◌, ◌<◌, ◌≤◌, ◌==◌, ◌||◌, Bool, true, false, cond, List, [], ◌∷◌, ◌++◌, None, nat_le, length, refl, sym, ap, subst, ◌∙◌, true≢false, arith}
 use Rattle.std.proofs.lemmas.Bool.Decides.{nat_tests}
 use Rattle.std.proofs.lemmas.Fmt.{decimal_by_steps, decimal_injective, length-decimal-le}
 use Rattle.std.proofs.lemmas.List.Folds.{list_all-append, list_any-append}
@@ -13,11 +12,10 @@ use Rattle.std.specs.Map.{lookup}
 use Rattle.std.specs.Str.{bytes_eq}
 use Rattle.cs_ids.specs.Names.{is_name, is_name_byte}
 use Rattle.cs_laws.specs.Namespace.{Named, Names, has_dir, has_file, is_ahead, is_dir_entry, is_entry, with_entry}
-use Rattle.cs_names.specs.declared.setup.SetupStep.{SetupStep}
 use Rattle.cs_names.specs.declared.setup.SetupStep.TheVariants as steps
 use Rattle.cs_names.specs.declared.table.Entry.{Entry}
 use Rattle.cs_names.specs.declared.table.EntryKey.{EntryKey}
-use Rattle.cs_names.specs.Setup.{IsSetUp, IsSetupEntry, after_setup, is_in_use, setup_name, setup_step, with_setup}
+use Rattle.cs_names.specs.Setup.{IsSetUp, IsSetupEntry, is_in_use, setup_name, setup_step, with_setup}
 use Rattle.cs_names.specs.Table.{IsTable, is_among, key_cmp, named_all, named_of}
 use Rattle.cs_names.proofs.Entries.{any-lookup, insert-with, none_from_some}
 use Rattle.cs_names.proofs.Tables.{among_files, has_dir-table, shown}
@@ -37,6 +35,7 @@ setup_name-spelled is_dir i small = by is_dir
   where
     few : (l : ℕ) → l ≤ 4 → nat_le l 31 ≡ true
     few l is = grind (arith, nat_tests)
+
     by : (b : Bool) → is_name (setup_name b i) ≡ true
     by true = rw (few (length (decimal i)) (length-decimal-le 4 i (omega arith) (omega arith) (omega arith)), digits_spell i (omega arith)) refl
     by false = rw (few (length (decimal i)) (length-decimal-le 4 i (omega arith) (omega arith) (omega arith)), digits_spell i (omega arith)) refl
@@ -72,8 +71,10 @@ module _ (files : List ℕ) (d i : ℕ) (small : i ≤ 9999) where
       right : (a b : Bool) → (a || b) ≡ false → b ≡ false
       right true b is = absurd (true≢false is)
       right false b is = is
+
       is_it : (n.is_dir ≡ true) × (n.ino ≡ i) → is_dir_entry i n ≡ true
       is_it is = rw (is.0, is.1) (grind arith)
+
       by : (b : Bool) → is_entry d (setup_name true i) n ≡ b → list_any (is_entry d (setup_name true i)) ns ≡ false → (b || list_any (is_entry d (setup_name true i)) ns) ≡ false
       by true is rest = absurd (true≢false (sym (ap (λ c. c || list_any (is_dir_entry i) ns) (is_it (tells_inode true n all.0 is))) ∙ none))
       by false is rest = rest
@@ -84,6 +85,7 @@ module _ (files : List ℕ) (d i : ℕ) (small : i ≤ 9999) where
     where
       among : (n.is_dir ≡ false) × (n.ino ≡ i) → list_any (λ g. g == i) files ≡ true
       among is = subst (λ m. list_any (λ g. g == m) files ≡ true) is.1 (ap (λ c. c || list_any (λ g. g == n.ino) files) (sym is.0) ∙ all.0.file)
+
       by : (b : Bool) → is_entry d (setup_name false i) n ≡ b → list_any (is_entry d (setup_name false i)) ns ≡ false → (b || list_any (is_entry d (setup_name false i)) ns) ≡ false
       by true is rest = absurd (true≢false (sym (among (tells_inode false n all.0 is)) ∙ none))
       by false is rest = rest

@@ -1,5 +1,5 @@
 -- What each operation answers and leaves, by the tables.
-use Rattle.std.proofs.Common.{◌≡◌, ℕ, ◌+◌, ◌==◌, ◌&&◌, Bool, true, false, cond, List, [], ◌∷◌, ◌++◌, Option, Some, None, is_some, unwrap_or, map, refl, sym, ap, subst, ◌∙◌, true≢false}
+use Rattle.std.proofs.Common.{◌≡◌, ℕ, ◌+◌, ◌==◌, ◌&&◌, Bool, true, false, cond, List, [], ◌∷◌, ◌++◌, Option, Some, None, is_some, unwrap_or, refl, sym, ap, subst, ◌∙◌}
 use Rattle.std.specs.BTreeMap.{insert_entry, is_at}
 use Rattle.std.specs.Cmp.{Equal-is}
 use Rattle.std.specs.declared.cmp.Ordering.TheVariants.{Equal}
@@ -10,10 +10,10 @@ use Rattle.cs_laws.specs.declared.requests.OpAnswer.{OpAnswer}
 use Rattle.cs_laws.specs.declared.requests.OpAnswer.TheVariants as replies
 use Rattle.cs_laws.specs.declared.requests.ReqOp.{ReqOp}
 use Rattle.cs_laws.specs.declared.requests.ReqOp.TheVariants as ops
-use Rattle.cs_laws.specs.Namespace.{Named, Names, after_answer, entry_at, first_made, made_at, next_ino, has_dir, has_entry, has_file, moved, renamed, unlinked, within, with_entry, without_entry}
+use Rattle.cs_laws.specs.Namespace.{Names, after_answer, entry_at, first_made, made_at, next_ino, has_dir, has_entry, has_file, moved, renamed, unlinked, within, with_entry, without_entry}
 use Rattle.cs_names.specs.declared.table.Entry.{Entry}
 use Rattle.cs_names.specs.declared.table.EntryKey.{EntryKey}
-use Rattle.cs_names.specs.Table.{IsTable, has_entries, is_among, key_cmp, making, named_all, named_of, refusal}
+use Rattle.cs_names.specs.Table.{IsTable, has_entries, is_among, key_cmp, making, refusal}
 use Rattle.cs_names.proofs.Entries.{any-lookup, any-named, find-lookup, insert-with, is_entry-key, key_cmp_total, named_at, remove-without, with-without}
 use Rattle.cs_names.proofs.Tables.{among_files, has_dir-table, shown}
 
@@ -48,12 +48,14 @@ after-refusal ns d r op some = by op r (has_dir ns d) (has_file ns d) some
     not_dir (ops.Unlink d name) = refl
     not_dir (ops.Rename d name new) = refl
     not_dir (ops.Lookup d name) = refl
+
     missing : (op : ReqOp) → after_answer op replies.Missing ns ≡ ns
     missing (ops.Mkdir d name) = refl
     missing (ops.Create d name) = refl
     missing (ops.Unlink d name) = refl
     missing (ops.Rename d name new) = refl
     missing (ops.Lookup d name) = refl
+
     by : (op : ReqOp) (r : OpAnswer) (stands is_file : Bool) → cond stands None (Some (cond is_file replies.NotDir replies.Missing)) ≡ Some r → after_answer op r ns ≡ ns
     by op r true is_file some = cc
     by op r false true some = subst (λ a. after_answer op a ns ≡ ns) (ap (λ o. unwrap_or o replies.Gone) some) (not_dir op)
@@ -118,7 +120,7 @@ module _ (es : List (EntryKey × Entry)) (files : List ℕ) (made : ℕ) (ns : N
       ∙ ap (λ c. cond c (cond (has_entry ns d new) replies.Exists replies.Moved) replies.Missing) (has_entry-lookup ∙ ap is_some some)
       ∙ ap (λ c. cond c replies.Exists replies.Moved) is)
 
--- What is left
+  -- What is left
 
   pub after-made : (i : ℕ) (is_dir : Bool) → lookup (is_at (key_cmp k)) es ≡ None
       → shown (insert_entry key_cmp es k (record { ino = i; is_dir = is_dir })) (cond is_dir files (files ++ i ∷ [])) (made + 1) ≡ after_answer (making is_dir d name) (replies.Made i) ns
@@ -142,6 +144,9 @@ module _ (es : List (EntryKey × Entry)) (files : List ℕ) (made : ℕ) (ns : N
       let entries = remove-without k (insert_entry key_cmp es new v) sorted_with
       ∙ (ap (without_entry k.dir k.name.items) (insert-with new v es free) ∙ sym (with-without k (new, v) es other sorted)) in
       (λ j. record { entries = entries j; files = files; made = made })
-      ∙ ((λ j. record { entries = with_entry (record { dir = (new_dir ∙ sym in_dir) j; name = has_new j; ino = v.ino; is_dir = v.is_dir }) (without_entry k.dir k.name.items (view j).entries);
-      files = (view j).files; made = (view j).made })
+      ∙ ((λ j. record {
+        entries = with_entry (record { dir = (new_dir ∙ sym in_dir) j; name = has_new j; ino = v.ino; is_dir = v.is_dir }) (without_entry k.dir k.name.items (view j).entries);
+        files = (view j).files;
+        made = (view j).made;
+      })
       ∙ (λ j. record { entries = moved new_name (sym entry j) ns.entries; files = ns.files; made = ns.made }))

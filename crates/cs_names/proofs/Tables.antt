@@ -1,5 +1,5 @@
 -- The tables as entries come and go.
-use Rattle.std.proofs.Common.{◌≡◌, ℕ, ◌+◌, ◌<◌, ◌≤◌, ◌==◌, ◌&&◌, ◌||◌, not, Bool, true, false, cond, List, [], ◌∷◌, ◌++◌, Option, Some, None, unwrap_or, count_by, filter, map, nat_le, nat_lt, refl, sym, ap, subst, ◌∙◌, true≢false, arith, All}
+use Rattle.std.proofs.Common.{◌≡◌, ℕ, ◌+◌, ◌<◌, ◌≤◌, ◌==◌, ◌&&◌, ◌||◌, not, Bool, true, false, cond, List, [], ◌∷◌, ◌++◌, Some, None, unwrap_or, count_by, nat_le, nat_lt, refl, sym, subst, ◌∙◌, true≢false, arith}
 use Rattle.std.proofs.lemmas.Bool.{eqb-true}
 use Rattle.std.proofs.lemmas.Bool.Decides.{nat_tests}
 use Rattle.std.proofs.lemmas.List.Folds.{list_any-append}
@@ -8,13 +8,13 @@ use Rattle.std.proofs.lemmas.Map.Entries.{sum_by-insert_entry, sum_by-remove_ent
 use Rattle.std.proofs.lemmas.Map.Views.{All-keys-insert_entry, All-map-remove_entry}
 use Rattle.std.specs.BTreeMap.{insert_entry, is_at}
 use Rattle.std.specs.Cmp.{second_so}
-use Rattle.std.specs.List.{AllByRecursion, list_any, sum_by}
+use Rattle.std.specs.List.{list_any, sum_by}
 use Rattle.std.specs.List.Sorted.{IsStrictlySortedBy}
 use Rattle.std.specs.Map.{keys_of, lookup, remove_entry, values_of}
 use Rattle.std.specs.Option.{option_map}
 use Rattle.cs_ids.specs.Names.{is_name}
 use Rattle.cs_ids.specs.Ranges.{some_in}
-use Rattle.cs_laws.specs.Namespace.{Named, Names, first_made, has_dir, has_file, is_dir_entry}
+use Rattle.cs_laws.specs.Namespace.{Named, Names, first_made, has_dir, is_dir_entry}
 use Rattle.cs_names.specs.declared.table.Entry.{Entry}
 use Rattle.cs_names.specs.declared.table.EntryKey.{EntryKey}
 use Rattle.cs_names.specs.Table.{IsTable, is_among, key_cmp, named_all, named_of, places_of}
@@ -126,7 +126,7 @@ module _ {es : List (EntryKey × Entry)} {dirs files : List ℕ} {made : ℕ} (t
           stand_more (d == 1) (v.is_dir && (v.ino == d)) (is_among d dirs) _ _ more (t.standing d) (not_yet d v.is_dir)
           ∙ (λ j. cond (sym (among_then v.is_dir d v.ino dirs) j) 1 0)
 
--- An entry less
+  -- An entry less
 
   -- one name less, and one place less
   stand_less : (root b among : Bool) (old new : ℕ) → new + cond b 1 0 ≡ old → cond root 1 0 + old ≡ cond among 1 0 → cond root 1 0 + new ≡ cond (cond b false among) 1 0
@@ -159,7 +159,7 @@ module _ {es : List (EntryKey × Entry)} {dirs files : List ℕ} {made : ℕ} (t
           rw (counted d es, counted d (remove_entry (is_at (key_cmp k)) es)) sum in
           stand_less (d == 1) (v.is_dir && (v.ino == d)) (is_among d dirs) _ _ less (t.standing d) ∙ (λ j. cond (sym (out d) j) 1 0)
 
--- An entry under another name
+  -- An entry under another name
 
   pub renamed : (k new : EntryKey) (v : Entry) → lookup (is_at (key_cmp new)) es ≡ None → is_name new.name.items ≡ true
       → lookup (is_at (key_cmp k)) (insert_entry key_cmp es new v) ≡ Some v
@@ -168,7 +168,7 @@ module _ {es : List (EntryKey × Entry)} {dirs files : List ℕ} {made : ℕ} (t
   renamed k new v free name there sorted = record {
     ordered = sorted;
     named = All-map-remove_entry (is_at (key_cmp k)) (λ e. e.0) (λ q. is_name q.name.items ≡ true) (insert_entry key_cmp es new v)
-    (All-keys-insert_entry key_cmp new v (λ q. is_name q.name.items ≡ true) es t.named name);
+        (All-keys-insert_entry key_cmp new v (λ q. is_name q.name.items ≡ true) es t.named name);
     standing = λ d. (λ j. cond (d == 1) 1 0 + same d j) ∙ t.standing d;
     new_dir = t.new_dir;
     new_file = t.new_file;

@@ -1,4 +1,4 @@
-use Rattle.std.proofs.Common.{◌≡◌, ◌+◌, ◌∙◌, ap}
+use Rattle.std.proofs.Common.{◌∙◌, ap}
 use Rattle.cs_names.specs.Table.{entries_in}
 use Rattle.cs_names.proofs.Entries.{entries_between-in}
 use Rattle.cs_names.proofs.table.entries_of.Goals as goal

@@ -1,4 +1,4 @@
-use Rattle.std.proofs.Common.{◌≡◌, ◌∙◌, sym, ap}
+use Rattle.std.proofs.Common.{◌∙◌, sym, ap}
 use Rattle.cs_laws.specs.Namespace.{has_dir}
 use Rattle.cs_names.proofs.Tables.{has_dir-table}
 use Rattle.cs_names.proofs.names.Names.has_dir.Goals as goal

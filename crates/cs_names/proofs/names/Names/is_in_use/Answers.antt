@@ -1,4 +1,4 @@
-use Rattle.std.proofs.Common.{◌≡◌, ◌∙◌, ◌||◌, ap, sym}
+use Rattle.std.proofs.Common.{◌∙◌, ◌||◌, ap, sym}
 use Rattle.cs_names.specs.Table.{is_among}
 use Rattle.cs_names.proofs.Setups.{in-use-table}
 use Rattle.cs_names.proofs.names.Names.is_in_use.Goals as goal

@@ -1,4 +1,4 @@
-use Rattle.std.proofs.Common.{◌≡◌, ◌∙◌, true, false, refl, sym}
+use Rattle.std.proofs.Common.{◌∙◌, true, false, refl, sym}
 use Rattle.cs_names.proofs.Steps.{refusal-table}
 use Rattle.cs_names.proofs.names.Names.refusal.Goals as goal
 

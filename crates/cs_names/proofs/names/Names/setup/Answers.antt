@@ -7,7 +7,7 @@ use Rattle.cs_names.specs.declared.table.EntryKey.{EntryKey}
 use Rattle.cs_names.specs.declared.setup.SetupStep.TheVariants as steps
 use Rattle.cs_names.specs.Setup.{after_step, setup_step}
 use Rattle.cs_names.specs.Table.{key_cmp}
-use Rattle.cs_names.proofs.Setups.{after-setup, free-name, in-use-table, made-step, setup_name-spelled, still-setup, unused-dir}
+use Rattle.cs_names.proofs.Setups.{after-setup, free-name, made-step, setup_name-spelled, still-setup, unused-dir}
 use Rattle.cs_names.proofs.Tables.{entered}
 use Rattle.cs_names.proofs.names.Names.setup.Goals as goal
 
