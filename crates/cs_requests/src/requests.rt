@@ -102,11 +102,11 @@ impl Requests {
     pub fn mark_resent(&mut self)
         ensures { self.new ≡ record self.old { requests = map resent self.old.requests } }
     {
-        for i in 0..self.requests.len() {
-            if let Some(request) = self.requests.get_index_mut(i) {
-                request.resent = true;
-            }
-        }
+        // Each request stays, and is written on the way.
+        self.requests.retain(|_, request| {
+            request.resent = true;
+            true
+        });
     }
 
     /// The client is told a request's answer, before its record is durable. False exactly where the
@@ -157,8 +157,8 @@ impl Requests {
         ensures first { result ≡ oldest self.now.requests }
         ensures ordered { IsInOrder self.now.requests }
     {
-        let (tid, _) = self.requests.first()?;
-        Some(*tid)
+        let request = self.requests.values().as_slice().first()?;
+        Some(request.tid)
     }
 }
 
