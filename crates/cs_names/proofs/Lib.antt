@@ -1,0 +1,4 @@
+pub mod Entries
+pub mod Setups
+pub mod Steps
+pub mod Tables
