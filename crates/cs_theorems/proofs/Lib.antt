@@ -42,6 +42,7 @@ pub mod Ways
 pub mod Fronts
 pub mod Trees
 pub mod Asked
+pub mod AsksRun
 pub mod Asks
 pub mod Links
 pub mod Sent
