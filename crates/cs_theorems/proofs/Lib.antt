@@ -43,6 +43,7 @@ pub mod Fronts
 pub mod Trees
 pub mod Asked
 pub mod AsksRun
+pub mod AskedStands
 pub mod Asks
 pub mod Links
 pub mod Sent
