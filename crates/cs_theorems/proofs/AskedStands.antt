@@ -1,6 +1,6 @@
 -- After each event the requests that were asked, those that stand and those on their way to the server are a replay. What stands is a front
 -- of what was asked, with its operations and answers.
-use Rattle.std.proofs.Common.{◌≡◌, refl, sym, ap, ◌∙◌, subst, ℕ, ◌+◌, ◌<◌, ◌≤◌, ◌==◌, max, Bool, true, false, List, [], ◌∷◌, ◌++◌, Option, Some, None, map, length, drop, append_assoc, arith, inl, inr}
+use Rattle.std.proofs.Common.{◌≡◌, refl, sym, ap, ◌∙◌, subst, ℕ, ◌+◌, ◌<◌, ◌≤◌, ◌==◌, max, Bool, true, List, [], ◌∷◌, ◌++◌, Option, Some, None, map, length, drop, append_assoc, arith, inl, inr}
 use Rattle.std.specs.List.{cons_option, filter_map}
 use Rattle.std.proofs.lemmas.Bool.{cond_both, cond-false, cond-true, eq-eqb, ltb-false, ltb-true, ne_eqb}
 use Rattle.std.proofs.lemmas.List.{append-nil, map-append}
@@ -31,7 +31,7 @@ use Rattle.cs_theorems.specs.Flushes.{is_whole}
 use Rattle.cs_theorems.specs.Replays.{above, last_from, last_tid, Replay}
 use Rattle.cs_theorems.proofs.Ascending.{above_one, member_above}
 use Rattle.cs_theorems.proofs.Asked.{names_stage}
-use Rattle.cs_theorems.proofs.AsksRun.{AskedSettles, Alike, AskedAlike, alike_length, asked_alike, asked_settles}
+use Rattle.cs_theorems.proofs.AsksRun.{AskedSettles, AskedAlike, alike_length, asked_alike, asked_settles}
 use Rattle.cs_theorems.proofs.Inversions.{FlushIs, head_unknown, head_snap, head_clean, head_sent, flush_is, CheckIs, check_unknown, check_nothing, check_hold, check_ack, check_is, FlushSnapsIs, flush_unknown, flush_none, flush_writing, flush_sent, flush_snaps_is, ReceivedIs, received_idle, received_ack, received_flush, received_again, received_req, received_req_again, received_is, SnapIs, snap_unknown, snap_exists, snap_taken, snap_is, RemoveIs, remove_none, remove_gone, removed, remove_is}
 use Rattle.cs_theorems.proofs.Listed.{Each, Member, each_end, each_nil, each_tail, member_left, member_right}
 use Rattle.cs_theorems.proofs.Replays as replays
@@ -81,11 +81,7 @@ tid_member t [] there = absurd there
 tid_member t (y ∷ xs) (inl is) = (y, inl refl, is)
 tid_member t (y ∷ xs) (inr there) = let found = tid_member t xs there in (found.0, inr found.1, found.2)
 
-rest_of : List ℕ → List ℕ
-rest_of [] = []
-rest_of (x ∷ xs) = xs
-
-cancel : (xs ys zs : List ℕ) → xs ++ ys ≡ xs ++ zs → ys ≡ zs
+pub cancel : {A : Type 0} (xs ys zs : List A) → xs ++ ys ≡ xs ++ zs → ys ≡ zs
 cancel [] ys zs is = is
 cancel (x ∷ xs) ys zs is = let rest : xs ++ ys ≡ xs ++ zs = cc in cancel xs ys zs rest
 
@@ -109,7 +105,7 @@ pub settles_behind : (n : ℕ) (ns : Names) (xs ys : List Asked) → Settles n n
 settles_behind n ns [] ys i = i
 settles_behind n ns (x ∷ xs) ys i = settles_behind x.tid (after ns x.op) xs ys i.2
 
-settles_last : (n : ℕ) (ns : Names) (xs : List Asked) → Settles n ns xs → last_from (λ t. t) n (asked_tids xs) ≡ n + length xs
+pub settles_last : (n : ℕ) (ns : Names) (xs : List Asked) → Settles n ns xs → last_from (λ t. t) n (asked_tids xs) ≡ n + length xs
 settles_last n ns [] i = omega arith
 settles_last n ns (x ∷ xs) i = omega (arith, i.0, settles_last x.tid (after ns x.op) xs i.2)
 

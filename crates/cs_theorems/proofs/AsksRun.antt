@@ -1,13 +1,12 @@
 -- In every run each request is asked behind the setup lines, and has the answer on what those before it leave.
-use Rattle.std.proofs.Common.{◌≡◌, ◌⊎◌, refl, sym, ap, ◌∙◌, subst, ℕ, ◌+◌, ◌<◌, ◌≤◌, ◌==◌, ◌||◌, nat_le, Bool, true, false, cond, List, [], ◌∷◌, ◌++◌, length, inl, inr, ⊎_elim, arith}
-use Rattle.std.proofs.lemmas.Bool.{and_parts, cond_both, cond-true, eq-eqb, eqb-true, leb-true, or_cases, or_left, or_right}
-use Rattle.std.proofs.lemmas.List.{length-append}
+use Rattle.std.proofs.Common.{◌≡◌, ◌⊎◌, refl, sym, ap, ◌∙◌, subst, ℕ, ◌+◌, ◌<◌, ◌==◌, ◌||◌, nat_le, Bool, true, false, cond, List, [], ◌∷◌, ◌++◌, Some, find, map, length, inl, inr, ⊎_elim, arith}
+use Rattle.std.specs.Option.{option_map}
+use Rattle.std.proofs.lemmas.Bool.{and_parts, cond_both, cond-true, eq-eqb, eqb-true, leb-true, ne_eqb, or_cases, or_left, or_right}
 use Rattle.cs_laws.specs.declared.events.Event.{Event}
 use Rattle.cs_laws.specs.declared.events.Event.TheVariants as e
 use Rattle.cs_laws.specs.declared.answers.Answer.{Answer}
 use Rattle.cs_laws.specs.declared.answers.Answer.TheVariants as a
 use Rattle.cs_laws.specs.declared.answers.Entry.{Entry}
-use Rattle.cs_laws.specs.declared.requests.ReqOp.{ReqOp}
 use Rattle.cs_laws.specs.Answers.{answer_made, is_in_use}
 use Rattle.cs_laws.specs.ClientKnows.{client_made}
 use Rattle.cs_laws.specs.Events.{is_setup, setup_file}
@@ -15,15 +14,18 @@ use Rattle.cs_laws.specs.Fits.{fits}
 use Rattle.cs_laws.specs.History.{durable, fresh}
 use Rattle.cs_laws.specs.Journal.{entry}
 use Rattle.cs_laws.specs.Names.{setup_names}
-use Rattle.cs_laws.specs.Namespace.{Named, Names, answer_on, is_ahead, next_ino, with_entry}
-use Rattle.cs_laws.specs.Requests.{Request, requests}
+use Rattle.cs_laws.specs.Namespace.{Named, answer_on, is_ahead, next_ino, with_entry}
+use Rattle.cs_laws.specs.Lists.{RisesFrom}
+use Rattle.cs_laws.specs.Requests.{Request, has_request, op_of, requests}
 use Rattle.cs_laws.specs.Runs.{CanFollow, IsRun, all_setup}
 use Rattle.cs_laws.specs.Tree.{is_directory, setup_dir}
 use Rattle.cs_theorems.specs.Asked.{Asked, Settles, asked, stage}
-use Rattle.cs_theorems.proofs.Asked.{AsksLater, EntriesIn, Fresh, SetupFresh, settle_end}
-use Rattle.cs_theorems.proofs.Listed.{Each, Member, each_nil}
+use Rattle.cs_theorems.proofs.Ascending.{member_above}
+use Rattle.cs_theorems.proofs.Asked.{AsksLater, SetupFresh, settle_end}
+use Rattle.cs_theorems.proofs.Listed.{Member, each_nil}
 use Rattle.cs_theorems.proofs.Paths.{still_dir}
 use Rattle.cs_theorems.proofs.Runs.{of_run}
+use Rattle.cs_theorems.proofs.Tests.{any_true}
 
 -- Among setup lines
 
@@ -146,6 +148,40 @@ pub alike_length : (xs : List Request) (ys : List Asked) → Alike xs ys → len
 alike_length [] [] i = refl
 alike_length (x ∷ xs) (y ∷ ys) i = omega (arith, alike_length xs ys i.2)
 alike_length _ _ i = absurd i
+
+pub record AlikeTo (xs : List Request) (y : Asked) : Type 0 where
+  pub request : Request
+  pub there : Member request xs
+  pub tid : request.tid ≡ y.tid
+  pub op : request.op ≡ y.op
+
+pub alike_member : (xs : List Request) (ys : List Asked) (y : Asked) → Alike xs ys → Member y ys → AlikeTo xs y
+alike_member (x ∷ xs) (z ∷ ys) y i (inl is) =
+    record { request = x; there = inl refl; tid = i.0 ∙ ap (λ (w : Asked). w.tid) is; op = i.1 ∙ ap (λ (w : Asked). w.op) is }
+alike_member (x ∷ xs) (z ∷ ys) y i (inr m) =
+    let rest = alike_member xs ys y i.2 m in record { request = rest.request; there = inr rest.there; tid = rest.tid; op = rest.op }
+alike_member [] [] y i m = absurd m
+alike_member [] (z ∷ ys) y i m = absurd i
+alike_member (x ∷ xs) [] y i m = absurd m
+
+-- each that was asked was sent
+pub was_sent : (xs : List Request) (ys : List Asked) (y : Asked) → Alike xs ys → Member y ys → has_request y.tid xs ≡ true
+was_sent xs ys y i m =
+    let k = alike_member xs ys y i m in any_true (λ x. x.tid == y.tid) xs k.request k.there (eq-eqb k.request.tid y.tid k.tid)
+
+-- and its operation is found
+pub op_found : (n : ℕ) (xs : List Request) (ys : List Asked) (y : Asked) → RisesFrom n (map (λ z. z.tid) ys) → Alike xs ys → Member y ys → op_of y.tid xs ≡ Some y.op
+op_found n (x ∷ xs) (z ∷ ys) y up i (inl is) =
+    let same : x.tid ≡ y.tid = i.0 ∙ ap (λ (w : Asked). w.tid) is in
+    ap (λ b. option_map (λ (w : Request). w.op) (cond b (Some x) (find (λ w. w.tid == y.tid) xs))) (eq-eqb x.tid y.tid same)
+    ∙ ap (λ o. Some o) (i.1 ∙ ap (λ (w : Asked). w.op) is)
+op_found n (x ∷ xs) (z ∷ ys) y up i (inr m) =
+    ap (λ b. option_map (λ (w : Request). w.op) (cond b (Some x) (find (λ w. w.tid == y.tid) xs)))
+    (ne_eqb x.tid y.tid (λ is. omega (arith, is, i.0, member_above (λ (w : Asked). w.tid) z.tid y ys up.1 m)))
+    ∙ op_found z.tid xs ys y up.1 i.2 m
+op_found n [] [] y up i m = absurd m
+op_found n [] (z ∷ ys) y up i m = absurd i
+op_found n (x ∷ xs) [] y up i m = absurd m
 
 abbrev pub AskedAlike : List Entry → Type 0
 AskedAlike h = Alike (requests h) (asked h)

@@ -44,6 +44,8 @@ pub mod Trees
 pub mod Asked
 pub mod AsksRun
 pub mod AskedStands
+pub mod AskedTold
+pub mod Answered
 pub mod Asks
 pub mod Links
 pub mod Sent
