@@ -42,6 +42,10 @@ pub mod Ways
 pub mod Fronts
 pub mod Trees
 pub mod Asked
+pub mod AsksRun
+pub mod AskedStands
+pub mod AskedTold
+pub mod Answered
 pub mod Asks
 pub mod Sides
 pub mod Links
