@@ -47,6 +47,7 @@ pub mod AskedStands
 pub mod AskedTold
 pub mod Answered
 pub mod Asks
+pub mod RequestLaws
 pub mod Sides
 pub mod Links
 pub mod Sent
