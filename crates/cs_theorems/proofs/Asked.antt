@@ -1,13 +1,8 @@
 -- Requests with their settled answers: what they leave of the namespace, and what they make.
-use Rattle.std.proofs.Common.{◌≡◌, ◌⊎◌, refl, sym, ap, ◌∙◌, subst, ℕ, ◌+◌, ◌<◌, ◌≤◌, ◌==◌, ◌||◌, ◌&&◌, not, nat_le, Bool, true, false, cond, List, [], ◌∷◌, ◌++◌, append_assoc, filter, find, length, Option, Some, None, inl, inr, ⊎_elim, arith}
-use Rattle.std.specs.List.{cons_option, filter_map, list_any}
-use Rattle.std.proofs.lemmas.Bool.{and_parts, both_ways, cond_both, cond-true, cond-false, eqb-true, eq-eqb, false_from_ne_true, leb-true, or_cases, or_left, or_parts, or_right}
-use Rattle.std.proofs.lemmas.List.{length-append}
+use Rattle.std.proofs.Common.{◌≡◌, refl, sym, ap, ◌∙◌, subst, ℕ, ◌+◌, ◌<◌, ◌==◌, ◌||◌, not, Bool, true, false, cond, List, [], ◌∷◌, ◌++◌, append_assoc, filter, find, length, Option, Some, None, inl, ⊎_elim, arith}
+use Rattle.std.specs.List.{cons_option, list_any}
+use Rattle.std.proofs.lemmas.Bool.{and_parts, both_ways, cond_both, eqb-true, eq-eqb, false_from_ne_true, or_cases, or_left, or_right}
 use Rattle.std.proofs.lemmas.List.Folds.{list_any-append}
-use Rattle.cs_laws.specs.declared.events.Event.{Event}
-use Rattle.cs_laws.specs.declared.events.Event.TheVariants as e
-use Rattle.cs_laws.specs.declared.answers.Answer.{Answer}
-use Rattle.cs_laws.specs.declared.answers.Answer.TheVariants as a
 use Rattle.cs_laws.specs.declared.answers.Entry.{Entry}
 use Rattle.cs_laws.specs.declared.records.Record.{Record}
 use Rattle.cs_laws.specs.declared.records.RecordBody.{RecordBody}
@@ -16,19 +11,15 @@ use Rattle.cs_laws.specs.declared.requests.OpAnswer.{OpAnswer}
 use Rattle.cs_laws.specs.declared.requests.OpAnswer.TheVariants as replies
 use Rattle.cs_laws.specs.declared.requests.ReqOp.{ReqOp}
 use Rattle.cs_laws.specs.declared.requests.ReqOp.TheVariants as ops
-use Rattle.cs_laws.specs.Answers.{answer_made, is_in_use}
-use Rattle.cs_laws.specs.Events.{is_setup, setup_file}
-use Rattle.cs_laws.specs.Fits.{fits}
-use Rattle.cs_laws.specs.Journal.{entry}
+use Rattle.cs_laws.specs.Answers.{is_in_use}
 use Rattle.cs_laws.specs.Made.{Made, is_made_dir, made_by, made_in, made_of, makes_dir}
-use Rattle.cs_laws.specs.Names.{after_record, names_after, setup_names, setup_names_then}
-use Rattle.cs_laws.specs.Namespace.{Named, Names, after, after_answer, answer_on, entry_at, first_made, has_dir, has_entry, has_file, is_ahead, is_dir_entry, is_entry, made_at, moved, next_ino, with_entry, within, without_entry}
-use Rattle.cs_laws.specs.Runs.{CanFollow, IsRun, all_setup}
-use Rattle.cs_laws.specs.Tree.{is_directory, setup_dir}
-use Rattle.cs_theorems.specs.Asked.{Asked, Settles, asked, asked_in, asked_made, asked_of, asked_then, stage}
-use Rattle.cs_theorems.proofs.Listed.{Each, Member, each_cons, each_nil, each_tail}
+use Rattle.cs_laws.specs.Names.{after_record, names_after, setup_names}
+use Rattle.cs_laws.specs.Namespace.{Named, Names, after, after_answer, answer_on, entry_at, has_dir, has_entry, has_file, is_ahead, is_dir_entry, is_entry, made_at, moved, next_ino, with_entry, within, without_entry}
+use Rattle.cs_laws.specs.Runs.{all_setup}
+use Rattle.cs_laws.specs.Tree.{is_directory}
+use Rattle.cs_theorems.specs.Asked.{Asked, Settles, asked, asked_in, asked_made, asked_of, stage}
+use Rattle.cs_theorems.proofs.Listed.{Each, each_cons, each_tail}
 use Rattle.cs_theorems.proofs.Logs.{dirs_after, with_dirs}
-use Rattle.cs_theorems.proofs.Paths.{still_dir}
 use Rattle.cs_theorems.proofs.Trees.{Grown, more_dirs, more_used}
 
 -- What they leave
@@ -241,13 +232,14 @@ grown_step dir used ns op o rest is fresh go = at (made_by (Some op) o) refl
     at [] none = go dir used (fresh_same dir used ns op o none fresh)
     at (m ∷ ms) same =
         let k = makes_is ns op o m ms same is in
-        subst (λ l. Grown dir used (m ∷ l ++ rest)) (sym k.only)
-        (new_one dir used ns m.ino k.ino fresh,
-        has_dir_in dir ns m.dir fresh.root fresh.entries k.above,
-        go (λ j. more_dirs m dir j) (λ j. more_used m used j)
-        (fresh_more dir used ns (after_answer op o ns) m k.count k.ino
-        (entries_step dir (λ j. more_dirs m dir j) ns op o (λ j old. or_left (dir j) _ old) (λ j made. or_right (dir j) _ (new_dir m ms same k.only j made)) fresh.entries)
-        fresh))
+        subst (λ l. Grown dir used (m ∷ l ++ rest)) (sym k.only) (
+          new_one dir used ns m.ino k.ino fresh,
+          has_dir_in dir ns m.dir fresh.root fresh.entries k.above,
+          go (λ j. more_dirs m dir j) (λ j. more_used m used j)
+              (fresh_more dir used ns (after_answer op o ns) m k.count k.ino
+              (entries_step dir (λ j. more_dirs m dir j) ns op o (λ j old. or_left (dir j) _ old) (λ j made. or_right (dir j) _ (new_dir m ms same k.only j made)) fresh.entries)
+              fresh),
+        )
 
 pub grown_by : (n : ℕ) (ns : Names) (xs : List Asked) (dir used : ℕ → Bool) → Settles n ns xs → Fresh dir used ns → Grown dir used (asked_made xs)
 grown_by n ns [] dir used i fresh = tt

@@ -1,5 +1,5 @@
 -- Nothing was written to a file that isn't known, its mode wasn't changed, no cap snap of it was made and no flush sent.
-use Rattle.std.proofs.Common.{◌≡◌, refl, subst, ℕ, ◌==◌, ◌||◌, not, Bool, true, false, cond, List, [], ◌∷◌, inl}
+use Rattle.std.proofs.Common.{◌≡◌, refl, subst, ℕ, ◌==◌, ◌||◌, not, true, false, List, [], ◌∷◌, inl}
 use Rattle.std.proofs.lemmas.Bool.{and_left, and_right, both_ways, eqb-true, false_from_ne_true, or_from}
 use Rattle.cs_bits.specs.declared.Caps.{Caps}
 use Rattle.cs_bits.specs.Bits.{covers, file_write, is_empty, no_caps}

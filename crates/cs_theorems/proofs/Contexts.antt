@@ -19,7 +19,7 @@ use Rattle.cs_laws.specs.Events.{is_setup, setup_file}
 use Rattle.cs_laws.specs.History.{context, realms, to_client, durable}
 use Rattle.cs_laws.specs.Journal.{entry}
 use Rattle.cs_laws.specs.Owed.{had_reached}
-use Rattle.cs_laws.specs.Runs.{CanFollow, all_setup}
+use Rattle.cs_laws.specs.Runs.{all_setup}
 use Rattle.cs_theorems.specs.Contexts.{ContextsNeverFall, HadContext, Rises}
 use Rattle.cs_theorems.proofs.Linked.{told_rises, log_realms}
 use Rattle.cs_theorems.proofs.Paths.{path_stays, IsWay, setup_path, setup_home}
@@ -180,8 +180,12 @@ unknown_low h tid o f now i unknown =
     let at_new : context later f ≡ way_context link.front (all_path h (client_home later f))
     = ap (λ ps. path_context ps (realms h)) new
     ∙ path_is_way (λ d. all_dir h d) (λ d. all_path h d) link.front (realms h) tree inside link.has (all_path h (client_home later f)) (tree.ways (client_home later f)) in
-    omega (arith, ap (λ (c : Context). c.seq) at_old, ap (λ (c : Context). c.seq) at_new,
-    way_from (λ d. all_path h d) link.front (all_path h (client_home later f)) 1 (tree.ways (client_home later f)) (all_tops h (client_home later f)))
+    omega (
+      arith,
+      ap (λ (c : Context). c.seq) at_old,
+      ap (λ (c : Context). c.seq) at_new,
+      way_from (λ d. all_path h d) link.front (all_path h (client_home later f)) 1 (tree.ways (client_home later f)) (all_tops h (client_home later f)),
+    )
 
 -- known or not
 seq_told : (p : ℕ) (h : List Entry) (f : ℕ) (x : Answer) → FirstIs h x → Asks (record { event = e.ToClient; answer = x } ∷ h) → Setting h

@@ -2,7 +2,7 @@
 use Rattle.std.proofs.Common.{◌≡◌, refl, sym, ap, ◌∙◌, subst, ℕ, ◌<◌, ◌≤◌, ◌==◌, ◌||◌, ◌&&◌, not, Bool, true, false, cond, nat_le, nat_lt, max, List, [], ◌∷◌, ◌++◌, filter, Option, Some, None, is_some, ⊎_elim, arith}
 use Rattle.std.specs.List.{list_any, filter_map, cons_option}
 use Rattle.std.specs.Option.{option_map_or}
-use Rattle.std.proofs.lemmas.Bool.{both_ways, cond_both, cond-true, cond-false, eq-eqb, eqb-true, or_cases, false_from_ne_true, le-leb}
+use Rattle.std.proofs.lemmas.Bool.{both_ways, cond_both, cond-true, cond-false, eq-eqb, eqb-true, or_cases, false_from_ne_true}
 use Rattle.std.proofs.lemmas.Bool.Decides.{nat_tests}
 use Rattle.std.proofs.lemmas.List.Folds.{list_any-append}
 use Rattle.cs_snapctx.specs.Context.{Context, descending, merged, with_snap}
@@ -13,7 +13,7 @@ use Rattle.cs_laws.specs.declared.records.RecordBody.{RecordBody}
 use Rattle.cs_laws.specs.declared.records.RecordBody.TheVariants as bodies
 use Rattle.cs_laws.specs.declared.objects.At.TheVariants as at
 use Rattle.cs_laws.specs.Answers.{covers_file, standing_context}
-use Rattle.cs_laws.specs.History.{durable, fresh, stand}
+use Rattle.cs_laws.specs.History.{stand}
 use Rattle.cs_laws.specs.Realms.{Own, has_snap, is_realm, own, own_after, own_then, realm_record, realm_records, number_of, since_of}
 use Rattle.cs_laws.specs.Standing.{dir_in, dir_of, is_removal, is_removed, is_snap}
 use Rattle.cs_laws.specs.Standing.{has_snap as snap_stands}
@@ -22,7 +22,7 @@ use Rattle.cs_laws.specs.Runs.{IsRun}
 use Rattle.cs_laws.specs.ServerKnows.{server_dir, server_dirs, server_file_path, server_home, server_path}
 use Rattle.cs_theorems.proofs.Course.{course_run}
 use Rattle.cs_theorems.proofs.Drawn.{AllDraw, Draws}
-use Rattle.cs_theorems.proofs.Listed.{Member, each_append}
+use Rattle.cs_theorems.proofs.Listed.{Member}
 use Rattle.cs_theorems.proofs.RealmPaths.{HasRealms, path_is_way, realm_of, way_context}
 use Rattle.cs_theorems.proofs.Settings.{Setting}
 use Rattle.cs_theorems.proofs.WayContexts.{has_realm}

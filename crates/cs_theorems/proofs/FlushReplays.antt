@@ -130,7 +130,6 @@ step_server h x (received_flush y q is first) i =
 step_server h x (received_again y q is again) i =
     at_first (λ p. Left h p) (λ p. Left h p) (flush_message y) q (to_server h) is
     (λ j. (flies_again (is_whole h) (sent h) (stand h) q y j (ltb-false (greatest_tid y.file (stand h)) y.tid again)).0) i
-
 step_server h x (received_req tid ino op q is first) i =
     subst (λ p. Flies (is_whole h) (sent h) (durable h ++ (fresh h ++ requested (answer_on (names h) op) p)) (drop 1 p)) (sym is)
     (flies_record (is_whole h) (sent h) (durable h) (fresh h) q (record { body = bodies.Request tid op (answer_on (names h) op) }) refl

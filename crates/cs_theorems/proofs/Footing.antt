@@ -4,7 +4,7 @@ use Rattle.cs_laws.specs.declared.events.Event.{Event}
 use Rattle.cs_laws.specs.declared.answers.Entry.{Entry}
 use Rattle.cs_laws.specs.History.{sent}
 use Rattle.cs_laws.specs.Journal.{entry}
-use Rattle.cs_laws.specs.Runs.{CanFollow, IsRun}
+use Rattle.cs_laws.specs.Runs.{IsRun}
 use Rattle.cs_theorems.specs.Flushes.{FlushesReplay}
 use Rattle.cs_theorems.proofs.Acks.{AllAcked, acked_first, acked_step}
 use Rattle.cs_theorems.proofs.Contexts.{AllReached, has_reached, reached_first, reached_step}

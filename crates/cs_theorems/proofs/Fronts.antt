@@ -1,13 +1,9 @@
 -- The realm records that the client has are those of a front of the durable log, and what flies tells of the rest, in order.
-use Rattle.std.proofs.Common.{◌≡◌, refl, sym, ◌∙◌, subst, ℕ, ◌==◌, ◌||◌, Bool, true, false, cond, List, [], ◌∷◌, ◌++◌, Some, None, find, drop, inl, ⊎_elim, ap}
-use Rattle.std.specs.List.{list_any}
-use Rattle.std.proofs.lemmas.Bool.{cond-false, eqb-true, eq-eqb, both_ways, or_cases, false_from_ne_true}
+use Rattle.std.proofs.Common.{◌≡◌, refl, sym, ◌∙◌, subst, ℕ, ◌==◌, ◌||◌, Bool, true, false, cond, List, [], ◌∷◌, ◌++◌, Some, None, find, drop, ap}
+use Rattle.std.proofs.lemmas.Bool.{cond-false, eqb-true, eq-eqb, both_ways, false_from_ne_true}
 use Rattle.cs_snapctx.specs.Records.{record_of, root_record}
 use Rattle.cs_laws.specs.declared.records.Record.{Record}
-use Rattle.cs_laws.specs.declared.records.RecordBody.{RecordBody}
-use Rattle.cs_laws.specs.declared.records.RecordBody.TheVariants as bodies
-use Rattle.cs_laws.specs.Realms.{is_realm, is_snap_of, realm_record, own, since_of}
-use Rattle.cs_theorems.proofs.Listed.{Each, each_tail}
+use Rattle.cs_laws.specs.Realms.{is_realm, realm_record, own, since_of}
 use Rattle.cs_theorems.proofs.Paths.{with_path}
 use Rattle.cs_theorems.proofs.RealmPaths.{realm_of}
 use Rattle.cs_theorems.proofs.WayContexts.{Stays}

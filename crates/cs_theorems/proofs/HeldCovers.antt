@@ -188,7 +188,6 @@ step_to_server h x (received_again y p is again) i = λ f.
     (λ j. holds_beside f (server h f) (client h f) (to_client h) p acks (no_seq_again f y.file y.tid (durable h))
     (each_again (λ m. Flying f (server h f) m) y.file y.tid (durable h) (λ _. tt))
     (holds_taken f (server h f) (client h f) (to_client h) p (flush_message y) j)) (i f)
-
 step_to_server h x (received_req tid ino op p is first) i = λ f.
     let told : List Message = unsafe_message tid (answer_on (names h) op) ∷ [] in
     at_first (λ q. Server h f q) (λ q. Holds f (server h f) (client h f) (to_client h ++ told) q) (messages.Req tid ino op) p (to_server h) is

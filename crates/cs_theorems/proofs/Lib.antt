@@ -48,6 +48,8 @@ pub mod AskedTold
 pub mod Answered
 pub mod Asks
 pub mod RequestLaws
+pub mod Entries
+pub mod LeaseLaws
 pub mod Sides
 pub mod Links
 pub mod Sent

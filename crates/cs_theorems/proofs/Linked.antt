@@ -48,10 +48,10 @@ use Rattle.cs_theorems.proofs.Drawn.{DrawnAt}
 use Rattle.cs_theorems.proofs.Fronts.{root_has}
 use Rattle.cs_theorems.proofs.Inversions.{FirstIs, first_idle, first_cap, first_flush_ack, first_unsafe, first_safe, first_unlease, first_snap, first_is, GrantIs, grant_unknown, grant_sent, grant_is, ReceivedIs, received_idle, received_ack, received_flush, received_again, received_req, received_req_again, received_is, RemoveIs, remove_none, remove_gone, removed, remove_is, revoke_is, SnapIs, snap_unknown, snap_exists, snap_taken, snap_is, UnleaseIs, unlease_unknown, unlease_sent, unlease_is}
 use Rattle.cs_theorems.proofs.Links.{carried}
-use Rattle.cs_theorems.proofs.Listed.{Each, Member, each_tail}
+use Rattle.cs_theorems.proofs.Listed.{Each}
 use Rattle.cs_theorems.proofs.Listing.{Listing, ListingAt}
 use Rattle.cs_theorems.proofs.Logs.{GoodLog, GoodRecord, dirs_after, good_end, good_front, realm_dir}
-use Rattle.cs_theorems.proofs.Paths.{Housed, IsWay, TreeAt, still_dir, with_path}
+use Rattle.cs_theorems.proofs.Paths.{Housed, IsWay, TreeAt, with_path}
 use Rattle.cs_theorems.proofs.Sent.{same_on}
 use Rattle.cs_theorems.proofs.Sides.{all_dir, all_made, all_path, all_tree, client_file_way, log_dirs, named_dirs, server_front, server_in, server_listing, server_way, setup_used}
 use Rattle.cs_theorems.proofs.Standing.{recorded_one}
@@ -220,9 +220,9 @@ module _ (h : List Entry) (tid : ℕ) (ino : Option ℕ) (op : ReqOp) (q : List 
       log_dirs h d
       ∙ (sym (dirs_are (server_made h) (λ k. is_directory h k) d)
       ∙ made_new (λ k. dirs_of (server_made h) (λ l. is_directory h l) k) (λ k. used_of (server_made h) (λ l. is_in_use h l) k) (made_by (Some op) reply ++ [])
-        (server_front later now).0 d (all_are_used (server_made h) (λ k. is_directory h k) (λ l. is_in_use h l) (setup_used h))
-        (grown_behind (λ k. is_directory h k) (λ l. is_in_use h l) (server_made h) _ (subst (λ ms. Grown (λ k. is_directory h k) (λ l. is_in_use h l) ms) whole now.grown))
-        (ap (makes_dir d) (append-nil (made_by (Some op) reply)) ∙ is))
+      (server_front later now).0 d (all_are_used (server_made h) (λ k. is_directory h k) (λ l. is_in_use h l) (setup_used h))
+      (grown_behind (λ k. is_directory h k) (λ l. is_in_use h l) (server_made h) _ (subst (λ ms. Grown (λ k. is_directory h k) (λ l. is_in_use h l) ms) whole now.grown))
+      (ap (makes_dir d) (append-nil (made_by (Some op) reply)) ∙ is))
 
 -- A commit
 

@@ -1,12 +1,12 @@
 -- A log whose records fit together: each snapshot is of a directory that is known by then, and each directory that a request makes is new.
-use Rattle.std.proofs.Common.{◌≡◌, ◌⊎◌, refl, sym, ap, ◌∙◌, subst, ℕ, ◌==◌, ◌||◌, ◌+◌, Bool, true, false, cond, max, List, [], ◌∷◌, ◌++◌, append_assoc, Some, inl, inr, ⊎_elim}
+use Rattle.std.proofs.Common.{◌≡◌, refl, sym, ap, subst, ℕ, ◌==◌, ◌||◌, ◌+◌, Bool, true, false, cond, max, List, [], ◌∷◌, ◌++◌, Some, ⊎_elim}
 use Rattle.std.specs.List.{list_any}
-use Rattle.std.proofs.lemmas.Bool.{cond_both, both_ways, eqb-true, false_from_ne_true, or_cases, or_left}
+use Rattle.std.proofs.lemmas.Bool.{both_ways, eqb-true, false_from_ne_true, or_cases, or_left}
 use Rattle.cs_laws.specs.declared.records.Record.{Record}
 use Rattle.cs_laws.specs.declared.records.RecordBody.{RecordBody}
 use Rattle.cs_laws.specs.declared.records.RecordBody.TheVariants as bodies
 use Rattle.cs_laws.specs.Made.{made_by, made_of, makes_dir}
-use Rattle.cs_laws.specs.Realms.{is_realm, is_snap_of, number_of, since_from, since_of}
+use Rattle.cs_laws.specs.Realms.{is_realm, is_snap_of, number_of, since_from}
 
 -- dir: the directories that are known
 abbrev pub with_dirs : RecordBody → (ℕ → Bool) → ℕ → Bool

@@ -1,5 +1,5 @@
 -- The laws of requests and of their answers.
-use Rattle.std.proofs.Common.{◌≡◌, refl, sym, ap, ◌∙◌, subst, ℕ, ◌==◌, Bool, true, false, cond, List, [], ◌∷◌, ◌++◌}
+use Rattle.std.proofs.Common.{◌≡◌, refl, sym, ◌∙◌, subst, ℕ, ◌==◌, Bool, true, false, cond, List, [], ◌∷◌, ◌++◌}
 use Rattle.std.proofs.lemmas.Bool.{eqb-true}
 use Rattle.cs_laws.specs.declared.events.Event.{Event}
 use Rattle.cs_laws.specs.declared.events.Event.TheVariants as e
@@ -40,8 +40,8 @@ stands_once p h run x there = record {
 pub replies_stand : (p : ℕ) (h : List Entry) → IsRun p h → RepliesStand h
 replies_stand p h run =
     in_every_prefix p AnsweredStand (λ g is active r there.
-        let right = answer_stands p g is active r there in
-        stands_once p g is (record { tid = r.tid; op = right.0; answer = r.answer }) right.1) h run
+    let right = answer_stands p g is active r there in
+    stands_once p g is (record { tid = r.tid; op = right.0; answer = r.answer }) right.1) h run
 
 -- What the client was told to be durable is so.
 

@@ -1,23 +1,23 @@
 -- The directories that each side knows are among those of one tree, that of all that was ever asked for, and have their paths there.
-use Rattle.std.proofs.Common.{◌≡◌, refl, sym, ap, ◌∙◌, subst, ℕ, ◌==◌, ◌||◌, Bool, true, List, [], ◌∷◌, ◌++◌, ⊎_elim}
+use Rattle.std.proofs.Common.{◌≡◌, refl, sym, ap, ◌∙◌, subst, ℕ, ◌||◌, Bool, true, List, ◌++◌, ⊎_elim}
 use Rattle.std.proofs.lemmas.Bool.{or_cases, or_left, or_right}
 use Rattle.std.proofs.lemmas.List.Folds.{list_any-append}
 use Rattle.cs_laws.specs.declared.answers.Entry.{Entry}
 use Rattle.cs_laws.specs.Answers.{is_in_use}
 use Rattle.cs_laws.specs.ClientKnows.{client_dir, client_file_path, client_home, client_made, client_path, client_knows}
 use Rattle.cs_laws.specs.History.{stand}
-use Rattle.cs_laws.specs.Made.{Made, is_made_dir, made_in, makes_dir, path_with, makes_file}
+use Rattle.cs_laws.specs.Made.{Made, is_made_dir, makes_dir, path_with, makes_file}
 use Rattle.cs_laws.specs.Names.{names, setup_names}
 use Rattle.cs_laws.specs.Namespace.{has_dir}
 use Rattle.cs_laws.specs.ServerKnows.{server_dir, server_dirs, server_file_path, server_home, server_made, server_path}
 use Rattle.cs_laws.specs.Tree.{directories, home, is_directory, path}
 use Rattle.cs_laws.specs.Events.{setup_file}
 use Rattle.cs_theorems.specs.Asked.{Settles, asked, asked_made, asked_of, stage}
-use Rattle.cs_theorems.proofs.Asked.{EntriesIn, dirs_behind, has_dir_in, log_made, made_append, names_stage, settle_front, stage_in}
+use Rattle.cs_theorems.proofs.Asked.{dirs_behind, has_dir_in, log_made, made_append, names_stage, settle_front, stage_in}
 use Rattle.cs_theorems.proofs.Asks.{Asks}
 use Rattle.cs_theorems.proofs.Listing.{Listing, ListingAt}
 use Rattle.cs_theorems.proofs.Logs.{dirs_after}
-use Rattle.cs_theorems.proofs.Paths.{Housed, IsWay, Tree, TreeAt, setup_top}
+use Rattle.cs_theorems.proofs.Paths.{Housed, Tree, TreeAt, setup_top}
 use Rattle.cs_theorems.proofs.Trees.{AreUsed, Grown, dirs_are, dirs_of, grown_front, home_in, listing_grown, listing_same, path_of_front, tree_grown, file_used, tops_grown, used_grow, used_of, tree_same}
 use Rattle.cs_theorems.proofs.Listed.{Member}
 
@@ -63,9 +63,9 @@ module _ (h : List Entry) (ms : List Made) (front : (more : List Made) × (all_m
   front_in d is =
       dirs_are (all_made h) (λ k. is_directory h k) d
       ∙ ⊎_elim
-        (λ old. or_left (is_directory h d) _ old)
-        (λ new. or_right (is_directory h d) _ (ap (makes_dir d) front.1 ∙ (list_any-append (is_made_dir d) ms front.0 ∙ or_left (makes_dir d ms) _ new)))
-        (or_cases (is_directory h d) (makes_dir d ms) is)
+      (λ old. or_left (is_directory h d) _ old)
+      (λ new. or_right (is_directory h d) _ (ap (makes_dir d) front.1 ∙ (list_any-append (is_made_dir d) ms front.0 ∙ or_left (makes_dir d ms) _ new)))
+      (or_cases (is_directory h d) (makes_dir d ms) is)
 
   pub front_path : (d : ℕ) → dir d ≡ true → path_with ms (λ k. path h k) d ≡ all_path h d
   front_path d is =

@@ -5,6 +5,7 @@ use Rattle.cs_laws.specs.Laws.{Laws}
 use Rattle.cs_laws.specs.Runs.{IsRun}
 use Rattle.cs_theorems.proofs.AcksFree.{acks_free}
 use Rattle.cs_theorems.proofs.HeldCovers.{held_covers}
+use Rattle.cs_theorems.proofs.LeaseLaws.{leases_stand}
 use Rattle.cs_theorems.proofs.OnceStanding.{flushes_once}
 use Rattle.cs_theorems.proofs.RequestLaws.{replies_stand, requests_once}
 use Rattle.cs_theorems.proofs.Uses.{uses_issued}
@@ -17,5 +18,5 @@ lawful p h run = record {
   held_covers_implemented = held_covers p h run;
   requests_stand_once = requests_once p h run;
   replies_stand = replies_stand p h run;
-  leases_stand = ?;
+  leases_stand = leases_stand p h run;
 }

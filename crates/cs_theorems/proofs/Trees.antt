@@ -1,12 +1,11 @@
 -- The tree of directories grows at its leaves by what requests make: paths stay, and the directories are listed parents first.
-use Rattle.std.proofs.Common.{◌≡◌, refl, sym, ap, ◌∙◌, subst, ℕ, ◌==◌, ◌||◌, ◌&&◌, Bool, true, false, cond, List, [], ◌∷◌, ◌++◌, length, ⊎_elim, not, inr}
-use Rattle.std.specs.List.{list_any}
-use Rattle.std.proofs.lemmas.Bool.{cond-false, eqb-true, eq-eqb, both_ways, false_from_ne_true, or_cases, or_left, or_right, and_left, and_right, and_parts, cond_both, or_parts}
+use Rattle.std.proofs.Common.{◌≡◌, refl, sym, ◌∙◌, subst, ℕ, ◌==◌, ◌||◌, ◌&&◌, Bool, true, false, cond, List, [], ◌∷◌, ◌++◌, length, ⊎_elim, not, inr}
+use Rattle.std.proofs.lemmas.Bool.{cond-false, eqb-true, eq-eqb, both_ways, false_from_ne_true, or_cases, or_left, or_right, and_right, and_parts, cond_both, or_parts}
 use Rattle.cs_laws.specs.Made.{Made, dirs_with, home_with, is_made_dir, is_made_file, makes_dir, path_with, with_made, makes_file}
 use Rattle.cs_laws.specs.Tree.{with_directory}
 use Rattle.cs_theorems.proofs.Listed.{Each, Member}
-use Rattle.cs_theorems.proofs.Listing.{Listing, deepens_same, depth_of, first_same, listing_more}
-use Rattle.cs_theorems.proofs.Paths.{Tree, tree_more, with_path}
+use Rattle.cs_theorems.proofs.Listing.{Listing, deepens_same, first_same, listing_more}
+use Rattle.cs_theorems.proofs.Paths.{Tree, tree_more}
 
 -- dir: the directories; used: the inodes in use, theirs and those of files
 abbrev pub more_dirs : Made → (ℕ → Bool) → ℕ → Bool

@@ -21,7 +21,7 @@ use Rattle.cs_laws.specs.declared.records.Record.{Record}
 use Rattle.cs_laws.specs.declared.records.RecordBody.{RecordBody}
 use Rattle.cs_laws.specs.declared.records.RecordBody.TheVariants as bodies
 use Rattle.cs_laws.specs.Answers.{answer_check_of, answer_check, answer_grant, answer_revoke, sent_cap}
-use Rattle.cs_laws.specs.Carried.{file_of, flush_in, flush_on, realms_of, is_for_client}
+use Rattle.cs_laws.specs.Carried.{file_of, flush_in, realms_of, is_for_client}
 use Rattle.cs_laws.specs.Flushes.{Flush, flush_message, flush_record}
 use Rattle.cs_laws.specs.Flight.{acked_again, answered_again, cap_message, unsafe_message}
 use Rattle.cs_laws.specs.Realms.{differing, realm_records}
@@ -30,7 +30,7 @@ use Rattle.cs_laws.specs.Events.{setup_file}
 use Rattle.cs_laws.specs.ServerKnows.{server_knows, server_dirs, server_made, server_path}
 use Rattle.cs_laws.specs.History.{client, durable, fresh, last_sent, server, to_client, to_server, used, stand}
 use Rattle.cs_laws.specs.Journal.{entry}
-use Rattle.cs_laws.specs.Standing.{news, news_of, news_on, recorded, recorded_of, answer_kept, greatest_number, requested}
+use Rattle.cs_laws.specs.Standing.{news, news_of, news_on, recorded, answer_kept, greatest_number, requested}
 use Rattle.cs_snapctx.specs.Records.{with_records}
 use Rattle.cs_laws.specs.Runs.{IsRun}
 use Rattle.cs_laws.specs.Made.{Made, is_made_file, made_by, made_in, made_of, makes_file}
@@ -232,8 +232,6 @@ each_told Known xs up dirs ss before (x ∷ rs) ks =
     each_cons (λ m. ForClient Known m × IsAnswered xs m) _ _ (of_told Known before now x.body (ks x (inl refl)), news_answered xs before now x.body)
     (each_told Known xs up dirs (with_records (realms_of (news_on up dirs ss before x)) ss) (before ++ x ∷ []) rs (each_tail (λ y. ForLog Known y.body) x rs ks))
 
-
-
 -- Each kind of change
 
 module _ (xs : List Request) (known served : ℕ → Bool) where
@@ -313,7 +311,7 @@ module _ (xs : List Request) (known served : ℕ → Bool) where
       → Flies xs known served (q ++ news up dirs ss ds fs) p (ds ++ fs) []
   flies_commit up dirs ss q p ds fs i =
       let j = flies_told q p ds fs (news up dirs ss ds fs) (each_told (λ f. known_behind xs q known f ≡ true) xs up dirs ss ds fs
-          (λ x there. if_more Is (λ f. known_behind xs q known f ≡ true) (λ f is. behind_has xs q known f is) (flush_file x.body) (i.fresh x there))) i in
+      (λ x there. if_more Is (λ f. known_behind xs q known f ≡ true) (λ f is. behind_has xs q known f is) (flush_file x.body) (i.fresh x there))) i in
       record {
         told = j.told;
         knows = j.knows;
@@ -332,9 +330,9 @@ flies_made xs known served more q p ds fs m way none answered grows i = record {
   knows = λ f is.
       behind_append xs q (m ∷ []) known f
       ∙ ⊎_elim
-        (λ old. or_left (known_behind xs q known f) _ (i.knows f old))
-        (λ new. or_right (known_behind xs q known f) _ new)
-        (grows f is);
+      (λ old. or_left (known_behind xs q known f) _ (i.knows f old))
+      (λ new. or_right (known_behind xs q known f) _ new)
+      (grows f is);
   received = i.received;
   durable = i.durable;
   fresh = i.fresh;
@@ -422,8 +420,7 @@ found_last tid c op [] none = (
 )
 found_last tid c op (x ∷ xs) none =
     let parts = or_parts (x.tid == tid) (has_request tid xs) none in
-    let more = found_last tid c op xs parts.1 in
-    (
+    let more = found_last tid c op xs parts.1 in (
       or_right (x.tid == tid) _ more.0,
       ap (λ b. option_map (λ (y : Request). y.op) (cond b (Some x) (find (λ y. y.tid == tid) (xs ++ record { tid = tid; caller = c; op = op } ∷ [])))) parts.0 ∙ more.1,
     )

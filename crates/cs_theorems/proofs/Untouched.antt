@@ -1,16 +1,14 @@
 -- What a side doesn't know as a file has no capabilities there; what the client doesn't has no writes, cap snaps and flushes, and the mode of a new file.
-use Rattle.std.proofs.Common.{◌≡◌, refl, subst, ℕ, ◌||◌, not, Bool, true, false, cond, List, [], ◌∷◌, ◌==◌, inl, Option, Some, None, ◌+◌, ◌++◌, ◌∙◌, ap, sym, append_assoc, ⊎_elim}
-use Rattle.std.proofs.lemmas.Bool.{cond_both, eqb-true, both_ways, and_left, and_right, or_from, false_from_ne_true, or_cases, or_left, or_parts, or_right}
+use Rattle.std.proofs.Common.{◌≡◌, refl, subst, ℕ, ◌||◌, Bool, true, false, List, [], ◌∷◌, ◌==◌, Option, Some, None, ◌+◌, ◌++◌, ◌∙◌, ap, sym, append_assoc, ⊎_elim}
+use Rattle.std.proofs.lemmas.Bool.{cond_both, eqb-true, both_ways, and_right, or_from, false_from_ne_true, or_cases, or_left, or_parts, or_right}
 use Rattle.std.proofs.lemmas.List.{append-nil}
 use Rattle.std.proofs.lemmas.List.Folds.{list_any-append}
 use Rattle.std.proofs.lemmas.Grind.{flat_map-append}
 use Rattle.cs_bits.specs.declared.Caps.{Caps}
-use Rattle.cs_bits.specs.Bits.{no_caps, is_empty, covers, file_write}
+use Rattle.cs_bits.specs.Bits.{no_caps, is_empty}
 use Rattle.cs_parts.specs.declared.capabilities.ClientCaps.{ClientCaps}
-use Rattle.cs_parts.specs.declared.capabilities.ServerCaps.{ServerCaps}
 use Rattle.cs_parts.specs.declared.references.Live.{Live}
 use Rattle.cs_parts.specs.Capabilities.{no_client_caps, no_server_caps, granted, revoked, held_back, is_complete}
-use Rattle.cs_snapctx.specs.Context.{Context}
 use Rattle.cs_capsnap.specs.declared.snap.CapSnap.{CapSnap as Snap}
 use Rattle.cs_flush.specs.declared.sent.Sent.{Sent}
 use Rattle.cs_laws.specs.declared.events.Event.{Event}
@@ -19,15 +17,13 @@ use Rattle.cs_laws.specs.declared.events.RefName.{RefName}
 use Rattle.cs_laws.specs.declared.answers.Answer.{Answer}
 use Rattle.cs_laws.specs.declared.answers.Answer.TheVariants as a
 use Rattle.cs_laws.specs.declared.answers.Entry.{Entry}
-use Rattle.cs_laws.specs.declared.messages.Message.{Message}
 use Rattle.cs_laws.specs.declared.messages.Message.TheVariants as messages
 use Rattle.cs_laws.specs.Answers.{answer_check_of, answer_check, answer_grant, answer_revoke, sent_cap}
-use Rattle.cs_laws.specs.CapSnaps.{CapSnap, has_writer, makes}
+use Rattle.cs_laws.specs.CapSnaps.{CapSnap}
 use Rattle.cs_laws.specs.ClientKnows.{client_knows}
 use Rattle.cs_laws.specs.Events.{setup_file, setup_file_then}
 use Rattle.cs_laws.specs.ServerKnows.{server_knows, server_made}
-use Rattle.cs_laws.specs.Flushes.{Flush}
-use Rattle.cs_laws.specs.History.{client, server, to_client, to_server, live, writes, mode, dirty, queued, context, used, durable, fresh, stand}
+use Rattle.cs_laws.specs.History.{client, server, to_server, live, writes, mode, dirty, queued, context, used, durable, fresh, stand}
 use Rattle.cs_laws.specs.Image.{Write}
 use Rattle.cs_laws.specs.Journal.{entry}
 use Rattle.cs_laws.specs.References.{named}
@@ -40,7 +36,7 @@ use Rattle.cs_theorems.specs.Queues.{snaps, with_ended}
 use Rattle.cs_theorems.specs.Unacked.{unacked}
 use Rattle.cs_theorems.proofs.Inversions.{ChmodIs, chmod_unknown, chmod_no_bit, chmod_snap, chmod_done, chmod_is, WriteIs, write_unknown, write_no_bit, write_past, wrote, write_is, EndIs, end_unknown, ended, end_is, FlushIs, head_unknown, head_snap, head_clean, head_sent, flush_is, FlushSnapsIs, flush_unknown, flush_none, flush_writing, flush_sent, flush_snaps_is, FirstIs, first_idle, first_cap, first_flush_ack, first_unsafe, first_safe, first_unlease, first_snap, first_is, ReceivedIs, received_idle, received_ack, received_flush, received_again, received_req, received_req_again, received_is, SnapIs, snap_unknown, snap_exists, snap_taken, snap_is, RemoveIs, remove_none, remove_gone, removed, remove_is}
 use Rattle.cs_theorems.proofs.Known.{live_known, LiveAreKnown, client_before, known_then}
-use Rattle.cs_theorems.proofs.Listed.{Each, each_tail, member_first}
+use Rattle.cs_theorems.proofs.Listed.{Each, member_first}
 use Rattle.cs_theorems.proofs.Runs.{of_run}
 use Rattle.cs_theorems.proofs.Uses.{named_is}
 use Rattle.cs_theorems.proofs.Underway.{received_known, told_known}
