@@ -1,5 +1,5 @@
 -- Which realm records a record of the log changes.
-use Rattle.std.proofs.Common.{◌≡◌, ℕ, ◌==◌, ◌<◌, ◌||◌, ◌&&◌, not, Bool, true, false, cond, List, [], ◌∷◌, ◌++◌, Option, Some, None, is_some, drop, find, filter, nat_eq, refl, sym, ◌∙◌, ap, arith, eq-eqb}
+use Rattle.std.proofs.Common.{◌≡◌, ℕ, ◌==◌, ◌+◌, ◌<◌, max, ◌||◌, ◌&&◌, not, Bool, true, false, cond, List, [], ◌∷◌, ◌++◌, Option, Some, None, is_some, drop, find, filter, nat_eq, refl, sym, ◌∙◌, ap, arith, eq-eqb}
 use Rattle.std.specs.List.{filter_map, list_any}
 use Rattle.std.specs.Cmp.Lexicographic.{pointwise}
 use Rattle.std.specs.Option.{unwrap_or}
@@ -11,12 +11,13 @@ use Rattle.cs_snapctx.specs.Records.{changed_record, is_same_parent, is_same_rec
 use Rattle.cs_laws.specs.declared.records.Record.{Record}
 use Rattle.cs_laws.specs.declared.records.RecordBody.{RecordBody}
 use Rattle.cs_laws.specs.declared.records.RecordBody.TheVariants as bodies
+use Rattle.cs_laws.specs.Made.{made_of, makes_dir}
 use Rattle.cs_laws.specs.Realms as realms
 use Rattle.cs_laws.specs.Standing.{dir_in, dir_of, greatest_number, is_removed}
 use Rattle.cs_records.specs.CommitNews.{changed_records}
 use Rattle.cs_records.specs.Log.{IsLog, IsNextRemoval}
 use Rattle.cs_records.specs.Below.{removed_record, snapped_record}
-use Rattle.cs_laws.specs.Realms.{Own, is_realm, is_snap_of, own, own_then, realm_record}
+use Rattle.cs_laws.specs.Realms.{Own, is_realm, is_snap_of, number_of, own, own_then, realm_record, since_from, since_of}
 use Rattle.cs_records.specs.OwnTable.{had, is_at, is_realm_by, no_own, parent_by, record_below}
 use Rattle.cs_records.proofs.Logs.{had_one_append, no_own_yet, or_false, own_append, seq_below}
 use Rattle.cs_records.proofs.Members.{own_has}
@@ -41,12 +42,12 @@ pub parent_by_realms : (rs : List Record) (up : List ℕ) → parent_by (λ e. h
 parent_by_realms rs up = ap (λ (p : ℕ → Bool). find p (drop 1 up)) (λ i d. realm_by rs d i)
 
 -- a realm's record, by its parts
-record_with : ℕ → Option ℕ → Own → RealmRecord
-record_with d parent o = record { realm = d; parent = parent; since = 1; own_seq = o.seq; own = o.snaps; prior = [] }
+record_with : ℕ → Option ℕ → ℕ → Own → RealmRecord
+record_with d parent since o = record { realm = d; parent = parent; since = since; own_seq = o.seq; own = o.snaps; prior = [] }
 
-pub record_by_realms : (rs : List Record) (up : List ℕ) (d : ℕ) → record_below (λ e. had e rs) (parent_by (λ e. had e rs) up) d ≡ realm_record up rs d
+pub record_by_realms : (rs : List Record) (up : List ℕ) (d : ℕ) → record_below (λ e. had e rs) (since_of rs) (parent_by (λ e. had e rs) up) d ≡ realm_record up rs d
 unfolding record_with
-record_by_realms rs up d = λ i. cond (realm_by rs d i) (Some (record_with d (parent_by_realms rs up i) (own_by rs d i))) None
+record_by_realms rs up d = λ i. cond (realm_by rs d i) (Some (record_with d (parent_by_realms rs up i) (since_of rs d) (own_by rs d i))) None
 
 -- Records that are the same, and others
 
@@ -97,6 +98,7 @@ same_found p q d (x ∷ xs) agree passes apart = at (x == d) refl (q x) refl apa
 pub record IsChange (d : ℕ) (is_new : Bool) (before after : List Record) : Type 0 where
   pub realms : (e : ℕ) → (e == d) ≡ false → is_realm after e ≡ is_realm before e
   pub owns : (e : ℕ) → (e == d) ≡ false → own e after ≡ own e before
+  pub sinces : (e : ℕ) → since_of after e ≡ since_of before e
   pub stands : is_realm after d ≡ true
   pub rises : (own d before).seq < (own d after).seq
   pub new : is_new ≡ not (is_realm before d)
@@ -159,10 +161,10 @@ changed_one d is_new before after up e change = at (e == d) refl (is_new && is_a
     up' = drop 1 up
 
     old : RealmRecord
-    old = record_with e (find (is_realm before) (drop 1 up)) (own e before)
+    old = record_with e (find (is_realm before) (drop 1 up)) (since_of before e) (own e before)
 
     now : RealmRecord
-    now = record_with e (find (is_realm after) (drop 1 up)) (own e after)
+    now = record_with e (find (is_realm after) (drop 1 up)) (since_of after e) (own e after)
 
     at : (a : Bool) → (e == d) ≡ a → (c : Bool) → (is_new && is_at d (find (is_realm after) (drop 1 up))) ≡ c
         → changed_record (realm_record up before e) (realm_record up after e) ≡ cond (a || c) (realm_record up after e) None
@@ -177,10 +179,18 @@ changed_one d is_new before after up e change = at (e == d) refl (is_new && is_a
     at false other false above =
         let same : realm_record up before e ≡ realm_record up after e =
         (λ i. cond (sym (change.realms e other) i)
-        (Some (record_with e (unmoved d is_new before after up' change above i) (sym (change.owns e other) i))) None) in
+        (Some (record_with e (unmoved d is_new before after up' change above i) (sym (change.sinces e) i) (sym (change.owns e other) i))) None) in
         ap (λ o. changed_record o (realm_record up after e)) same ∙ none_or (is_realm after e) now (realm_record up after e) refl
 
 -- A snapshot and a removal
+
+-- a record that makes nothing
+since_end : (d n : ℕ) (rs : List Record) (r : Record) → makes_dir d (made_of r.body) ≡ false → since_from d n (rs ++ r ∷ []) ≡ since_from d n rs
+since_end d n [] r none = ap (λ b. cond b (n + 1) 1) none
+since_end d n (x ∷ rs) r none = ap (λ k. cond (makes_dir d (made_of x.body)) (n + 1) k) (since_end d (max n (number_of x.body)) rs r none)
+
+since_append : (d : ℕ) (rs : List Record) (r : Record) → makes_dir d (made_of r.body) ≡ false → since_of (rs ++ r ∷ []) d ≡ since_of rs d
+since_append d rs r none = since_end d 0 rs r none
 
 flip : (m n : ℕ) → (m == n) ≡ false → (n == m) ≡ false
 flip m n e = grind (arith, nat_tests)
@@ -197,6 +207,7 @@ change_by_snap rs n d name new =
           (had_one_append e rs r
           ∙ (ap (λ b. list_any (λ x. is_snap_of e x.body) rs || b) (flip e d other) ∙ or_false (list_any (λ x. is_snap_of e x.body) rs)));
       owns = λ e other. own_append e rs r ∙ ap (λ b. cond b (record { seq = n; snaps = n ∷ (own e rs).snaps }) (own e rs)) (flip e d other);
+      sinces = λ e. since_append e rs r refl;
       stands =
           or_right (d == 1) (list_any (λ x. is_snap_of d x.body) (rs ++ r ∷ []))
           (had_one_append d rs r ∙ or_right (list_any (λ x. is_snap_of d x.body) rs) (d == d) (eq-eqb d d refl));
@@ -241,6 +252,7 @@ change_by_removal rs s n d log next is =
     record {
       realms = λ e other. ap (λ b. (e == 1) || b) (had_one_append e rs r ∙ or_false (list_any (λ x. is_snap_of e x.body) rs));
       owns = λ e other. after e false (has_by rs s d e log next.unremoved is ∙ flip e d other);
+      sinces = λ e. since_append e rs r refl;
       stands =
           or_right (d == 1) (list_any (λ x. is_snap_of d x.body) (rs ++ r ∷ []))
           (had_one_append d rs r ∙ or_left (list_any (λ x. is_snap_of d x.body) rs) false (dir_had s d rs is));

@@ -7,7 +7,11 @@ use Rattle.std.proofs.Math.Seq.{drop-cons, take-suc}
 use Rattle.cs_laws.specs.declared.records.Record.{Record}
 use Rattle.cs_laws.specs.declared.records.RecordBody.TheVariants as bodies
 use Rattle.cs_laws.specs.Standing.{dir_in, dir_of, greatest_number, greatest_tid, is_removal, is_removed}
+use Rattle.std.specs.Option.{unwrap_or}
+use Rattle.cs_laws.specs.Made.{made_of, makes_dir}
 use Rattle.cs_laws.specs.Realms.{number_of}
+use Rattle.cs_records.specs.declared.sinces.Sinces.{Sinces}
+use Rattle.cs_records.specs.Sinces.{first_of, made_by_records, made_in_table, made_then, since_in}
 use Rattle.cs_laws.specs.declared.messages.Message.{Message}
 use Rattle.cs_tree.specs.declared.directories.Directory.{Directory}
 use Rattle.cs_tree.specs.Directories.{AreDistinct, inos, path_of}
@@ -33,7 +37,7 @@ use Rattle.cs_records.specs.Records.{Settles}
 use Rattle.cs_records.specs.NewsByTables.{IsKnown, changed_own, is_new_by, message_by}
 use Rattle.cs_records.proofs.FlushPlaces.{places_append}
 use Rattle.cs_records.proofs.RecordedSteps.{recorded_append}
-use Rattle.cs_records.proofs.Logs.{dir_append, dir_stays, either, either_none, greatest_append, log_append, log_front, log_next, named_append, or_false, removed_append}
+use Rattle.cs_records.proofs.Logs.{dir_append, dir_stays, either, either_none, greatest_append, log_few, made_append, since_made, log_append, log_front, log_next, named_append, or_false, removed_append}
 use Rattle.cs_records.proofs.Members.{new_dir}
 use Rattle.cs_records.proofs.Telling.{Knows, changed_had, known, message_told}
 
@@ -145,10 +149,12 @@ kept_removal rs u n t new i next number dirs removed names flushes =
     at false b = sym (or_false b)
 
 -- those that are durable stay so
-pub settled_more : (rs : List Record) (r : Record) (d : ℕ) (t : OwnTable) → AreSettled rs d t → AreSettled (rs ++ r ∷ []) d t
-settled_more rs r d t i = record {
+pub settled_more : (rs : List Record) (r : Record) (d : ℕ) (t : OwnTable) (sinces : Sinces) → AreSettled rs d t sinces → AreSettled (rs ++ r ∷ []) d t sinces
+settled_more rs r d t sinces i = record {
   within = omega (arith, i.within, length-append rs (r ∷ []));
   realms = λ e. i.realms e ∙ ap (λ xs. had e xs) (sym (take-append-le d rs (r ∷ []) i.within));
+  greatest = i.greatest ∙ ap greatest_number (sym (take-append-le d rs (r ∷ []) i.within));
+  made = λ e. i.made e ∙ ap (λ xs. made_by_records e xs) (sym (take-append-le d rs (r ∷ []) i.within));
 }
 
 -- One more becomes durable
@@ -169,9 +175,25 @@ front_log rs d log = log_front [] (take d rs) (drop d rs) (subst IsLog (sym (tak
 knows_of : (rs : List Record) (d : ℕ) (t : Index) → IsIndexed rs t → Knows (get nat_eq t.dirs) (take d rs)
 knows_of rs d t i s e is = i.dirs s ∙ (ap (λ xs. dir_of s xs) (sym (take-append-drop d rs)) ∙ dir_stays s e (take d rs) (drop d rs) is)
 
-pub kept_next : (rs : List Record) (d : ℕ) (t : Index) (of now : OwnTable) (r : Record) → 0 < length (drop d rs) → r ≡ get_or rs d r
-    → ((e : ℕ) → own_in now e ≡ changed_own (get nat_eq t.dirs) (own_in of) r.body e) → IsKept rs d t of → IsKept rs (d + 1) t now
-kept_next rs d t of now r some is changed i = record {
+-- the directories that requests made, after one more
+made_more : (rs : List Record) (d : ℕ) (t : Index) (of : OwnTable) (old new : Sinces) (r : Record) → 0 < length (drop d rs) → r ≡ get_or rs d r
+    → ((e : ℕ) → made_in_table new e ≡ made_then r.body old.greatest (made_in_table old) e)
+    → IsKept rs d t of old → (e : ℕ) → made_in_table new e ≡ made_by_records e (take (d + 1) rs)
+made_more rs d t of old new r some is more i e =
+    more e
+    ∙ ((λ j. first_of (i.settled.made e j) (makes_dir e (made_of r.body)) (i.settled.greatest j))
+    ∙ (ap (first_of (made_by_records e (take d rs)) (makes_dir e (made_of r.body))) (let same : greatest_number (take d rs) ≡ max 0 (greatest_number (take d rs)) = omega arith in same)
+    ∙ (sym (made_append e 0 (take d rs) r) ∙ ap (λ xs. made_by_records e xs) (sym (front_grows rs d r (more_behind rs d some) is)))))
+
+-- a number is left
+pub room_next : (rs : List Record) (d : ℕ) (t : Index) (of : OwnTable) (sinces : Sinces) → IsKept rs d t of sinces → sinces.greatest < 99999
+room_next rs d t of sinces i = let few = log_few (take d rs) (front_log rs d i.index.log) in omega (arith, few, i.settled.greatest)
+
+pub kept_next : (rs : List Record) (d : ℕ) (t : Index) (of now : OwnTable) (old new : Sinces) (r : Record) → 0 < length (drop d rs) → r ≡ get_or rs d r
+    → ((e : ℕ) → own_in now e ≡ changed_own (get nat_eq t.dirs) (own_in of) r.body e)
+    → new.greatest ≡ max old.greatest (number_of r.body) → ((e : ℕ) → made_in_table new e ≡ made_then r.body old.greatest (made_in_table old) e)
+    → IsKept rs d t of old → IsKept rs (d + 1) t now new
+kept_next rs d t of now old new r some is changed grew more i = record {
   index = i.index;
   settled = record {
     within = omega (arith, (more_behind rs d some));
@@ -181,12 +203,17 @@ kept_next rs d t of now r some is changed i = record {
         (knows_of rs d t i.index)
         i.settled.realms e
         ∙ ap (λ xs. had e xs) (sym (front_grows rs d r (more_behind rs d some) is)));
+    greatest =
+        grew ∙ (ap (λ n. max n (number_of r.body)) i.settled.greatest
+        ∙ (sym (greatest_append (take d rs) r) ∙ ap greatest_number (sym (front_grows rs d r (more_behind rs d some) is))));
+    made = made_more rs d t of old new r some is more i;
   };
 }
 
-pub known_next : (rs : List Record) (d : ℕ) (t : Index) (of : OwnTable) (r : Record) → 0 < length (drop d rs) → r ≡ get_or rs d r → IsKept rs d t of
+pub known_next : (rs : List Record) (d : ℕ) (t : Index) (of : OwnTable) (sinces : Sinces) (r : Record) → 0 < length (drop d rs) → r ≡ get_or rs d r
+    → IsKept rs d t of sinces
     → IsKnown (get nat_eq t.dirs) r.body
-known_next rs d t of r some is i =
+known_next rs d t of sinces r some is i =
     known (get nat_eq t.dirs) (take d rs) r.body (knows_of rs d t i.index) (next_of rs d r (more_behind rs d some) is i.index.log)
 
 first_behind : (rs : List Record) (d : ℕ) (r : Record) → d < length rs → r ≡ get_or rs d r → take 1 (drop d rs) ≡ r ∷ []
@@ -201,17 +228,20 @@ settles_next rs d r some is = record {
 }
 
 -- what the client is told of it
-pub told_next : (rs : List Record) (d : ℕ) (t : Index) (of now : OwnTable) (r : Record) (xs : List Directory) (is_new : Bool) (m : Message)
-    → 0 < length (drop d rs) → r ≡ get_or rs d r → ((e : ℕ) → own_in now e ≡ changed_own (get nat_eq t.dirs) (own_in of) r.body e) → IsKept rs d t of
+pub told_next : (rs : List Record) (d : ℕ) (t : Index) (of now : OwnTable) (old new : Sinces) (r : Record) (xs : List Directory) (is_new : Bool) (m : Message)
+    → 0 < length (drop d rs) → r ≡ get_or rs d r → ((e : ℕ) → own_in now e ≡ changed_own (get nat_eq t.dirs) (own_in of) r.body e)
+    → ((e : ℕ) → made_in_table new e ≡ made_then r.body old.greatest (made_in_table old) e) → IsKept rs d t of old
     → AreDistinct xs
-    → is_new ≡ is_new_by (get nat_eq t.dirs) (own_in of) r.body → m ≡ message_by (get nat_eq t.dirs) (own_in now) xs is_new r.body
+    → is_new ≡ is_new_by (get nat_eq t.dirs) (own_in of) r.body → m ≡ message_by (get nat_eq t.dirs) (own_in now) (since_in new) xs is_new r.body
     → m ∷ [] ≡ commit_news (path_of xs) (inos xs) (take d rs) (take 1 (drop d rs))
-told_next rs d t of now r xs is_new m some is changed i distinct new message =
+told_next rs d t of now old new r xs is_new m some is changed more i distinct is_first message =
     let log = front_log rs d i.index.log in
     let next = next_of rs d r (more_behind rs d some) is i.index.log in
     let knows = knows_of rs d t i.index in
     let dirs = get nat_eq t.dirs in
-    ap (λ x. x ∷ []) (message ∙ (ap (λ b. message_by dirs (own_in now) xs b r.body) new
-    ∙ message_told dirs (own_in of) (own_in now) (take d rs) r.body xs log next knows i.settled.realms
-    (λ e. changed e ∙ changed_had dirs (own_in of) (take d rs) r.body log next knows i.settled.realms e) distinct))
+    ap (λ x. x ∷ []) (message ∙ (ap (λ b. message_by dirs (own_in now) (since_in new) xs b r.body) is_first
+    ∙ message_told dirs (own_in of) (own_in now) (since_in new) (take d rs) r.body xs log next knows i.settled.realms
+    (λ e. changed e ∙ changed_had dirs (own_in of) (take d rs) r.body log next knows i.settled.realms e)
+    (λ e. ap (λ o. unwrap_or o 1) (made_more rs d t of old new r some is more i e ∙ ap (λ ys. made_by_records e ys) (front_grows rs d r (more_behind rs d some) is))
+    ∙ sym (since_made e 0 (take d rs ++ r ∷ []))) distinct))
     ∙ ap (λ ys. commit_news (path_of xs) (inos xs) (take d rs) ys) (sym (first_behind rs d r (more_behind rs d some) is))

@@ -1,12 +1,15 @@
 -- Logs that grow by one record.
-use Rattle.std.proofs.Common.{◌≡◌, ℕ, ◌==◌, ◌≤◌, ◌||◌, not, Bool, true, false, cond, List, [], ◌∷◌, ◌++◌, Option, Some, None, is_some, max, filter, refl, sym, ◌∙◌, ap, subst, arith, append_assoc, append-nil}
+use Rattle.std.proofs.Common.{◌≡◌, ℕ, ◌==◌, ◌+◌, ◌<◌, ◌≤◌, ◌||◌, not, Bool, true, false, cond, List, [], ◌∷◌, ◌++◌, Option, Some, None, is_some, max, filter, refl, sym, ◌∙◌, ap, subst, arith, append_assoc, append-nil}
 use Rattle.std.specs.List.{list_any}
 use Rattle.std.proofs.lemmas.Bool.{eqb-true}
 use Rattle.std.proofs.lemmas.List.Folds.{list_any-append}
 use Rattle.cs_laws.specs.declared.records.Record.{Record}
 use Rattle.cs_laws.specs.declared.records.RecordBody.{RecordBody}
 use Rattle.cs_laws.specs.declared.records.RecordBody.TheVariants as bodies
-use Rattle.cs_laws.specs.Realms.{Own, is_snap_of, own, own_after, own_then, number_of}
+use Rattle.cs_laws.specs.Made.{made_of, makes_dir}
+use Rattle.cs_laws.specs.Realms.{Own, is_snap_of, own, own_after, own_then, number_of, since_from}
+use Rattle.cs_records.specs.Sinces.{first_of, made_from}
+use Rattle.std.specs.Option.{unwrap_or}
 use Rattle.cs_laws.specs.Realms as realms
 use Rattle.cs_laws.specs.Standing.{dir_in, dir_of, greatest_number, has_snap, is_removal, is_removed, is_snap}
 use Rattle.cs_records.specs.Log.{IsLog, IsLogAfter, IsNext}
@@ -120,6 +123,32 @@ no_own_yet d (r ∷ rs) none = at r.body none (no_own_yet d rs)
     at (bodies.Flush snap f tid follows meta) none rest = rest none
     at (bodies.Removal t number) none rest = rest none
 
+-- Directories that requests made
+
+pub made_append : (d n : ℕ) (rs : List Record) (r : Record)
+    → made_from d n (rs ++ r ∷ []) ≡ first_of (made_from d n rs) (makes_dir d (made_of r.body)) (max n (greatest_number rs))
+made_append d n [] r = ap (λ k. cond (makes_dir d (made_of r.body)) (Some (k + 1)) None) (let same : n ≡ max n 0 = omega arith in same)
+made_append d n (x ∷ rs) r = at (makes_dir d (made_of x.body)) (made_append d (max n (number_of x.body)) rs r)
+  where
+    at : (b : Bool)
+        → made_from d (max n (number_of x.body)) (rs ++ r ∷ [])
+        ≡ first_of (made_from d (max n (number_of x.body)) rs) (makes_dir d (made_of r.body)) (max (max n (number_of x.body)) (greatest_number rs))
+        → cond b (Some (n + 1)) (made_from d (max n (number_of x.body)) (rs ++ r ∷ []))
+        ≡ first_of (cond b (Some (n + 1)) (made_from d (max n (number_of x.body)) rs)) (makes_dir d (made_of r.body)) (max n (max (number_of x.body) (greatest_number rs)))
+    at true rest = refl
+    at false rest =
+        rest ∙ ap (first_of (made_from d (max n (number_of x.body)) rs) (makes_dir d (made_of r.body)))
+        (let same : max (max n (number_of x.body)) (greatest_number rs) ≡ max n (max (number_of x.body) (greatest_number rs)) = omega arith in same)
+
+pub since_made : (d n : ℕ) (rs : List Record) → since_from d n rs ≡ unwrap_or (made_from d n rs) 1
+since_made d n [] = refl
+since_made d n (r ∷ rs) = at (makes_dir d (made_of r.body)) (since_made d (max n (number_of r.body)) rs)
+  where
+    at : (b : Bool) → since_from d (max n (number_of r.body)) rs ≡ unwrap_or (made_from d (max n (number_of r.body)) rs) 1
+        → cond b (n + 1) (since_from d (max n (number_of r.body)) rs) ≡ unwrap_or (cond b (Some (n + 1)) (made_from d (max n (number_of r.body)) rs)) 1
+    at true rest = refl
+    at false rest = rest
+
 -- Which records may follow
 
 pub log_append : (before rs : List Record) (r : Record) → IsLogAfter before rs → IsNext (before ++ rs) r.body → IsLogAfter before (rs ++ r ∷ [])
@@ -146,6 +175,16 @@ pub by_log : (P : List Record → Type 0) → P [] → ((rs : List Record) (r : 
 by_log P none step rs log = by_log_after P step [] rs none log
 
 -- Numbers
+
+number_few : (rs : List Record) (b : RecordBody) → IsNext rs b → number_of b < 99999
+number_few rs (bodies.Request tid op answer) next = omega arith
+number_few rs (bodies.Flush snap f tid follows meta) next = omega arith
+number_few rs (bodies.Snap number d name) next = omega (arith, next.next, next.room)
+number_few rs (bodies.Removal s number) next = omega (arith, next.next, next.room)
+
+pub log_few : (rs : List Record) → IsLog rs → greatest_number rs < 99999
+log_few rs log =
+    by_log (λ xs. greatest_number xs < 99999) (omega arith) (λ xs r low next. omega (arith, low, greatest_append xs r, number_few xs r.body next)) rs log
 
 pub snap_below : (s : ℕ) (rs : List Record) → has_snap s rs ≡ true → s ≤ greatest_number rs
 snap_below s [] stands = absurd cc

@@ -14,7 +14,7 @@ use Rattle.cs_laws.specs.declared.records.Record.{Record}
 use Rattle.cs_laws.specs.declared.records.RecordBody.{RecordBody}
 use Rattle.cs_laws.specs.declared.records.RecordBody.TheVariants as bodies
 use Rattle.cs_laws.specs.Realms as realms
-use Rattle.cs_laws.specs.Realms.{Own, is_realm, is_snap_of, own, own_then, realm_record}
+use Rattle.cs_laws.specs.Realms.{Own, is_realm, is_snap_of, own, own_then, realm_record, since_of}
 use Rattle.cs_laws.specs.Standing.{dir_of, has_snap, news_of}
 use Rattle.cs_records.specs.CommitNews.{changed_records, commit_news}
 use Rattle.cs_records.specs.Log.{IsLog, IsNext}
@@ -105,44 +105,45 @@ by_paths f all [] each = refl
 by_paths f all (x ∷ xs) each =
     (λ i. cons_option (f (option_map_or (λ y. y.path) (sym each.0 i) (1 ∷ [])) x.ino) (by_paths f all xs each.1 i))
 
-told_one : (of : ℕ → Option Own) (d : ℕ) (is_new : Bool) (before after : List Record) → IsChange d is_new before after → ((e : ℕ) → of e ≡ had e after)
-    → (x : Directory) → changed_by of d is_new x ≡ changed_record (realm_record x.path before x.ino) (realm_record x.path after x.ino)
-told_one of d is_new before after change same x =
-    ap (λ (g : ℕ → Option Own). changed_by g d is_new x) (λ i e. same e i)
+told_one : (of : ℕ → Option Own) (since : ℕ → ℕ) (d : ℕ) (is_new : Bool) (before after : List Record) → IsChange d is_new before after → ((e : ℕ) → of e ≡ had e after) → ((e : ℕ) → since e ≡ since_of after e)
+    → (x : Directory) → changed_by of since d is_new x ≡ changed_record (realm_record x.path before x.ino) (realm_record x.path after x.ino)
+told_one of since d is_new before after change same sinces x =
+    (λ i. changed_by (λ e. same e i) (λ e. sinces e i) d is_new x)
     ∙ ((λ i. cond ((x.ino == d) || (is_new && is_at d (parent_by_realms after x.path i))) (record_by_realms after x.path x.ino i) None)
     ∙ sym (changed_one d is_new before after x.path x.ino change))
 
-pub records_told : (of : ℕ → Option Own) (d : ℕ) (is_new : Bool) (before after : List Record) (xs : List Directory) → IsChange d is_new before after
-    → ((e : ℕ) → of e ≡ had e after) → AreDistinct xs
-    → filter_map (changed_by of d is_new) xs ≡ changed_records (path_of xs) (inos xs) before after
-records_told of d is_new before after xs change same distinct =
-    ap (λ (g : Directory → Option RealmRecord). filter_map g xs) (λ i x. told_one of d is_new before after change same x i)
+pub records_told : (of : ℕ → Option Own) (since : ℕ → ℕ) (d : ℕ) (is_new : Bool) (before after : List Record) (xs : List Directory) → IsChange d is_new before after
+    → ((e : ℕ) → of e ≡ had e after) → ((e : ℕ) → since e ≡ since_of after e) → AreDistinct xs
+    → filter_map (changed_by of since d is_new) xs ≡ changed_records (path_of xs) (inos xs) before after
+records_told of since d is_new before after xs change same sinces distinct =
+    ap (λ (g : Directory → Option RealmRecord). filter_map g xs) (λ i x. told_one of since d is_new before after change same sinces x i)
     ∙ by_paths (λ up e. changed_record (realm_record up before e) (realm_record up after e)) xs xs (owned xs distinct)
 
 new_by : (of : ℕ → Option Own) (rs : List Record) (d : ℕ) → ((e : ℕ) → of e ≡ had e rs) → not (is_realm_by of d) ≡ not (is_realm rs d)
 new_by of rs d same = ap (λ (g : ℕ → Option Own). not (is_realm_by g d)) (λ i e. same e i) ∙ ap not (changes.realm_by rs d)
 
-pub message_told : (dirs : ℕ → Option ℕ) (of now : ℕ → Option Own) (rs : List Record) (b : RecordBody) (xs : List Directory) → IsLog rs → IsNext rs b
+pub message_told : (dirs : ℕ → Option ℕ) (of now : ℕ → Option Own) (since : ℕ → ℕ) (rs : List Record) (b : RecordBody) (xs : List Directory) → IsLog rs → IsNext rs b
     → Knows dirs rs
-    → ((d : ℕ) → of d ≡ had d rs) → ((d : ℕ) → now d ≡ had d (rs ++ record { body = b } ∷ [])) → AreDistinct xs
-    → message_by dirs now xs (is_new_by dirs of b) b ≡ news_of rs (changed_records (path_of xs) (inos xs) rs (rs ++ record { body = b } ∷ [])) b
-message_told dirs of now rs (bodies.Request tid op answer) xs log next knows same after distinct = refl
-message_told dirs of now rs (bodies.Flush snap f tid follows meta) xs log next knows same after distinct = refl
-message_told dirs of now rs (bodies.Snap n d name) xs log next knows same after distinct =
+    → ((d : ℕ) → of d ≡ had d rs) → ((d : ℕ) → now d ≡ had d (rs ++ record { body = b } ∷ []))
+    → ((d : ℕ) → since d ≡ since_of (rs ++ record { body = b } ∷ []) d) → AreDistinct xs
+    → message_by dirs now since xs (is_new_by dirs of b) b ≡ news_of rs (changed_records (path_of xs) (inos xs) rs (rs ++ record { body = b } ∷ [])) b
+message_told dirs of now since rs (bodies.Request tid op answer) xs log next knows same after sinces distinct = refl
+message_told dirs of now since rs (bodies.Flush snap f tid follows meta) xs log next knows same after sinces distinct = refl
+message_told dirs of now since rs (bodies.Snap n d name) xs log next knows same after sinces distinct =
     let drawn = next.next in
-    ap (λ b. messages.Snap n d (filter_map (changed_by now d b) xs)) (new_by of rs d same)
+    ap (λ b. messages.Snap n d (filter_map (changed_by now since d b) xs)) (new_by of rs d same)
     ∙ ap (λ list. messages.Snap n d list)
-    (records_told now d (not (is_realm rs d)) rs (rs ++ record { body = bodies.Snap n d name } ∷ []) xs
-    (change_by_snap rs n d name (omega arith)) after distinct)
-message_told dirs of now rs (bodies.Removal s n) xs log next knows same after distinct =
+    (records_told now since d (not (is_realm rs d)) rs (rs ++ record { body = bodies.Snap n d name } ∷ []) xs
+    (change_by_snap rs n d name (omega arith)) after sinces distinct)
+message_told dirs of now since rs (bodies.Removal s n) xs log next knows same after sinces distinct =
     let found = stands_in s rs next.stands in
     let d = found.0 in
-    ap (λ o. messages.Snap n (unwrap_or o 1) (filter_map (changed_by now (unwrap_or o 1) (option_map_or (λ e. not (is_realm_by of e)) o false)) xs))
+    ap (λ o. messages.Snap n (unwrap_or o 1) (filter_map (changed_by now since (unwrap_or o 1) (option_map_or (λ e. not (is_realm_by of e)) o false)) xs))
     (knows s d found.1)
-    ∙ (ap (λ b. messages.Snap n d (filter_map (changed_by now d b) xs)) (new_by of rs d same)
+    ∙ (ap (λ b. messages.Snap n d (filter_map (changed_by now since d b) xs)) (new_by of rs d same)
     ∙ (ap (λ list. messages.Snap n d list)
-    (records_told now d (not (is_realm rs d)) rs (rs ++ record { body = bodies.Removal s n } ∷ []) xs
-    (change_by_removal rs s n d log next found.1) after distinct)
+    (records_told now since d (not (is_realm rs d)) rs (rs ++ record { body = bodies.Removal s n } ∷ []) xs
+    (change_by_removal rs s n d log next found.1) after sinces distinct)
     ∙ ap (λ o. messages.Snap n (unwrap_or o 1) (changed_records (path_of xs) (inos xs) rs (rs ++ record { body = bodies.Removal s n } ∷ []))) (sym found.1)))
 
 -- Lists of messages

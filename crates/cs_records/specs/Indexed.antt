@@ -10,7 +10,9 @@ use Rattle.cs_records.specs.Flushed.{flushed}
 use Rattle.cs_records.specs.Flushes.{flushed_in}
 use Rattle.cs_records.specs.Log.{IsLog}
 use Rattle.cs_records.specs.Names.{last_named, name_in}
+use Rattle.cs_records.specs.declared.sinces.Sinces.{Sinces}
 use Rattle.cs_records.specs.OwnTable.{had, own_in}
+use Rattle.cs_records.specs.Sinces.{made_by_records, made_in_table}
 
 -- rs: all records. The look-ups give what these say
 pub record IsIndexed (rs : List Record) (t : Index) : Type 0 where
@@ -22,10 +24,12 @@ pub record IsIndexed (rs : List Record) (t : Index) : Type 0 where
   pub flushes : (f : ℕ) → flushed_in t.flushes f ≡ flushed f rs
 
 -- so many records are durable, and the realms are up to those
-pub record AreSettled (rs : List Record) (durable : ℕ) (t : OwnTable) : Type 0 where
+pub record AreSettled (rs : List Record) (durable : ℕ) (t : OwnTable) (sinces : Sinces) : Type 0 where
   pub within : durable ≤ length rs
   pub realms : (d : ℕ) → own_in t d ≡ had d (take durable rs)
+  pub greatest : sinces.greatest ≡ greatest_number (take durable rs)
+  pub made : (d : ℕ) → made_in_table sinces d ≡ made_by_records d (take durable rs)
 
-pub record IsKept (rs : List Record) (durable : ℕ) (t : Index) (realms : OwnTable) : Type 0 where
+pub record IsKept (rs : List Record) (durable : ℕ) (t : Index) (realms : OwnTable) (sinces : Sinces) : Type 0 where
   pub index : IsIndexed rs t
-  pub settled : AreSettled rs durable realms
+  pub settled : AreSettled rs durable realms sinces

@@ -11,3 +11,4 @@ pub mod OwnTable
 pub mod Places
 pub mod Recorded
 pub mod Records
+pub mod Sinces

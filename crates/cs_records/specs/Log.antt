@@ -8,11 +8,13 @@ use Rattle.cs_laws.specs.Standing.{greatest_number, greatest_tid, has_snap, has_
 -- it draws the next number, and no unremoved snapshot of the directory has the name
 pub record IsNextSnap (before : List Record) (number d : ℕ) (name : List ℕ) : Type 0 where
   pub next : number ≡ greatest_number before + 1
+  pub room : greatest_number before < 99998
   pub new : has_snap_named d name before ≡ false
 
 -- it draws the next number, and the snapshot stands and isn't removed yet
 pub record IsNextRemoval (before : List Record) (s number : ℕ) : Type 0 where
   pub next : number ≡ greatest_number before + 1
+  pub room : greatest_number before < 99998
   pub stands : has_snap s before ≡ true
   pub unremoved : is_removed s before ≡ false
 

@@ -28,13 +28,13 @@ IsKnown dirs _ = Unit {0}
 abbrev pub is_new_by : (ℕ → Option ℕ) → (ℕ → Option Own) → RecordBody → Bool
 is_new_by dirs of b = option_map_or (λ d. not (is_realm_by of d)) (realm_by dirs b) false
 
--- of: after the record
-abbrev pub message_by : (ℕ → Option ℕ) → (ℕ → Option Own) → List Directory → Bool → RecordBody → Message
-message_by dirs of xs is_new (bodies.Request tid op answer) = messages.Safe tid
-message_by dirs of xs is_new (bodies.Flush snap f tid follows meta) = messages.FlushAck f tid
-message_by dirs of xs is_new (bodies.Snap number d name) = messages.Snap number d (filter_map (changed_by of d is_new) xs)
-message_by dirs of xs is_new (bodies.Removal s number) =
-    messages.Snap number (unwrap_or (dirs s) 1) (filter_map (changed_by of (unwrap_or (dirs s) 1) is_new) xs)
+-- of, since: after the record
+abbrev pub message_by : (ℕ → Option ℕ) → (ℕ → Option Own) → (ℕ → ℕ) → List Directory → Bool → RecordBody → Message
+message_by dirs of since xs is_new (bodies.Request tid op answer) = messages.Safe tid
+message_by dirs of since xs is_new (bodies.Flush snap f tid follows meta) = messages.FlushAck f tid
+message_by dirs of since xs is_new (bodies.Snap number d name) = messages.Snap number d (filter_map (changed_by of since d is_new) xs)
+message_by dirs of since xs is_new (bodies.Removal s number) =
+    messages.Snap number (unwrap_or (dirs s) 1) (filter_map (changed_by of since (unwrap_or (dirs s) 1) is_new) xs)
 
 -- what a directory has had of its own after the record
 abbrev pub changed_own : (ℕ → Option ℕ) → (ℕ → Option Own) → RecordBody → ℕ → Option Own

@@ -31,7 +31,7 @@ with_change (bodies.Flush snap f tid follows meta) o = o
 with_change (bodies.Snap number d name) o = Some (record { seq = number; snaps = number ∷ (unwrap_or o no_own).snaps })
 with_change (bodies.Removal s number) o = option_map (λ w. record { seq = number; snaps = filter (λ t. not (t == s)) w.snaps }) o
 
--- of: what each directory has had of its own, where it has had a snapshot
+-- of: what each directory has had of its own, where it has had a snapshot; since: from which number on the realms above cover each
 
 abbrev pub is_realm_by : (ℕ → Option Own) → ℕ → Bool
 is_realm_by of d = (d == 1) || is_some (of d)
@@ -40,10 +40,10 @@ is_realm_by of d = (d == 1) || is_some (of d)
 abbrev pub parent_by : (ℕ → Option Own) → List ℕ → Option ℕ
 parent_by of up = find (is_realm_by of) (drop 1 up)
 
-abbrev pub record_below : (ℕ → Option Own) → Option ℕ → ℕ → Option RealmRecord
-record_below of parent d =
+abbrev pub record_below : (ℕ → Option Own) → (ℕ → ℕ) → Option ℕ → ℕ → Option RealmRecord
+record_below of since parent d =
     if is_realm_by of d
-    then Some (record { realm = d; parent = parent; since = 1; own_seq = (unwrap_or (of d) no_own).seq; own = (unwrap_or (of d) no_own).snaps; prior = [] })
+    then Some (record { realm = d; parent = parent; since = since d; own_seq = (unwrap_or (of d) no_own).seq; own = (unwrap_or (of d) no_own).snaps; prior = [] })
     else None
 
 abbrev pub is_at : ℕ → Option ℕ → Bool
@@ -54,5 +54,5 @@ is_at d (Some e) = e == d
 abbrev pub is_changed_by : (ℕ → Option Own) → ℕ → Bool → List ℕ → ℕ → Bool
 is_changed_by of d is_new up e = (e == d) || (is_new && is_at d (parent_by of up))
 
-abbrev pub changed_by : (ℕ → Option Own) → ℕ → Bool → Directory → Option RealmRecord
-changed_by of d is_new x = if is_changed_by of d is_new x.path x.ino then record_below of (parent_by of x.path) x.ino else None
+abbrev pub changed_by : (ℕ → Option Own) → (ℕ → ℕ) → ℕ → Bool → Directory → Option RealmRecord
+changed_by of since d is_new x = if is_changed_by of d is_new x.path x.ino then record_below of since (parent_by of x.path) x.ino else None

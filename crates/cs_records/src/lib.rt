@@ -10,6 +10,7 @@ mod own_snaps;
 mod own_table;
 mod recorded;
 mod records;
+mod sinces;
 
 pub use laws::{
     a_front_of_a_log_is_a_log, a_record_of_a_log_is_the_next_one, a_removal_tells_its_realm_alone,

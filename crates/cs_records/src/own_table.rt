@@ -2,9 +2,11 @@
 ghost use Rattle.std.specs.Prelude.{◌≡◌, ◌==◌, [], ℕ, None, Some, if◌then◌else◌, IfOk, OnOk, OnErr};
 ghost use Rattle.std.specs.List.{filter_map};
 ghost use Rattle.cs_laws.specs.declared.records.RecordBody.TheVariants as bodies;
+ghost use Rattle.cs_records.specs.Sinces.{since_in};
 ghost use Rattle.cs_records.specs.OwnTable.{changed_by, is_realm_by, own_in, parent_by, record_below, with_change};
 
 use crate::own_snaps::OwnSnaps;
+use crate::sinces::Sinces;
 use cs_ids::{Ino, Memory, Seq, Snap};
 use cs_laws::{RealmRecordList, RecordBody};
 use cs_snapctx::{RealmRecord, SnapList};
@@ -14,10 +16,6 @@ use std::collections::BTreeMap;
 
 // The inode of the root directory, which is a realm from the start.
 const ROOT: u64 = 1;
-
-// The number of the first snapshot. Each directory stood before it, so that the realm above covers it
-// from then on.
-const FIRST: u64 = 1;
 
 // The realms that have had a snapshot of their own.
 #[derive(Drop)]
@@ -75,14 +73,15 @@ impl OwnTable {
     pub fn changed(
         &self,
         directories: &[Directory],
+        sinces: &Sinces,
         dir: Ino,
         is_new: bool,
     ) -> Result<RealmRecordList, Memory>
-        ensures { IfOk result (λ list. list ≡ filter_map (changed_by (own_in self.now) dir is_new) directories.now) }
+        ensures { IfOk result (λ list. list ≡ filter_map (changed_by (own_in self.now) (since_in sinces.now) dir is_new) directories.now) }
     {
         let mut told = RealmRecordList::new(self.alloc);
         for directory in directories {
-            if let Some(record) = self.changed_record(directory, dir, is_new)? {
+            if let Some(record) = self.changed_record(directory, sinces, dir, is_new)? {
                 told.push(record)?;
             }
         }
@@ -93,15 +92,16 @@ impl OwnTable {
     fn changed_record(
         &self,
         directory: &Directory,
+        sinces: &Sinces,
         dir: Ino,
         is_new: bool,
     ) -> Result<Option<RealmRecord>, Memory>
-        ensures { IfOk result (λ r. r ≡ changed_by (own_in self.now) dir is_new directory.now) }
+        ensures { IfOk result (λ r. r ≡ changed_by (own_in self.now) (since_in sinces.now) dir is_new directory.now) }
     {
         let path = directory.path.as_slice();
         let parent = self.parent(path);
         if directory.ino == dir || is_new && parent == Some(dir) {
-            self.record(directory.ino, parent)
+            self.record(directory.ino, sinces.of(directory.ino), parent)
         } else {
             Ok(None)
         }
@@ -118,16 +118,18 @@ impl OwnTable {
     }
 
     // The record of a directory below this realm, or None where it is no realm.
-    fn record(&self, dir: Ino, parent: Option<Ino>) -> Result<Option<RealmRecord>, Memory>
-        ensures { IfOk result (λ r. r ≡ record_below (own_in self.now) parent dir) }
+    fn record(
+        &self,
+        dir: Ino,
+        since: Snap,
+        parent: Option<Ino>,
+    ) -> Result<Option<RealmRecord>, Memory>
+        ensures { IfOk result (λ r. r ≡ record_below (own_in self.now) (λ d. since) parent dir) }
     {
         let (own_seq, own) = match self.owns.get(&dir) {
             Some(own) => (own.seq(), own.newest_first()?),
             None if dir.get() == ROOT => (Seq::zero(), SnapList::new(self.alloc)),
             None => return Ok(None),
-        };
-        let Some(since) = Snap::new(FIRST) else {
-            unreachable!()
         };
         Ok(Some(RealmRecord {
             realm: dir,

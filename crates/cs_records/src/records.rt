@@ -1,19 +1,22 @@
 // The records of the server's log, after the CephFS documentation of the metadata server's journal.
-ghost use Rattle.std.specs.Prelude.{◌≡◌, ◌++◌, ◌∷◌, ◌+◌, ◌<◌, if◌then◌else◌, [], ℕ, nat_eq, nat_lt, length, take, drop, true, false, OnOk, OnErr, IfOk};
+ghost use Rattle.std.specs.Prelude.{max, ◌≡◌, ◌++◌, ◌∷◌, ◌+◌, ◌<◌, if◌then◌else◌, [], ℕ, nat_eq, nat_lt, length, take, drop, true, false, OnOk, OnErr, IfOk};
 ghost use Rattle.cs_laws.specs.Metadata.{meta_at};
 ghost use Rattle.cs_laws.specs.Standing.{dir_of, greatest_number, greatest_tid, has_flush, has_snap, has_snap_named, is_removed};
 ghost use Rattle.cs_tree.specs.Directories.{inos, path_of};
 ghost use Rattle.cs_records.specs.CommitNews.{commit_news};
 ghost use Rattle.cs_records.specs.Log.{IsLog, IsNext};
 ghost use Rattle.cs_records.specs.OwnTable.{own_in};
+ghost use Rattle.cs_records.specs.Sinces.{made_in_table, made_then, since_in};
+ghost use Rattle.cs_laws.specs.Realms.{number_of};
 ghost use Rattle.cs_records.specs.Records.{Settles, all};
 ghost use Rattle.cs_records.specs.NewsByTables.{IsKnown, changed_own, is_new_by, message_by, realm_by};
 ghost use Rattle.indexmap.specs.IndexMap.{get};
 
 use crate::index::Index;
 use crate::own_table::OwnTable;
+use crate::sinces::Sinces;
 use cs_ids::{FileMeta, Ino, Memory, Name, Snap, Tid};
-use cs_laws::{At, Message, MessageList, Record, RecordBody};
+use cs_laws::{At, Message, MessageList, OpAnswer, Record, RecordBody, ReqOp};
 use cs_tree::{Directories, Directory};
 use indexmap::IndexMap;
 use std::alloc::Global;
@@ -34,10 +37,12 @@ pub struct Records {
     index: Index,
     // The realms by the durable records.
     realms: OwnTable,
+    // From which number on these cover each directory.
+    sinces: Sinces,
 }
 
 impl Model for Records {
-    ghost use Rattle.std.specs.Prelude.{take, drop};
+    ghost use Rattle.std.specs.Prelude.{max, take, drop};
     ghost use Rattle.cs_records.specs.Indexed.{IsKept};
     ghost use Rattle.cs_records.specs.Records.{RecordLog};
 
@@ -45,7 +50,7 @@ impl Model for Records {
 
     ghost view = { λ r. record { durable = take r.durable r.records.items; fresh = drop r.durable r.records.items } };
 
-    ghost invariant = { λ r. IsKept r.records.items r.durable r.index r.realms };
+    ghost invariant = { λ r. IsKept r.records.items r.durable r.index r.realms r.sinces };
 }
 
 impl Records {
@@ -59,6 +64,7 @@ impl Records {
             durable: 0,
             index: Index::new(alloc),
             realms: OwnTable::new(alloc),
+            sinces: Sinces::new(alloc),
         }
     }
 
@@ -211,13 +217,14 @@ impl Records {
     {
         let body = &self.records[self.durable].body;
         let is_new = is_new_realm(&self.realms, &self.index.dirs, body);
-        change_realm(&mut self.realms, &self.index.dirs, body)?;
+        change_realm(&mut self.realms, &mut self.sinces, &self.index.dirs, body)?;
         self.durable += 1;
         if !sending {
             return Ok(());
         }
         let message = message_of(
             &self.realms,
+            &self.sinces,
             &self.index.dirs,
             directories.as_slice(),
             is_new,
@@ -251,21 +258,37 @@ fn is_new_realm(realms: &OwnTable, dirs: &IndexMap<Snap, Ino>, body: &RecordBody
 // Brings the realms up to a record. After `Memory` all realms are as before.
 fn change_realm(
     realms: &mut OwnTable,
+    sinces: &mut Sinces,
     dirs: &IndexMap<Snap, Ino>,
     body: &RecordBody,
 ) -> Result<(), Memory>
-    requires { IsKnown (get nat_eq dirs.now) body.now }
+    requires known { IsKnown (get nat_eq dirs.now) body.now }
+    requires room { sinces.old.greatest < 99999 }
+    ensures greatest { OnOk result (sinces.new.greatest ≡ max sinces.old.greatest (number_of body.now)) }
+    ensures made { OnOk result ((d : ℕ) → made_in_table sinces.new d ≡ made_then body.now sinces.old.greatest (made_in_table sinces.old) d) }
+    ensures kept { OnErr result (sinces.new.greatest ≡ sinces.old.greatest) }
+    ensures kept_made { OnErr result ((d : ℕ) → made_in_table sinces.new d ≡ made_in_table sinces.old d) }
     ensures ok { OnOk result ((d : ℕ) → own_in realms.new d ≡ changed_own (get nat_eq dirs.now) (own_in realms.old) body.now d) }
     ensures err { OnErr result ((d : ℕ) → own_in realms.new d ≡ own_in realms.old d) }
 {
     match body {
+        RecordBody::Request {
+            op: ReqOp::Mkdir { .. },
+            answer: OpAnswer::Made(dir),
+            ..
+        } => sinces.make(*dir),
         RecordBody::Request { .. } | RecordBody::Flush { .. } => Ok(()),
-        RecordBody::Snap { number, dir, .. } => realms.add(*dir, *number),
+        RecordBody::Snap { number, dir, .. } => {
+            realms.add(*dir, *number)?;
+            sinces.draw(*number);
+            Ok(())
+        }
         RecordBody::Removal { snap, number } => {
             let Some(dir) = dirs.get(snap).copied() else {
                 unreachable!()
             };
             realms.remove(dir, *snap, *number);
+            sinces.draw(*number);
             Ok(())
         }
     }
@@ -275,13 +298,14 @@ fn change_realm(
 // directory a realm.
 fn message_of(
     realms: &OwnTable,
+    sinces: &Sinces,
     dirs: &IndexMap<Snap, Ino>,
     directories: &[Directory],
     is_new: bool,
     body: &RecordBody,
 ) -> Result<Message, Memory>
     requires { IsKnown (get nat_eq dirs.now) body.now }
-    ensures { IfOk result (λ m. m ≡ message_by (get nat_eq dirs.now) (own_in realms.now) directories.now is_new body.now) }
+    ensures { IfOk result (λ m. m ≡ message_by (get nat_eq dirs.now) (own_in realms.now) (since_in sinces.now) directories.now is_new body.now) }
 {
     match body {
         RecordBody::Request { tid, .. } => Ok(Message::Safe { tid: *tid }),
@@ -292,7 +316,7 @@ fn message_of(
         RecordBody::Snap { number, dir, .. } => Ok(Message::Snap {
             number: *number,
             realm: *dir,
-            realms: realms.changed(directories, *dir, is_new)?,
+            realms: realms.changed(directories, sinces, *dir, is_new)?,
         }),
         RecordBody::Removal { snap, number } => {
             let Some(dir) = dirs.get(snap).copied() else {
@@ -301,7 +325,7 @@ fn message_of(
             Ok(Message::Snap {
                 number: *number,
                 realm: dir,
-                realms: realms.changed(directories, dir, is_new)?,
+                realms: realms.changed(directories, sinces, dir, is_new)?,
             })
         }
     }
