@@ -1,22 +1,16 @@
-//! Runs a script of events against a model of CephFS's client, metadata server and object store, and
-//! writes the journal of the run.
+//! Runs a script of events against a model of CephFS's client, metadata server and object store, or one
+//! against a store that gives up clones, and writes the journal of the run.
 #![tactic(auto)]
 
 mod command;
-mod finished;
-mod input;
-mod journal;
-mod run_fault;
-mod serve;
 #[cfg(test)]
 mod tests;
-mod write_fault;
 
 use command::ceph_main;
 use cs_io::{StdSink, StdSource};
 use cs_mdslog::MemLog;
 use cs_objstore::MemStore;
-use finished::Finished;
+use cs_status::Finished;
 use std::process::ExitCode;
 use std::rt::Env;
 use std::{env, io};

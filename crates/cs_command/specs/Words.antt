@@ -9,7 +9,7 @@ use Rattle.clap.specs.declared.builder.action.ArgAction.TheVariants.{Set}
 use Rattle.clap.specs.declared.builder.value_parser.ValueParser.TheVariants.{Signed}
 use Rattle.cs_ids.specs.Ranges.{IsIn}
 use Rattle.cs_command.specs.declared.command.Command.{Command}
-use Rattle.cs_command.specs.declared.command.Command.TheVariants.{Run}
+use Rattle.cs_command.specs.declared.command.Command.TheVariants.{Run, Trim}
 
 abbrev pub texts_of : List (String Global) → List Text
 texts_of words = map string_bytes words
@@ -41,11 +41,23 @@ unfoldable pub run_asked : List Text → Option Command
 run_asked words =
     if is_taken run_line words then Some (Run (number_in run_line (codes "pages") words)) else None
 
+-- `trim`, which has no argument
+abbrev pub trim_line : App
+trim_line = new_app (codes "trim")
+
+-- what `trim` asks for with these arguments
+unfoldable pub trim_asked : List Text → Option Command
+trim_asked words = if is_taken trim_line words then Some Trim else None
+
 -- what the words ask for, and None where they are refused
 unfoldable pub asked : List Text → Option Command
 asked [] = None
-asked (word ∷ rest) = if bytes_eq word (codes "run") then run_asked (word ∷ rest) else None
+asked (word ∷ rest) =
+    if bytes_eq word (codes "run") then run_asked (word ∷ rest)
+    else if bytes_eq word (codes "trim") then trim_asked (word ∷ rest)
+    else None
 
 -- the pages that a command may have cached are 1 to 1,024
 abbrev pub IsInRange : Command → Type 0
 IsInRange (Run pages) = IsIn 1 1024 pages
+IsInRange Trim = Unit {0}

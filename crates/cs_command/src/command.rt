@@ -4,6 +4,7 @@ ghost use Rattle.cs_command.specs.Words.{asked, texts_of, IsInRange};
 
 use crate::fault::WordsFault;
 use crate::run::read_run;
+use crate::trim::read_trim;
 use std::alloc::Global;
 
 /// What the words ask for.
@@ -11,6 +12,8 @@ use std::alloc::Global;
 pub enum Command {
     /// To run a script, with up to `pages` pages cached, 1 to 1,024.
     Run { pages: u32 },
+    /// To run a script of a store that gives up clones.
+    Trim,
 }
 
 /// Reads the words behind the program's name: the command's word, and behind it the arguments, which
@@ -27,6 +30,7 @@ pub fn read_command(alloc: Global, words: &[String]) -> Result<Command, WordsFau
     };
     match word.as_str() {
         "run" => read_run(alloc, words),
+        "trim" => read_trim(alloc, words),
         _ => Err(WordsFault::Usage),
     }
 }

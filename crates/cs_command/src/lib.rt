@@ -4,6 +4,7 @@
 mod command;
 mod fault;
 mod run;
+mod trim;
 
 pub use command::{Command, read_command};
 pub use fault::WordsFault;

@@ -1,3 +1,2 @@
 pub mod Linewise
 pub mod Places
-pub mod Running

@@ -3,6 +3,7 @@ use Rattle.std.specs.Prelude.{ℕ, ◌+◌, List, [], ◌∷◌, ◌++◌, lengt
 use Rattle.cs_laws.specs.declared.objects.At.{At}
 use Rattle.cs_laws.specs.declared.objects.At.TheVariants as at
 use Rattle.cs_laws.specs.Answers.{bytes_from}
+use Rattle.cs_laws.specs.Journal.{end_line}
 use Rattle.cs_trim.specs.declared.numbers.SnapStatus.{SnapStatus}
 use Rattle.cs_trim.specs.declared.numbers.SnapStatus.TheVariants.{NoSnap, Gone, Standing}
 use Rattle.cs_trim.specs.Clones.{given_up, is_standing, kept}
@@ -80,9 +81,6 @@ lines n (x ∷ xs) = line n x ++ lines (n + 1) xs
 
 abbrev pub header : List ℕ
 header = codes "ceph-trim-journal 1\n"
-
-abbrev pub end_line : ℕ → List ℕ
-end_line n = codes "end " ++ (decimal n ++ codes "\n")
 
 -- the header, the lines, and how many there are
 abbrev pub text : List Entry → List ℕ

@@ -19,5 +19,5 @@ pub use events::Event;
 pub use lines::parse;
 pub use printing::print_entry;
 pub use rows::{bad_lines, refused_snapshots, trimmed_between};
-pub use run::{TrimRun, journal_text};
+pub use run::TrimRun;
 pub use script::Script;

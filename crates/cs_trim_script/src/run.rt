@@ -1,18 +1,17 @@
 // Does the events of a script.
-ghost use Rattle.std.specs.Prelude.{◌≡◌, ◌+◌, ◌<◌, ◌≤◌, true, List, [], length, nat_lt, IfOk, string_bytes};
+ghost use Rattle.std.specs.Prelude.{◌≡◌, ◌+◌, ◌<◌, ◌≤◌, true, List, [], length, nat_lt, IfOk};
 ghost use Rattle.cs_geom.specs.declared.places.TheConstants.{OBJECT_SIZE};
 ghost use Rattle.cs_laws.specs.Answers.{bytes_from};
 ghost use Rattle.cs_trim.specs.Objects.{object_byte};
 ghost use Rattle.cs_trim.specs.Steps.{Step};
 ghost use Rattle.cs_trim_script.specs.Fits.{fits};
-ghost use Rattle.cs_trim_script.specs.Journal.{end_line, text, trim_journal};
 ghost use Rattle.cs_trim_script.specs.Runs.{Answers, RunsFor};
 
-use crate::{Answer, Event, Script, print_entry};
+use crate::{Answer, Event};
 use cs_ids::{Bytes, Memory, Snap};
 use cs_laws::At;
 use cs_trim::{Removed, TrimRead, TrimStore};
-use std::alloc::{AllocError, Global};
+use std::alloc::Global;
 
 /// A store to which the events of a script are done, and how often it was written to.
 #[derive(Drop)]
@@ -118,29 +117,4 @@ impl TrimRun {
             }),
         }
     }
-}
-
-fn end_text(alloc: Global, count: usize) -> Result<String, AllocError>
-    ensures { IfOk result (λ s. string_bytes s ≡ end_line count) }
-{
-    format!(in alloc; "end {count}\n")
-}
-
-/// The text of the journal of a script of at most 10,000 events.
-pub fn journal_text(alloc: Global, script: &Script) -> Result<Bytes, Memory>
-    requires { length script.now ≤ 10000 }
-    ensures { IfOk result (λ t. t ≡ text (trim_journal script.now)) }
-{
-    let mut text = Bytes::from_slice(alloc, b"ceph-trim-journal 1\n")?;
-    let mut run = TrimRun::new(alloc);
-    let mut number = 0u32;
-    let events = script.events();
-    for event in events {
-        let answer = run.step(event)?;
-        number += 1;
-        print_entry(number, event, &answer, &mut text)?;
-    }
-    let end = end_text(alloc, script.len())?;
-    text.append(end.as_bytes())?;
-    Ok(text)
 }

@@ -1,7 +1,0 @@
-pub mod Agreeing
-pub mod Halting
-pub mod Journals
-pub mod Runs
-pub mod Serving
-pub mod Stopping
-pub mod Writing

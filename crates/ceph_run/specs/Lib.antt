@@ -1,6 +1,0 @@
-pub mod Held
-pub mod Inputs
-pub mod Refusals
-pub mod Served
-pub mod Statuses
-pub mod Stopped

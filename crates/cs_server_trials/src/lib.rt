@@ -1,0 +1,13 @@
+//! Tests of the metadata server over a log in memory: each call that takes memory, once with ample memory.
+#![tactic(auto)]
+
+#[cfg(test)]
+mod caps;
+#[cfg(test)]
+mod messages;
+#[cfg(test)]
+mod numbers;
+#[cfg(test)]
+mod setup;
+#[cfg(test)]
+mod snapshots;

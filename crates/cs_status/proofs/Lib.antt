@@ -1,0 +1,3 @@
+pub mod Fronts
+pub mod Judging
+pub mod Writing
