@@ -1,5 +1,35 @@
 -- The tables as entries come and go.
-use Rattle.std.proofs.Common.{◌≡◌, ℕ, ◌+◌, ◌<◌, ◌≤◌, ◌==◌, ◌&&◌, ◌||◌, not, Bool, true, false, cond, List, [], ◌∷◌, ◌++◌, Some, None, unwrap_or, count_by, nat_le, nat_lt, refl, sym, subst, ◌∙◌, true≢false, arith}
+use Rattle.std.proofs.Common.{
+  ◌≡◌,
+  ℕ,
+  ◌+◌,
+  ◌<◌,
+  ◌≤◌,
+  ◌==◌,
+  ◌&&◌,
+  ◌||◌,
+  not,
+  Bool,
+  true,
+  false,
+  cond,
+  List,
+  [],
+  ◌∷◌,
+  ◌++◌,
+  Some,
+  None,
+  unwrap_or,
+  count_by,
+  nat_le,
+  nat_lt,
+  refl,
+  sym,
+  subst,
+  ◌∙◌,
+  true≢false,
+  arith,
+}
 use Rattle.std.proofs.lemmas.Bool.{eqb-true}
 use Rattle.std.proofs.lemmas.Bool.Decides.{nat_tests}
 use Rattle.std.proofs.lemmas.List.Folds.{list_any-append}
@@ -28,7 +58,8 @@ one_at d v = cond (v.is_dir && (v.ino == d)) 1 0
 counted : (d : ℕ) (es : List (EntryKey × Entry)) → count_by (is_dir_entry d) (named_all es) ≡ sum_by (one_at d) (values_of es)
 counted d [] = refl
 counted d (e ∷ es) =
-    sum_by-cons (λ x. cond (is_dir_entry d x) 1 0) (named_of e) (named_all es) ∙ (λ j. one_at d e.1 + counted d es j) ∙ sym (sum_by-cons (one_at d) e.1 (values_of es))
+    sum_by-cons (λ x. cond (is_dir_entry d x) 1 0) (named_of e) (named_all es) ∙ (λ j. one_at d e.1 + counted d es j)
+    ∙ sym (sum_by-cons (one_at d) e.1 (values_of es))
 
 any_counted : (p : Named → Bool) (ns : List Named) → list_any p ns ≡ nat_lt 0 (count_by p ns)
 any_counted p [] = refl
@@ -42,7 +73,8 @@ any_counted p (n ∷ ns) =
 -- a directory stands exactly where it is among the standing ones
 pub stands : (d : ℕ) (es : List (EntryKey × Entry)) (dirs : List ℕ) → places_of d (named_all es) ≡ cond (is_among d dirs) 1 0
     → ((d == 1) || list_any (is_dir_entry d) (named_all es)) ≡ is_among d dirs
-stands d es dirs places = (λ j. (d == 1) || any_counted (is_dir_entry d) (named_all es) j) ∙ by (d == 1) (is_among d dirs) (count_by (is_dir_entry d) (named_all es)) places
+stands d es dirs places = (λ j. (d == 1) || any_counted (is_dir_entry d) (named_all es) j)
+    ∙ by (d == 1) (is_among d dirs) (count_by (is_dir_entry d) (named_all es)) places
   where
     by : (root among : Bool) (c : ℕ) → cond root 1 0 + c ≡ cond among 1 0 → (root || nat_lt 0 c) ≡ among
     by true true c is = refl
@@ -58,7 +90,8 @@ among_files f (g ∷ gs) = λ j. same_number g f j || among_files f gs j
 abbrev pub shown : List (EntryKey × Entry) → List ℕ → ℕ → Names
 shown es files made = record { entries = named_all es; files = files; made = made }
 
-pub has_dir-table : {es : List (EntryKey × Entry)} {dirs files : List ℕ} {made : ℕ} → IsTable es dirs files made → (d : ℕ) → has_dir (shown es files made) d ≡ is_among d dirs
+pub has_dir-table : {es : List (EntryKey × Entry)} {dirs files : List ℕ} {made : ℕ} → IsTable es dirs files made → (d : ℕ)
+    → has_dir (shown es files made) d ≡ is_among d dirs
 has_dir-table {es} {dirs} t d = stands d es dirs (t.standing d)
 
 -- the number of an inode that there is
@@ -91,7 +124,8 @@ outside : (b : Bool) (d i : ℕ) (among : Bool) → among ≡ false → i < d �
 outside b d i among is l = grind (arith, nat_tests)
 
 -- one name more, and one place more
-stand_more : (root b among : Bool) (old new : ℕ) → new + 0 ≡ old + cond b 1 0 → cond root 1 0 + old ≡ cond among 1 0 → (b ≡ true → among ≡ false)
+stand_more : (root b among : Bool) (old new : ℕ) → new + 0 ≡ old + cond b 1 0 → cond root 1 0 + old ≡ cond among 1 0 → (b ≡ true
+    → among ≡ false)
     → cond root 1 0 + new ≡ cond (among || b) 1 0
 stand_more root true true old new more all fresh = absurd (true≢false (fresh refl))
 stand_more true true false old new more all fresh = absurd (omega arith)
@@ -102,26 +136,33 @@ stand_more true false false old new more all fresh = absurd (omega arith)
 stand_more false false false old new more all fresh = omega arith
 
 module _ {es : List (EntryKey × Entry)} {dirs files : List ℕ} {made : ℕ} (t : IsTable es dirs files made) where
-  pub entered : (k : EntryKey) (v : Entry) (made' : ℕ) → lookup (is_at (key_cmp k)) es ≡ None → is_name k.name.items ≡ true → is_among v.ino dirs ≡ false
+  pub entered : (k : EntryKey) (v : Entry) (made' : ℕ) → lookup (is_at (key_cmp k)) es ≡ None → is_name k.name.items ≡ true
+      → is_among v.ino dirs ≡ false
       → v.ino < first_made + made' → made ≤ made' → IsStrictlySortedBy key_cmp (keys_of (insert_entry key_cmp es k v))
-      → IsTable (insert_entry key_cmp es k v) (cond v.is_dir (dirs ++ v.ino ∷ []) dirs) (cond v.is_dir files (files ++ v.ino ∷ [])) made'
+      → IsTable (insert_entry key_cmp es k v) (cond v.is_dir (dirs ++ v.ino ∷ []) dirs) (cond v.is_dir files
+      (files ++ v.ino ∷ [])) made'
   entered k v made' none name fresh below more sorted = record {
     ordered = sorted;
     named = All-keys-insert_entry key_cmp k v (λ q. is_name q.name.items ≡ true) es t.named name;
     standing = λ d. standing d;
-    new_dir = λ d above. among_then v.is_dir d v.ino dirs ∙ outside v.is_dir d v.ino (is_among d dirs) (t.new_dir d (omega arith)) (omega arith);
-    new_file = λ f above. among_else v.is_dir f v.ino files ∙ outside (not v.is_dir) f v.ino (is_among f files) (t.new_file f (omega arith)) (omega arith);
+    new_dir = λ d above. among_then v.is_dir d v.ino dirs ∙ outside v.is_dir d v.ino (is_among d dirs) (t.new_dir d (omega arith))
+        (omega arith);
+    new_file = λ f above. among_else v.is_dir f v.ino files ∙ outside (not v.is_dir) f v.ino (is_among f files) (t.new_file f
+        (omega arith)) (omega arith);
   }
     where
       not_yet : (d : ℕ) (b : Bool) → (b && (v.ino == d)) ≡ true → is_among d dirs ≡ false
       not_yet d b is = subst (λ i. is_among i dirs ≡ false) (eqb-true v.ino d (second_so b (v.ino == d) is)) fresh
 
-      standing : (d : ℕ) → places_of d (named_all (insert_entry key_cmp es k v)) ≡ cond (is_among d (cond v.is_dir (dirs ++ v.ino ∷ []) dirs)) 1 0
+      standing : (d : ℕ) → places_of d (named_all (insert_entry key_cmp es k v))
+          ≡ cond (is_among d (cond v.is_dir (dirs ++ v.ino ∷ []) dirs)) 1 0
       standing d =
           let sum : sum_by (one_at d) (values_of (insert_entry key_cmp es k v)) + 0 ≡ sum_by (one_at d) (values_of es) + one_at d v =
-          subst (λ o. sum_by (one_at d) (values_of (insert_entry key_cmp es k v)) + unwrap_or (option_map (one_at d) o) 0 ≡ sum_by (one_at d) (values_of es) + one_at d v) none
+          subst (λ o. sum_by (one_at d) (values_of (insert_entry key_cmp es k v)) + unwrap_or (option_map (one_at d) o) 0
+          ≡ sum_by (one_at d) (values_of es) + one_at d v) none
           (sum_by-insert_entry (one_at d) key_cmp_total es k v t.ordered) in
-          let more : count_by (is_dir_entry d) (named_all (insert_entry key_cmp es k v)) + 0 ≡ count_by (is_dir_entry d) (named_all es) + one_at d v =
+          let more : count_by (is_dir_entry d) (named_all (insert_entry key_cmp es k v)) + 0
+          ≡ count_by (is_dir_entry d) (named_all es) + one_at d v =
           rw (counted d es, counted d (insert_entry key_cmp es k v)) sum in
           stand_more (d == 1) (v.is_dir && (v.ino == d)) (is_among d dirs) _ _ more (t.standing d) (not_yet d v.is_dir)
           ∙ (λ j. cond (sym (among_then v.is_dir d v.ino dirs) j) 1 0)
@@ -129,15 +170,18 @@ module _ {es : List (EntryKey × Entry)} {dirs files : List ℕ} {made : ℕ} (t
   -- An entry less
 
   -- one name less, and one place less
-  stand_less : (root b among : Bool) (old new : ℕ) → new + cond b 1 0 ≡ old → cond root 1 0 + old ≡ cond among 1 0 → cond root 1 0 + new ≡ cond (cond b false among) 1 0
+  stand_less : (root b among : Bool) (old new : ℕ) → new + cond b 1 0 ≡ old → cond root 1 0 + old ≡ cond among 1 0
+      → cond root 1 0 + new ≡ cond (cond b false among) 1 0
   stand_less true true true old new less all = absurd (omega arith)
   stand_less true true false old new less all = absurd (omega arith)
   stand_less false true true old new less all = omega arith
   stand_less false true false old new less all = absurd (omega arith)
   stand_less root false among old new less all = let same : new ≡ old = omega arith in rw same all
 
-  pub left : (k : EntryKey) (v : Entry) (later : List ℕ) → lookup (is_at (key_cmp k)) es ≡ Some v → ((d : ℕ) → is_among d later ≡ cond (v.is_dir && (v.ino == d)) false (is_among d dirs))
-      → IsStrictlySortedBy key_cmp (keys_of (remove_entry (is_at (key_cmp k)) es)) → IsTable (remove_entry (is_at (key_cmp k)) es) later files made
+  pub left : (k : EntryKey) (v : Entry) (later : List ℕ) → lookup (is_at (key_cmp k)) es ≡ Some v → ((d : ℕ)
+      → is_among d later ≡ cond (v.is_dir && (v.ino == d)) false (is_among d dirs))
+      → IsStrictlySortedBy key_cmp (keys_of (remove_entry (is_at (key_cmp k)) es))
+      → IsTable (remove_entry (is_at (key_cmp k)) es) later files made
   left k v later there out sorted = record {
     ordered = sorted;
     named = All-map-remove_entry (is_at (key_cmp k)) (λ e. e.0) (λ q. is_name q.name.items ≡ true) es t.named;
@@ -152,10 +196,13 @@ module _ {es : List (EntryKey × Entry)} {dirs files : List ℕ} {made : ℕ} (t
 
       standing : (d : ℕ) → places_of d (named_all (remove_entry (is_at (key_cmp k)) es)) ≡ cond (is_among d later) 1 0
       standing d =
-          let sum : sum_by (one_at d) (values_of (remove_entry (is_at (key_cmp k)) es)) + one_at d v ≡ sum_by (one_at d) (values_of es) =
-          subst (λ o. sum_by (one_at d) (values_of (remove_entry (is_at (key_cmp k)) es)) + unwrap_or (option_map (one_at d) o) 0 ≡ sum_by (one_at d) (values_of es)) there
+          let sum : sum_by (one_at d) (values_of (remove_entry (is_at (key_cmp k)) es)) + one_at d v
+          ≡ sum_by (one_at d) (values_of es) =
+          subst (λ o. sum_by (one_at d) (values_of (remove_entry (is_at (key_cmp k)) es)) + unwrap_or (option_map (one_at d) o) 0
+          ≡ sum_by (one_at d) (values_of es)) there
           (sum_by-remove_entry (one_at d) (is_at (key_cmp k)) es) in
-          let less : count_by (is_dir_entry d) (named_all (remove_entry (is_at (key_cmp k)) es)) + one_at d v ≡ count_by (is_dir_entry d) (named_all es) =
+          let less : count_by (is_dir_entry d) (named_all (remove_entry (is_at (key_cmp k)) es)) + one_at d v
+          ≡ count_by (is_dir_entry d) (named_all es) =
           rw (counted d es, counted d (remove_entry (is_at (key_cmp k)) es)) sum in
           stand_less (d == 1) (v.is_dir && (v.ino == d)) (is_among d dirs) _ _ less (t.standing d) ∙ (λ j. cond (sym (out d) j) 1 0)
 
@@ -174,12 +221,16 @@ module _ {es : List (EntryKey × Entry)} {dirs files : List ℕ} {made : ℕ} (t
     new_file = t.new_file;
   }
     where
-      same : (d : ℕ) → count_by (is_dir_entry d) (named_all (remove_entry (is_at (key_cmp k)) (insert_entry key_cmp es new v))) ≡ count_by (is_dir_entry d) (named_all es)
+      same : (d : ℕ) → count_by (is_dir_entry d) (named_all (remove_entry (is_at (key_cmp k)) (insert_entry key_cmp es new v)))
+          ≡ count_by (is_dir_entry d) (named_all es)
       same d =
           let more : sum_by (one_at d) (values_of (insert_entry key_cmp es new v)) + 0 ≡ sum_by (one_at d) (values_of es) + one_at d v =
-          subst (λ o. sum_by (one_at d) (values_of (insert_entry key_cmp es new v)) + unwrap_or (option_map (one_at d) o) 0 ≡ sum_by (one_at d) (values_of es) + one_at d v) free
+          subst (λ o. sum_by (one_at d) (values_of (insert_entry key_cmp es new v)) + unwrap_or (option_map (one_at d) o) 0
+          ≡ sum_by (one_at d) (values_of es) + one_at d v) free
           (sum_by-insert_entry (one_at d) key_cmp_total es new v t.ordered) in
-          let less : sum_by (one_at d) (values_of (remove_entry (is_at (key_cmp k)) (insert_entry key_cmp es new v))) + one_at d v ≡ sum_by (one_at d) (values_of (insert_entry key_cmp es new v)) =
-          subst (λ o. sum_by (one_at d) (values_of (remove_entry (is_at (key_cmp k)) (insert_entry key_cmp es new v))) + unwrap_or (option_map (one_at d) o) 0 ≡ sum_by (one_at d) (values_of (insert_entry key_cmp es new v))) there
+          let less : sum_by (one_at d) (values_of (remove_entry (is_at (key_cmp k)) (insert_entry key_cmp es new v))) + one_at d v
+          ≡ sum_by (one_at d) (values_of (insert_entry key_cmp es new v)) =
+          subst (λ o. sum_by (one_at d) (values_of (remove_entry (is_at (key_cmp k)) (insert_entry key_cmp es new v))) + unwrap_or
+          (option_map (one_at d) o) 0 ≡ sum_by (one_at d) (values_of (insert_entry key_cmp es new v))) there
           (sum_by-remove_entry (one_at d) (is_at (key_cmp k)) (insert_entry key_cmp es new v)) in
           rw (counted d es, counted d (remove_entry (is_at (key_cmp k)) (insert_entry key_cmp es new v))) (omega arith)

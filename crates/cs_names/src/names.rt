@@ -1,5 +1,5 @@
 // The namespace by its tables.
-ghost use Rattle.std.specs.Prelude.{◌≡◌, ◌<◌, ◌≤◌, None, Some, if◌then◌else◌, IfOk, OnOk, OnErr};
+ghost use Rattle.std.specs.Prelude.{◌≡◌, ◌+◌, ◌<◌, ◌≤◌, None, Some, if◌then◌else◌, IfOk, OnOk, OnErr};
 ghost use Rattle.cs_laws.specs.Namespace.{after, after_answer, answer_on, entry_at, found, has_dir, made_at, no_names, renamed, unlinked, within};
 ghost use Rattle.cs_laws.specs.Names.{listed};
 ghost use Rattle.cs_names.specs.Setup.{IsSetUp, after_setup, is_in_use, setup_step};
@@ -72,6 +72,7 @@ impl Names {
         requires { self.old.made < 89999 }
         ensures answer { IfOk result (λ a. a ≡ answer_on self.old op.now) }
         ensures names { OnOk result (self.new ≡ after self.old op.now) }
+        ensures made { OnOk result (self.new.made ≤ self.old.made + 1) }
         ensures err { OnErr result (self.new ≡ self.old) }
     {
         match op {

@@ -16,5 +16,6 @@ loop-key-init c =
       so_far = rw c.new-list.ensures (ap (map item_of) entries ∙ ap (listed c.args.dir) c.self.view_is);
       named = rw items
           (each-in (λ (k : EntryKey). is_name k.name.items ≡ true) c.args.dir c.self.inside.entries.entries
-          (recursion_from_All (λ (k : EntryKey). is_name k.name.items ≡ true) (keys_of c.self.inside.entries.entries) c.self.invariant.named));
+          (recursion_from_All (λ (k : EntryKey). is_name k.name.items
+          ≡ true) (keys_of c.self.inside.entries.entries) c.self.invariant.named));
     }

@@ -11,7 +11,8 @@ use Rattle.cs_names.proofs.names.Names.make.Goals as goal
 
 pub returns-then-contains_key-clause-answer : goal.returns-then-contains_key-clause-answer
 returns-then-contains_key-clause-answer c =
-    made-taken _ _ _ c.args.self.now c.self.view_is c.in_ok-key.key c.in_ok-key.ensures.dir c.in_ok-key.ensures.name (sym c.refusal.ensures ∙ c.in_default.is)
+    made-taken _ _ _ c.args.self.now c.self.view_is c.in_ok-key.key c.in_ok-key.ensures.dir c.in_ok-key.ensures.name
+    (sym c.refusal.ensures ∙ c.in_default.is)
     (sym c.contains_key.ensures ∙ c.if-contains_key.true)
 
 pub returns-then-contains_key-clause-names : goal.returns-then-contains_key-clause-names
@@ -32,10 +33,12 @@ invariant_of-self-2 c =
 
 pub returns-clause-answer : goal.returns-clause-answer
 returns-clause-answer c =
-    made-free _ _ _ c.args.self.now c.self.view_is c.in_ok-key.key c.in_ok-key.ensures.dir c.in_ok-key.ensures.name c.in-Some-new.ino (sym c.refusal.ensures ∙ c.in_default.is)
+    made-free _ _ _ c.args.self.now c.self.view_is c.in_ok-key.key c.in_ok-key.ensures.dir c.in_ok-key.ensures.name c.in-Some-new.ino
+    (sym c.refusal.ensures ∙ c.in_default.is)
     (sym c.contains_key.ensures ∙ c.if-contains_key.false) (number_is c)
 
 pub returns-clause-names : goal.returns-clause-names
 returns-clause-names c =
     rw (c.in_ok-enter.ensures.entries, c.in_ok-enter.ensures.files)
-    (after-made _ _ _ c.args.self.now c.self.view_is c.in_ok-key.key c.in_ok-key.ensures.dir c.in_ok-key.ensures.name c.in-Some-new.ino c.args.is_dir (free_key c))
+    (after-made _ _ _ c.args.self.now c.self.view_is c.in_ok-key.key c.in_ok-key.ensures.dir c.in_ok-key.ensures.name c.in-Some-new.ino
+    c.args.is_dir (free_key c))

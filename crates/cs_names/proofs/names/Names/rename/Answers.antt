@@ -10,46 +10,56 @@ use Rattle.cs_names.proofs.names.Names.rename.Goals as goal
 
 pub returns-in_default-copied-clause-answer : goal.returns-in_default-copied-clause-answer
 returns-in_default-copied-clause-answer c =
-    renamed-none _ _ _ c.args.self.now c.self.view_is c.in_ok-key.key c.in_ok-key.ensures.dir c.in_ok-key.ensures.name c.args.new_name.now (sym c.refusal.ensures ∙ c.in_default.is)
+    renamed-none _ _ _ c.args.self.now c.self.view_is c.in_ok-key.key c.in_ok-key.ensures.dir c.in_ok-key.ensures.name
+    c.args.new_name.now (sym c.refusal.ensures ∙ c.in_default.is)
     (sym c.get.ensures.value ∙ (sym c.copied.ensures ∙ c.in_default-copied.is))
 
 pub returns-then-contains_key-clause-answer : goal.returns-then-contains_key-clause-answer
 returns-then-contains_key-clause-answer c =
-    renamed-some _ _ _ c.args.self.now c.self.view_is c.in_ok-key.key c.in_ok-key.ensures.dir c.in_ok-key.ensures.name c.args.new_name.now c.in-Some-copied.entry true
+    renamed-some _ _ _ c.args.self.now c.self.view_is c.in_ok-key.key c.in_ok-key.ensures.dir c.in_ok-key.ensures.name
+    c.args.new_name.now c.in-Some-copied.entry true
     (sym c.refusal.ensures ∙ c.in_default.is) (sym c.get.ensures.value ∙ (sym c.copied.ensures ∙ c.in-Some-copied.is))
-    (has_entry-lookup _ _ _ c.args.self.now c.self.view_is c.in_ok-new_key.new_key c.in_ok-new_key.ensures.dir c.in_ok-new_key.ensures.name
+    (has_entry-lookup _ _ _ c.args.self.now c.self.view_is c.in_ok-new_key.new_key c.in_ok-new_key.ensures.dir
+    c.in_ok-new_key.ensures.name
     ∙ (sym c.contains_key.ensures ∙ c.if-contains_key.true))
 
-found : (c : goal.After-drop-key-2) → lookup (is_at (key_cmp c.in_ok-key.key)) c.self.inside.entries.entries ≡ Some c.in-Some-copied.entry
+found : (c : goal.After-drop-key-2) → lookup (is_at (key_cmp c.in_ok-key.key)) c.self.inside.entries.entries
+    ≡ Some c.in-Some-copied.entry
 found c = sym c.get.ensures.value ∙ (sym c.copied.ensures ∙ c.in-Some-copied.is)
 
 free : (c : goal.After-drop-key-2) → lookup (is_at (key_cmp c.in_ok-new_key.new_key)) c.self.inside.entries.entries ≡ None
 free c = none_from_some _ (sym c.contains_key.ensures ∙ c.if-contains_key.false)
 
-found_still : (c : goal.After-drop-key-2) → lookup (is_at (key_cmp c.in_ok-key.key)) (insert_entry key_cmp c.self.inside.entries.entries c.in_ok-new_key.new_key c.in-Some-copied.entry)
+found_still : (c : goal.After-drop-key-2) → lookup (is_at (key_cmp c.in_ok-key.key))
+    (insert_entry key_cmp c.self.inside.entries.entries c.in_ok-new_key.new_key c.in-Some-copied.entry)
     ≡ Some c.in-Some-copied.entry
 found_still c =
     subst (λ es. lookup (is_at (key_cmp c.in_ok-key.key)) es ≡ Some c.in-Some-copied.entry) c.in_ok-insert.ensures.entries
     (still_there _ _ _ (found c) (c.in_ok-insert.ensures.updates.0 c.in_ok-key.key))
 
-sorted_with : (c : goal.After-drop-key-2) → IsStrictlySortedBy key_cmp (keys_of (insert_entry key_cmp c.self.inside.entries.entries c.in_ok-new_key.new_key c.in-Some-copied.entry))
+sorted_with : (c : goal.After-drop-key-2) → IsStrictlySortedBy key_cmp (keys_of
+    (insert_entry key_cmp c.self.inside.entries.entries c.in_ok-new_key.new_key c.in-Some-copied.entry))
 sorted_with c = subst (λ es. IsStrictlySortedBy key_cmp (keys_of es)) c.in_ok-insert.ensures.entries c.in_ok-insert.ensures.ordered
 
 pub invariant_of-self-2 : goal.invariant_of-self-2
 invariant_of-self-2 c =
     rw (c.remove.ensures.entries, c.in_ok-insert.ensures.entries)
-    (renamed c.self.invariant c.in_ok-key.key c.in_ok-new_key.new_key c.in-Some-copied.entry (free c) c.in_ok-new_key.ensures.spelled (found_still c)
+    (renamed c.self.invariant c.in_ok-key.key c.in_ok-new_key.new_key c.in-Some-copied.entry (free c) c.in_ok-new_key.ensures.spelled
+    (found_still c)
     (rw (← c.in_ok-insert.ensures.entries, ← c.remove.ensures.entries) c.remove.ensures.ordered))
 
 pub returns-clause-answer : goal.returns-clause-answer
 returns-clause-answer c =
-    renamed-some _ _ _ c.args.self.now c.self.view_is c.in_ok-key.key c.in_ok-key.ensures.dir c.in_ok-key.ensures.name c.args.new_name.now c.in-Some-copied.entry false
+    renamed-some _ _ _ c.args.self.now c.self.view_is c.in_ok-key.key c.in_ok-key.ensures.dir c.in_ok-key.ensures.name
+    c.args.new_name.now c.in-Some-copied.entry false
     (sym c.refusal.ensures ∙ c.in_default.is) (found c)
-    (has_entry-lookup _ _ _ c.args.self.now c.self.view_is c.in_ok-new_key.new_key c.in_ok-new_key.ensures.dir c.in_ok-new_key.ensures.name
+    (has_entry-lookup _ _ _ c.args.self.now c.self.view_is c.in_ok-new_key.new_key c.in_ok-new_key.ensures.dir
+    c.in_ok-new_key.ensures.name
     ∙ (sym c.contains_key.ensures ∙ c.if-contains_key.false))
 
 pub returns-clause-names : goal.returns-clause-names
 returns-clause-names c =
     rw (c.remove.ensures.entries, c.in_ok-insert.ensures.entries)
-    (after-moved _ _ _ c.args.self.now c.self.view_is c.in_ok-key.key c.in_ok-key.ensures.dir c.in_ok-key.ensures.name c.in_ok-new_key.new_key c.in-Some-copied.entry c.args.new_name.now
+    (after-moved _ _ _ c.args.self.now c.self.view_is c.in_ok-key.key c.in_ok-key.ensures.dir c.in_ok-key.ensures.name
+    c.in_ok-new_key.new_key c.in-Some-copied.entry c.args.new_name.now
     c.in_ok-new_key.ensures.dir c.in_ok-new_key.ensures.name (found c) (free c) c.self.invariant.ordered (sorted_with c))

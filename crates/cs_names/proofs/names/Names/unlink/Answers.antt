@@ -9,15 +9,18 @@ use Rattle.cs_names.proofs.names.Names.unlink.Goals as goal
 
 pub returns-in_default-copied-clause-answer : goal.returns-in_default-copied-clause-answer
 returns-in_default-copied-clause-answer c =
-    unlinked-none _ _ _ c.args.self.now c.self.view_is c.in_ok-key.key c.in_ok-key.ensures.dir c.in_ok-key.ensures.name (sym c.refusal.ensures ∙ c.in_default.is)
+    unlinked-none _ _ _ c.args.self.now c.self.view_is c.in_ok-key.key c.in_ok-key.ensures.dir c.in_ok-key.ensures.name
+    (sym c.refusal.ensures ∙ c.in_default.is)
     (sym c.get.ensures.value ∙ (sym c.copied.ensures ∙ c.in_default-copied.is))
 
 pub returns-then-is_filled-clause-answer : goal.returns-then-is_filled-clause-answer
 returns-then-is_filled-clause-answer c =
-    unlinked-some _ _ _ c.args.self.now c.self.view_is c.in_ok-key.key c.in_ok-key.ensures.dir c.in_ok-key.ensures.name c.in-Some-copied.entry true (sym c.refusal.ensures ∙ c.in_default.is)
+    unlinked-some _ _ _ c.args.self.now c.self.view_is c.in_ok-key.key c.in_ok-key.ensures.dir c.in_ok-key.ensures.name
+    c.in-Some-copied.entry true (sym c.refusal.ensures ∙ c.in_default.is)
     (sym c.get.ensures.value ∙ (sym c.copied.ensures ∙ c.in-Some-copied.is)) (sym c.is_filled.ensures ∙ c.if-is_filled.true)
 
-found : (c : goal.After-drop-key-2) → lookup (is_at (key_cmp c.in_ok-key.key)) c.self.inside.entries.entries ≡ Some c.in-Some-copied.entry
+found : (c : goal.After-drop-key-2) → lookup (is_at (key_cmp c.in_ok-key.key)) c.self.inside.entries.entries
+    ≡ Some c.in-Some-copied.entry
 found c = sym c.get.ensures.value ∙ (sym c.copied.ensures ∙ c.in-Some-copied.is)
 
 pub invariant_of-self : goal.invariant_of-self
@@ -28,10 +31,12 @@ invariant_of-self c =
 
 pub returns-clause-answer : goal.returns-clause-answer
 returns-clause-answer c =
-    unlinked-some _ _ _ c.args.self.now c.self.view_is c.in_ok-key.key c.in_ok-key.ensures.dir c.in_ok-key.ensures.name c.in-Some-copied.entry false (sym c.refusal.ensures ∙ c.in_default.is)
+    unlinked-some _ _ _ c.args.self.now c.self.view_is c.in_ok-key.key c.in_ok-key.ensures.dir c.in_ok-key.ensures.name
+    c.in-Some-copied.entry false (sym c.refusal.ensures ∙ c.in_default.is)
     (found c) (sym c.is_filled.ensures ∙ c.if-is_filled.false)
 
 pub returns-clause-names : goal.returns-clause-names
 returns-clause-names c =
     rw c.leave.ensures.entries
-    (after-gone _ _ _ c.args.self.now c.self.view_is c.in_ok-key.key c.in_ok-key.ensures.dir c.in_ok-key.ensures.name c.self.invariant.ordered)
+    (after-gone _ _ _ c.args.self.now c.self.view_is c.in_ok-key.key c.in_ok-key.ensures.dir c.in_ok-key.ensures.name
+    c.self.invariant.ordered)

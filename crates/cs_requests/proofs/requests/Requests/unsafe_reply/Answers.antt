@@ -1,5 +1,5 @@
 use Rattle.std.proofs.Common.{◌≡◌, ◌==◌, ◌∙◌, Some, ap, is_some, map, sym}
-use Rattle.std.specs.Map.{lookup, values_of}
+use Rattle.std.specs.Map.{lookup}
 use Rattle.std.specs.Option.{option_copied_mut}
 use Rattle.cs_requests.specs.Requests.{answered, is_open}
 use Rattle.cs_requests.proofs.Lists.{answered-none, ascend-answered, each-answered, is_open-lookup, values-answered}
@@ -7,7 +7,8 @@ use Rattle.cs_requests.proofs.requests.Requests.unsafe_reply.Goals as goal
 
 pub returns-in_default-clause-opens : goal.returns-in_default-clause-opens
 returns-in_default-clause-opens c =
-    sym (ap (λ v. is_open c.args.t v.requests) (sym c.self.view_is) ∙ is_open-lookup _ c.args.t c.self.inside.requests.entries c.self.invariant.each
+    sym (ap (λ v. is_open c.args.t v.requests) (sym c.self.view_is)
+    ∙ is_open-lookup _ c.args.t c.self.inside.requests.entries c.self.invariant.each
     ∙ ap is_some (sym c.get_mut.ensures.value ∙ ap option_copied_mut c.in_default.is))
 
 pub returns-in_default-clause-requests : goal.returns-in_default-clause-requests
@@ -26,19 +27,22 @@ invariant_of-self-2 c =
     rw (c.get_mut.follows.holds _).0
     (record {
       each = each-answered _ c.args.t c.args.a c.in-Some.request.now _ c.self.invariant.each (found c);
-      order = rw (values-answered _ c.args.t 0 c.args.a c.in-Some.request.now c.self.inside.requests.entries c.self.invariant.each c.self.invariant.order (found c))
-    (ascend-answered c.args.t c.args.a 0 _ c.self.invariant.order);
+      order = rw (values-answered _ c.args.t 0 c.args.a c.in-Some.request.now c.self.inside.requests.entries c.self.invariant.each
+          c.self.invariant.order (found c))
+          (ascend-answered c.args.t c.args.a 0 _ c.self.invariant.order);
     })
 
 pub returns-clause-opens : goal.returns-clause-opens
 returns-clause-opens c =
-    sym (ap (λ v. is_open c.args.t v.requests) (sym c.self.view_is) ∙ is_open-lookup _ c.args.t c.self.inside.requests.entries c.self.invariant.each ∙ ap is_some (found c))
+    sym (ap (λ v. is_open c.args.t v.requests) (sym c.self.view_is)
+    ∙ is_open-lookup _ c.args.t c.self.inside.requests.entries c.self.invariant.each ∙ ap is_some (found c))
 
 pub returns-clause-requests : goal.returns-clause-requests
 returns-clause-requests c =
     rw (c.get_mut.follows.holds _).0
     ((λ j. record {
       sent = c.self.inside.sent;
-      requests = values-answered _ c.args.t 0 c.args.a c.in-Some.request.now c.self.inside.requests.entries c.self.invariant.each c.self.invariant.order (found c) j
+      requests = values-answered _ c.args.t 0 c.args.a c.in-Some.request.now c.self.inside.requests.entries c.self.invariant.each
+          c.self.invariant.order (found c) j;
     })
     ∙ (λ j. record { sent = (c.self.view_is j).sent; requests = map (answered c.args.t c.args.a) (c.self.view_is j).requests }))
