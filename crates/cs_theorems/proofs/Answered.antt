@@ -158,10 +158,10 @@ telling_more ys i = record {
   stands = λ is. let k = i.stands is in (k.0 ++ ys, ap (λ l. l ++ ys) k.1 ∙ append_assoc i.got k.0 ys);
 }
 
-reply_there : (r : Reply) (rs : List Reply) → has_reply r.tid (rs ++ r ∷ []) ≡ true
+pub reply_there : (r : Reply) (rs : List Reply) → has_reply r.tid (rs ++ r ∷ []) ≡ true
 reply_there r rs = any_true (λ k. k.tid == r.tid) (rs ++ r ∷ []) r (member_end r rs) (eq-eqb r.tid r.tid refl)
 
-reply_stays : (t : ℕ) (r : Reply) (rs : List Reply) → has_reply t rs ≡ true → has_reply t (rs ++ r ∷ []) ≡ true
+pub reply_stays : (t : ℕ) (r : Reply) (rs : List Reply) → has_reply t rs ≡ true → has_reply t (rs ++ r ∷ []) ≡ true
 reply_stays t r rs is = list_any-append (λ k. k.tid == t) rs (r ∷ []) ∙ or_left (has_reply t rs) _ is
 
 right_more : (xs ys : List Asked) (r : Reply) → IsRight xs r → IsRight (xs ++ ys) r

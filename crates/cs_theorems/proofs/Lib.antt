@@ -47,6 +47,9 @@ pub mod AskedStands
 pub mod AskedTold
 pub mod Answered
 pub mod Asks
+pub mod Entries
+pub mod Leased
+pub mod RequestLaws
 pub mod Links
 pub mod Sent
 pub mod Along
