@@ -178,8 +178,8 @@ longer_front got (z ∷ zs) st ms ys y is front none =
 
 -- An answer is delivered.
 module _ (active : Bool) (xs st ms_left : List Asked) (rs : List Reply) (ms : List Made) (q p : List Message) (requests : List Request) (t : ℕ) (o : OpAnswer) (ttl : ℕ)
-  (front : xs ≡ st ++ ms_left) (up : RisesFrom 0 (asked_tids xs)) (alike : Alike requests xs) (told : IsTold st [] (messages.Unsafe t o ttl))
-  (i : Telling true active xs st rs ms (messages.Unsafe t o ttl ∷ q) p) where
+    (front : xs ≡ st ++ ms_left) (up : RisesFrom 0 (asked_tids xs)) (alike : Alike requests xs) (told : IsTold st [] (messages.Unsafe t o ttl))
+    (i : Telling true active xs st rs ms (messages.Unsafe t o ttl ∷ q) p) where
   abbrev answered_one : Asked
   answered_one = record { tid = t; op = told.0; answer = o }
 

@@ -60,10 +60,7 @@ map_same : (ts : List ℕ) → map (λ t. t) ts ≡ ts
 map_same [] = refl
 map_same (t ∷ ts) = ap (λ us. t ∷ us) (map_same ts)
 
--- what rises is what the replays say of it
-pub rises_same : (n : ℕ) (ts : List ℕ) → RisesFrom n ts → RisesFrom n (map (λ t. t) ts)
-rises_same n ts up = subst (λ us. RisesFrom n us) (sym (map_same ts)) up
-
+-- what the replays say rises does
 pub rises_plain : (n : ℕ) (ts : List ℕ) → RisesFrom n (map (λ t. t) ts) → RisesFrom n ts
 rises_plain n ts up = subst (λ us. RisesFrom n us) (map_same ts) up
 

@@ -110,9 +110,11 @@ each_answered P tid o ds answered safe =
 again_right : (rs : List Record) (t : ℕ) → RisesFrom 0 (asked_tids (asked_of rs)) → Member t (asked_tids (asked_of rs))
     → (op : ReqOp) × Member (record { tid = t; op = op; answer = unwrap_or (answer_kept t rs) replies_of.Missing }) (asked_of rs)
 again_right rs t up there =
-    let k = tid_member t (asked_of rs) there in
-    (k.0.op, subst (λ n. Member (record { tid = n; op = k.0.op; answer = unwrap_or (answer_kept n rs) replies_of.Missing }) (asked_of rs)) k.2
-    (subst (λ o. Member (record { tid = k.0.tid; op = k.0.op; answer = unwrap_or o replies_of.Missing }) (asked_of rs)) (sym (answer_found 0 k.0 rs up k.1)) k.1))
+    let k = tid_member t (asked_of rs) there in (
+      k.0.op,
+      subst (λ n. Member (record { tid = n; op = k.0.op; answer = unwrap_or (answer_kept n rs) replies_of.Missing }) (asked_of rs)) k.2
+          (subst (λ o. Member (record { tid = k.0.tid; op = k.0.op; answer = unwrap_or o replies_of.Missing }) (asked_of rs)) (sym (answer_found 0 k.0 rs up k.1)) k.1),
+    )
 
 -- Steps
 

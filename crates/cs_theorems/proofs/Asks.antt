@@ -187,8 +187,8 @@ module _ (p : ℕ) (h : List Entry) (run : IsRun p h) (t : ℕ) (o : OpAnswer) w
         makes = λ i is.
             let b : MadeBy next.op i = made_one (stage (setup_names h) next.got) next.op i (sym own.1 ∙ is) in
             let g = subst
-                (λ ms. Grown (λ d. dirs_of (client_made h) (λ k. is_directory h k) d) (λ j. used_of (client_made h) (λ k. is_in_use h k) j) (ms ++ asked_made rest))
-                (ap (λ z. made_by (Some next.op) z) is ∙ b.is) (grown_now next.op next.got rest next.next.front next.made) in
+            (λ ms. Grown (λ d. dirs_of (client_made h) (λ k. is_directory h k) d) (λ j. used_of (client_made h) (λ k. is_in_use h k) j) (ms ++ asked_made rest))
+            (ap (λ z. made_by (Some next.op) z) is ∙ b.is) (grown_now next.op next.got rest next.next.front next.made) in
             let new : used_of (client_made h) (λ k. is_in_use h k) i ≡ false = subst (λ j. used_of (client_made h) (λ k. is_in_use h k) j ≡ false) b.ino g.0 in
             subst (λ z. NewMade h z i) (sym op)
             (record {

@@ -85,11 +85,12 @@ durable_later new before x there =
 once_later : (p : ℕ) (before new : List Entry) → IsRun p (new ++ before) → SavedStandOnce before (new ++ before)
 once_later p before new run t saved =
     let run_first : IsRun p before = run_before p new before run in
-    let k = tid_member t (asked_of (durable before)) (saved_durable p before run_first t saved) in
-    (
+    let k = tid_member t (asked_of (durable before)) (saved_durable p before run_first t saved) in (
       k.0.answer,
-      (subst (λ n. StandsOnce before n k.0.answer) k.2 (stands_once p before run_first k.0 (durable_later [] before k.0 k.1)),
-      subst (λ n. StandsOnce (new ++ before) n k.0.answer) k.2 (stands_once p (new ++ before) run k.0 (durable_later new before k.0 k.1))),
+      (
+        subst (λ n. StandsOnce before n k.0.answer) k.2 (stands_once p before run_first k.0 (durable_later [] before k.0 k.1)),
+        subst (λ n. StandsOnce (new ++ before) n k.0.answer) k.2 (stands_once p (new ++ before) run k.0 (durable_later new before k.0 k.1)),
+      ),
     )
 
 pub requests_once : (p : ℕ) (h : List Entry) → IsRun p h → RequestsStandOnce h
