@@ -92,15 +92,18 @@ NotMade _ = Unit {0}
 
 within_not : (ns : Names) (d : ℕ) (o : OpAnswer) → NotMade o → NotMade (within ns d o)
 within_not ns d o own =
-    cond_both (has_dir ns d) _ _ NotMade (λ _. own) (λ _. cond_both (has_file ns d) replies_of.NotDir replies_of.Missing NotMade (λ _. tt) (λ _. tt))
+    cond_both (has_dir ns d) _ _ NotMade (λ _. own)
+    (λ _. cond_both (has_file ns d) replies_of.NotDir replies_of.Missing NotMade (λ _. tt) (λ _. tt))
 
 unlinked_not : (ns : Names) (x : Option Named) → NotMade (unlinked ns x)
 unlinked_not ns None = tt
-unlinked_not ns (Some x) = cond_both (x.is_dir && list_any (λ y. y.dir == x.ino) ns.entries) replies_of.NotEmpty replies_of.Gone NotMade (λ _. tt) (λ _. tt)
+unlinked_not ns (Some x) =
+    cond_both (x.is_dir && list_any (λ y. y.dir == x.ino) ns.entries) replies_of.NotEmpty replies_of.Gone NotMade (λ _. tt) (λ _. tt)
 
 renamed_not : (ns : Names) (d : ℕ) (name new : List ℕ) → NotMade (renamed ns d name new)
 renamed_not ns d name new =
-    cond_both (has_entry ns d name) _ _ NotMade (λ _. cond_both (has_entry ns d new) replies_of.Exists replies_of.Moved NotMade (λ _. tt) (λ _. tt)) (λ _. tt)
+    cond_both (has_entry ns d name) _ _ NotMade
+    (λ _. cond_both (has_entry ns d new) replies_of.Exists replies_of.Moved NotMade (λ _. tt) (λ _. tt)) (λ _. tt)
 
 found_not : (x : Option Named) → NotMade (found x)
 found_not None = tt
@@ -162,19 +165,24 @@ settles_member n m ns (x ∷ xs) i more low =
     (cases_lt x.tid m)
 
 module _ (p : ℕ) (h : List Entry) (run : IsRun p h) (t : ℕ) (o : OpAnswer) where
-  grown_now : (op : ReqOp) (got rest : List Asked) → asked h ≡ got ++ record { tid = t; op = op; answer = o } ∷ rest → client_made h ≡ asked_made got
-      → Grown (λ d. dirs_of (client_made h) (λ k. is_directory h k) d) (λ i. used_of (client_made h) (λ k. is_in_use h k) i) (made_by (Some op) o ++ asked_made rest)
+  grown_now : (op : ReqOp) (got rest : List Asked) → asked h ≡ got ++ record { tid = t; op = op; answer = o } ∷ rest
+      → client_made h ≡ asked_made got
+      → Grown (λ d. dirs_of (client_made h) (λ k. is_directory h k) d) (λ i. used_of (client_made h) (λ k. is_in_use h k) i)
+      (made_by (Some op) o ++ asked_made rest)
   grown_now op got rest front made =
       grown_behind (λ d. is_directory h d) (λ i. is_in_use h i) (client_made h) (made_by (Some op) o ++ asked_made rest)
       (subst (λ ms. Grown (λ d. is_directory h d) (λ i. is_in_use h i) ms)
-      (ap asked_made front ∙ (made_append got (record { tid = t; op = op; answer = o } ∷ rest) ∙ ap (λ ms. ms ++ (made_by (Some op) o ++ asked_made rest)) (sym made)))
+      (ap asked_made front
+      ∙ (made_append got (record { tid = t; op = op; answer = o } ∷ rest)
+      ∙ ap (λ ms. ms ++ (made_by (Some op) o ++ asked_made rest)) (sym made)))
       (asks_run p h run).grown)
 
   first_answer : NextAnswer h t o → FirstAnswer h t o
   first_answer next =
       let x : Asked = record { tid = t; op = next.op; answer = o } in
       let rest : List Asked = next.next.rest in
-      let settles : Settles 0 (setup_names h) (next.got ++ x ∷ rest) = subst (λ xs. Settles 0 (setup_names h) xs) next.next.front (asked_settles p h run) in
+      let settles : Settles 0 (setup_names h) (next.got ++ x ∷ rest)
+      = subst (λ xs. Settles 0 (setup_names h) xs) next.next.front (asked_settles p h run) in
       let own = settles_behind 0 (setup_names h) next.got (x ∷ rest) settles in
       let front : Settles 0 (setup_names h) next.got = settle_front 0 (setup_names h) next.got (x ∷ rest) settles in
       let op : op_of t (requests h) ≡ Some next.op
@@ -182,14 +190,19 @@ module _ (p : ℕ) (h : List Entry) (run : IsRun p h) (t : ℕ) (o : OpAnswer) w
       (subst (λ xs. Member x xs) (sym next.next.front) (member_right x next.got (x ∷ rest) (inl refl))) in
       record {
         earlier = λ n low less.
-            let k = tid_member n next.got (settles_member 0 n (setup_names h) next.got front low (omega (arith, less, own.0, settles_last 0 (setup_names h) next.got front))) in
+            let k
+            = tid_member n next.got
+            (settles_member 0 n (setup_names h) next.got front low
+            (omega (arith, less, own.0, settles_last 0 (setup_names h) next.got front))) in
             subst (λ m. has_reply m (replies h) ≡ true) k.2 (next.answered k.0 k.1);
         makes = λ i is.
             let b : MadeBy next.op i = made_one (stage (setup_names h) next.got) next.op i (sym own.1 ∙ is) in
             let g = subst
-            (λ ms. Grown (λ d. dirs_of (client_made h) (λ k. is_directory h k) d) (λ j. used_of (client_made h) (λ k. is_in_use h k) j) (ms ++ asked_made rest))
+            (λ ms. Grown (λ d. dirs_of (client_made h) (λ k. is_directory h k) d) (λ j. used_of (client_made h) (λ k. is_in_use h k) j)
+            (ms ++ asked_made rest))
             (ap (λ z. made_by (Some next.op) z) is ∙ b.is) (grown_now next.op next.got rest next.next.front next.made) in
-            let new : used_of (client_made h) (λ k. is_in_use h k) i ≡ false = subst (λ j. used_of (client_made h) (λ k. is_in_use h k) j ≡ false) b.ino g.0 in
+            let new : used_of (client_made h) (λ k. is_in_use h k) i ≡ false
+            = subst (λ j. used_of (client_made h) (λ k. is_in_use h k) j ≡ false) b.ino g.0 in
             subst (λ z. NewMade h z i) (sym op)
             (record {
               made = b.made;
@@ -206,20 +219,24 @@ module _ (p : ℕ) (h : List Entry) (run : IsRun p h) (t : ℕ) (o : OpAnswer) w
       let told = all_told p h run (messages.Unsafe t o ttl) (member_first (messages.Unsafe t o ttl) q (to_client h) is) in
       let x : Asked = record { tid = t; op = told.0; answer = o } in
       let stands = asked_stands p h run in
-      let there : Member x (asked h) = subst (λ xs. Member x xs) (sym stands.front) (member_left x (asked_of (stand h)) stands.missing told.1) in
+      let there : Member x (asked h)
+      = subst (λ xs. Member x xs) (sym stands.front) (member_left x (asked_of (stand h)) stands.missing told.1) in
       record {
         sent = was_sent (requests h) (asked h) x (asked_alike p h run) there;
         first = λ new. first_answer (next_answer p h run t o ttl q is new);
         again = λ r old same.
             let right = answer_right p h run r old in
             ap (λ (z : Asked). z.answer)
-            (same_tid 0 (record { tid = r.tid; op = right.0; answer = r.answer }) x (asked h) (settles_rises 0 (setup_names h) (asked h) (asked_settles p h run)) right.1 there same);
+            (same_tid 0 (record { tid = r.tid; op = right.0; answer = r.answer }) x (asked h)
+            (settles_rises 0 (setup_names h) (asked h) (asked_settles p h run)) right.1 there same);
       }
 
-pub safe_next : (p : ℕ) (h : List Entry) → IsRun p h → (t : ℕ) (q : List Message) → to_client h ≡ messages.Safe t ∷ q → has_request t (requests h) ≡ true
+pub safe_next : (p : ℕ) (h : List Entry) → IsRun p h → (t : ℕ) (q : List Message) → to_client h ≡ messages.Safe t ∷ q
+    → has_request t (requests h) ≡ true
 safe_next p h run t q is =
     let stands = asked_stands p h run in
     let k = tid_member t (asked_of (durable h)) (all_told p h run (messages.Safe t) (member_first (messages.Safe t) q (to_client h) is)) in
     subst (λ n. has_request n (requests h) ≡ true) k.2
     (was_sent (requests h) (asked h) k.0 (asked_alike p h run)
-    (subst (λ xs. Member k.0 xs) (sym stands.front) (member_left k.0 (asked_of (stand h)) stands.missing (more_stand (durable h) (fresh h) k.0 k.1))))
+    (subst (λ xs. Member k.0 xs) (sym stands.front)
+    (member_left k.0 (asked_of (stand h)) stands.missing (more_stand (durable h) (fresh h) k.0 k.1))))

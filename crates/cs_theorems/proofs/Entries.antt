@@ -24,7 +24,8 @@ named_so : (d e : ℕ) (name other : List ℕ) → e ≡ d → other ≡ name �
 named_so d e name other dir same = and_from (e == d) (bytes_eq other name) (eq-eqb e d dir) ((bytes_eq-Decides other name).1 same)
 
 -- an entry that is at one place isn't at another
-elsewhere : (d e : ℕ) (name other : List ℕ) (x : Named) → is_named d name e other ≡ false → is_entry d name x ≡ true → not (is_entry e other x) ≡ true
+elsewhere : (d e : ℕ) (name other : List ℕ) (x : Named) → is_named d name e other ≡ false → is_entry d name x ≡ true
+    → not (is_entry e other x) ≡ true
 elsewhere d e name other x apart here =
     ap not
     (false_from_ne_true (is_entry e other x)
@@ -55,7 +56,8 @@ found_left p q [] keeps = refl
 found_left p q (y ∷ ys) keeps =
     cond_both (q y) (y ∷ filter q ys) (filter q ys) (λ zs. find p zs ≡ find p (y ∷ ys))
     (λ _. ap (λ o. cond (p y) (Some y) o) (found_left p q ys keeps))
-    (λ out. found_left p q ys keeps ∙ sym (cond-false (p y) (Some y) (find p ys) (false_from_ne_true (p y) (λ is. both_ways (q y) out (keeps y is)))))
+    (λ out. found_left p q ys keeps
+    ∙ sym (cond-false (p y) (Some y) (find p ys) (false_from_ne_true (p y) (λ is. both_ways (q y) out (keeps y is)))))
 
 found_passes : (p : Named → Bool) (es : List Named) (x : Named) → find p es ≡ Some x → p x ≡ true
 found_passes p [] x is = absurd cc
@@ -65,7 +67,8 @@ found_passes p (y ∷ ys) x is = at (p y) refl is (λ there. found_passes p ys x
     at true own same rest = let k : y ≡ x = cc in subst (λ z. p z ≡ true) k own
     at false own there rest = rest there
 
-found_without : (d e : ℕ) (name other : List ℕ) (es : List Named) → is_named d name e other ≡ false → find (is_entry d name) (without_entry e other es) ≡ find (is_entry d name) es
+found_without : (d e : ℕ) (name other : List ℕ) (es : List Named) → is_named d name e other ≡ false
+    → find (is_entry d name) (without_entry e other es) ≡ find (is_entry d name) es
 found_without d e name other es apart =
     found_left (is_entry d name) (λ x. not (is_entry e other x)) es (λ x here. elsewhere d e name other x apart here)
 
@@ -79,11 +82,13 @@ found_moved ns d e name other new apart away = at (entry_at ns e other) refl
     at None none = refl
     at (Some x) is =
         let k = same_place e x.dir other x.name (found_passes (is_entry e other) ns.entries x is) in
-        found_old (is_entry d name) (record x { name = new }) (without_entry x.dir x.name ns.entries) (subst (λ j. is_named d name j new ≡ false) (sym k.0) away)
+        found_old (is_entry d name) (record x { name = new }) (without_entry x.dir x.name ns.entries)
+        (subst (λ j. is_named d name j new ≡ false) (sym k.0) away)
         ∙ found_without d x.dir name x.name ns.entries
         (subst (λ j. is_named d name j x.name ≡ false) (sym k.0) (subst (λ l. is_named d name e l ≡ false) (sym k.1) apart))
 
-answer_leaves : (ns : Names) (op : ReqOp) (o : OpAnswer) (d : ℕ) (name : List ℕ) → names_entry op d name ≡ false → entry_at (after_answer op o ns) d name ≡ entry_at ns d name
+answer_leaves : (ns : Names) (op : ReqOp) (o : OpAnswer) (d : ℕ) (name : List ℕ) → names_entry op d name ≡ false
+    → entry_at (after_answer op o ns) d name ≡ entry_at ns d name
 answer_leaves ns (ops.Mkdir e other) (replies.Made i) d name apart = found_old (is_entry d name) _ ns.entries apart
 answer_leaves ns (ops.Create e other) (replies.Made i) d name apart = found_old (is_entry d name) _ ns.entries apart
 answer_leaves ns (ops.Unlink e other) replies.Gone d name apart = found_without d e name other ns.entries apart
@@ -91,7 +96,8 @@ answer_leaves ns (ops.Rename e other new) replies.Moved d name apart =
     let parts = or_parts (is_named d name e other) (is_named d name e new) apart in found_moved ns d e name other new parts.0 parts.1
 answer_leaves ns _ _ d name apart = refl
 
-pub stage_leaves : (ns : Names) (xs : List Asked) (d : ℕ) (name : List ℕ) → Each (λ x. names_entry x.op d name ≡ false) xs → entry_at (stage ns xs) d name ≡ entry_at ns d name
+pub stage_leaves : (ns : Names) (xs : List Asked) (d : ℕ) (name : List ℕ) → Each (λ x. names_entry x.op d name ≡ false) xs
+    → entry_at (stage ns xs) d name ≡ entry_at ns d name
 stage_leaves ns [] d name all = refl
 stage_leaves ns (x ∷ xs) d name all =
     stage_leaves (after ns x.op) xs d name (each_tail (λ y. names_entry y.op d name ≡ false) x xs all)
@@ -109,12 +115,16 @@ module _ (ns : Names) (d e : ℕ) (name other : List ℕ) (i : ℕ) (here : is_n
       subst (λ l. has_entry ns d l ≡ false) k.1 (subst (λ j. has_entry ns j other ≡ false) k.0 none)
 
   made_tells : (op : ReqOp) (is_dir : Bool)
-      → ((n : ℕ) → (after_answer op (replies.Made n) ns).entries ≡ with_entry (record { dir = e; name = other; ino = n; is_dir = is_dir }) ns.entries)
+      → ((n : ℕ) → (after_answer op (replies.Made n) ns).entries ≡ with_entry
+      (record { dir = e; name = other; ino = n; is_dir = is_dir }) ns.entries)
       → ino_in (within ns e (made_at ns e other)) ≡ Some i → ino_at (after_answer op (within ns e (made_at ns e other)) ns) d name ≡ Some i
   made_tells op is_dir makes told = at (has_dir ns e) (has_file ns e) (has_entry ns e other) refl told
     where
-      at : (b f x : Bool) → has_entry ns e other ≡ x → ino_in (cond b (cond x replies.Exists (replies.Made (next_ino ns))) (cond f replies.NotDir replies.Missing)) ≡ Some i
-          → ino_at (after_answer op (cond b (cond x replies.Exists (replies.Made (next_ino ns))) (cond f replies.NotDir replies.Missing)) ns) d name ≡ Some i
+      at : (b f x : Bool) → has_entry ns e other ≡ x
+          → ino_in (cond b (cond x replies.Exists (replies.Made (next_ino ns))) (cond f replies.NotDir replies.Missing)) ≡ Some i
+          → ino_at
+          (after_answer op
+          (cond b (cond x replies.Exists (replies.Made (next_ino ns))) (cond f replies.NotDir replies.Missing)) ns) d name ≡ Some i
       at true f true there none = absurd cc
       at true f false new same =
           ap (λ es. option_map (λ (x : Named). x.ino) (find (is_entry d name) es)) (makes (next_ino ns))
@@ -125,15 +135,18 @@ module _ (ns : Names) (d e : ℕ) (name other : List ℕ) (i : ℕ) (here : is_n
   found_tells : ino_in (within ns e (found (entry_at ns e other))) ≡ Some i → ino_at ns d name ≡ Some i
   found_tells told =
       let k = same_place d e name other here in
-      subst (λ l. ino_at ns d l ≡ Some i) k.1 (subst (λ j. ino_at ns j other ≡ Some i) k.0 (at (has_dir ns e) (has_file ns e) (entry_at ns e other) told))
+      subst (λ l. ino_at ns d l ≡ Some i) k.1
+      (subst (λ j. ino_at ns j other ≡ Some i) k.0 (at (has_dir ns e) (has_file ns e) (entry_at ns e other) told))
     where
-      at : (b f : Bool) (o : Option Named) → ino_in (cond b (found o) (cond f replies.NotDir replies.Missing)) ≡ Some i → option_map (λ x. x.ino) o ≡ Some i
+      at : (b f : Bool) (o : Option Named) → ino_in (cond b (found o) (cond f replies.NotDir replies.Missing)) ≡ Some i
+          → option_map (λ x. x.ino) o ≡ Some i
       at true f None none = absurd cc
       at true f (Some x) same = same
       at false true o none = absurd cc
       at false false o none = absurd cc
 
-pub after_tells : (ns : Names) (op : ReqOp) (d : ℕ) (name : List ℕ) (i : ℕ) → asks_for (Some op) d name ≡ true → ino_in (answer_on ns op) ≡ Some i
+pub after_tells : (ns : Names) (op : ReqOp) (d : ℕ) (name : List ℕ) (i : ℕ) → asks_for (Some op) d name ≡ true
+    → ino_in (answer_on ns op) ≡ Some i
     → ino_at (after ns op) d name ≡ Some i
 after_tells ns (ops.Mkdir e other) d name i here told = made_tells ns d e name other i here (ops.Mkdir e other) true (λ n. refl) told
 after_tells ns (ops.Create e other) d name i here told = made_tells ns d e name other i here (ops.Create e other) false (λ n. refl) told

@@ -47,13 +47,15 @@ LeaseIs xs rs d name None = Unit {0}
 LeaseIs xs rs d name (Some l) = LeaseOf xs rs d name l
 
 -- an answer more
-lease_told : (xs : List Asked) (rs : List Reply) (r : Reply) (d : ℕ) (name : List ℕ) (o : Option Lease) → LeaseIs xs rs d name o → LeaseIs xs (rs ++ r ∷ []) d name o
+lease_told : (xs : List Asked) (rs : List Reply) (r : Reply) (d : ℕ) (name : List ℕ) (o : Option Lease) → LeaseIs xs rs d name o
+    → LeaseIs xs (rs ++ r ∷ []) d name o
 lease_told xs rs r d name None i = tt
 lease_told xs rs r d name (Some l) i =
     record { request = i.request; there = i.there; told = reply_stays i.request.tid r rs i.told; asks = i.asks; ino = i.ino; last = i.last }
 
 -- a request more that doesn't name the entry
-lease_asked : (xs : List Asked) (rs : List Reply) (x : Asked) (d : ℕ) (name : List ℕ) (o : Option Lease) → names_entry x.op d name ≡ false → LeaseIs xs rs d name o
+lease_asked : (xs : List Asked) (rs : List Reply) (x : Asked) (d : ℕ) (name : List ℕ) (o : Option Lease) → names_entry x.op d name ≡ false
+    → LeaseIs xs rs d name o
     → LeaseIs (xs ++ x ∷ []) rs d name o
 lease_asked xs rs x d name None apart i = tt
 lease_asked xs rs x d name (Some l) apart i = record {
@@ -85,17 +87,22 @@ none_later h t d name alike none y there more =
 lease_new : (h : List Entry) (t : ℕ) (o : OpAnswer) (op : ReqOp) (d : ℕ) (name : List ℕ) → AskedAlike h → AskedSettles h
     → Member (record { tid = t; op = op; answer = o }) (asked h) → AllLeased h
     → LeaseIs (asked h) (replies h ++ record { tid = t; answer = o } ∷ []) d name
-    (cond (asks_for (op_of t (requests h)) d name && not (is_named_later t d name (requests h))) (taken (ino_in o) (clock h) (lease h d name)) (lease h d name))
+    (cond (asks_for (op_of t (requests h)) d name && not (is_named_later t d name (requests h)))
+    (taken (ino_in o) (clock h) (lease h d name)) (lease h d name))
 lease_new h t o op d name alike settles there i =
     let x : Asked = record { tid = t; op = op; answer = o } in
     let was = lease_told (asked h) (replies h) (record { tid = t; answer = o }) d name (lease h d name) (i d name) in
-    cond_both (asks_for (op_of t (requests h)) d name && not (is_named_later t d name (requests h))) (taken (ino_in o) (clock h) (lease h d name)) (lease h d name)
+    cond_both (asks_for (op_of t (requests h)) d name && not (is_named_later t d name (requests h)))
+    (taken (ino_in o) (clock h) (lease h d name)) (lease h d name)
     (λ l. LeaseIs (asked h) (replies h ++ record { tid = t; answer = o } ∷ []) d name l)
     (λ both.
     let parts = and_parts (asks_for (op_of t (requests h)) d name) (not (is_named_later t d name (requests h))) both in
     at was
-    (subst (λ k. asks_for k d name ≡ true) (op_found 0 (requests h) (asked h) x (settles_rises 0 (setup_names h) (asked h) settles) alike there) parts.0)
-    (none_later h t d name alike (false_from_ne_true (is_named_later t d name (requests h)) (λ is. both_ways (not (is_named_later t d name (requests h))) (ap not is) parts.1)))
+    (subst (λ k. asks_for k d name ≡ true)
+    (op_found 0 (requests h) (asked h) x (settles_rises 0 (setup_names h) (asked h) settles) alike there) parts.0)
+    (none_later h t d name alike
+    (false_from_ne_true (is_named_later t d name (requests h))
+    (λ is. both_ways (not (is_named_later t d name (requests h))) (ap not is) parts.1)))
     (ino_in o) refl)
     (λ _. was)
   where
@@ -127,13 +134,15 @@ step_client h x (first_unsafe tid o ttl q is) alike settles stands told i = λ d
     (subst (λ xs. Member (record { tid = tid; op = own.0; answer = o }) xs) (sym stands.front)
     (member_left (record { tid = tid; op = own.0; answer = o }) (asked_of (stand h)) stands.missing own.1)) i
 
-step_req : (h : List Entry) (c : ℕ) (op : ReqOp) (tid : ℕ) → AllLeased h → AllLeased (record { event = e.Req c op; answer = a.Sent tid } ∷ h)
+step_req : (h : List Entry) (c : ℕ) (op : ReqOp) (tid : ℕ) → AllLeased h
+    → AllLeased (record { event = e.Req c op; answer = a.Sent tid } ∷ h)
 step_req h c op tid i = λ d name.
     let x : Asked = record { tid = tid; op = op; answer = answer_on (stage (setup_names h) (asked h)) op } in
     cond_both (names_entry op d name) None (lease h d name) (λ l. LeaseIs (asked h ++ x ∷ []) (replies h) d name l)
     (λ _. tt) (λ apart. lease_asked (asked h) (replies h) x d name (lease h d name) apart (i d name))
 
-leased_step : (p : ℕ) (h : List Entry) (x : Event) → AskedAlike h → AskedSettles h → AskedStands h → AllTold h → AllLeased h → AllLeased (entry p h x ∷ h)
+leased_step : (p : ℕ) (h : List Entry) (x : Event) → AskedAlike h → AskedSettles h → AskedStands h → AllTold h → AllLeased h
+    → AllLeased (entry p h x ∷ h)
 leased_step p h e.ToClient alike settles stands told i = step_client h _ (first_is h) alike settles stands told i
 leased_step p h (e.Req c op) alike settles stands told i = step_req h c op _ i
 leased_step p h _ alike settles stands told i = i
@@ -141,7 +150,8 @@ leased_step p h _ alike settles stands told i = i
 pub all_leased : (p : ℕ) (h : List Entry) → IsRun p h → AllLeased h
 all_leased p h run =
     of_run p AllLeased (λ d name. tt)
-    (λ g x fit before i. leased_step p g x (asked_alike p g before) (asked_settles p g before) (asked_stands p g before) (all_told p g before) i) h run
+    (λ g x fit before i. leased_step p g x (asked_alike p g before) (asked_settles p g before) (asked_stands p g before)
+    (all_told p g before) i) h run
 
 -- What it says of the namespace
 
@@ -160,7 +170,8 @@ stage_append ns [] ys = refl
 stage_append ns (x ∷ xs) ys = stage_append (after ns x.op) xs ys
 
 -- a request that told of an entry that no later one names
-tells : (ns : Names) (st : List Asked) (x : Asked) (d : ℕ) (name : List ℕ) (i : ℕ) → Settles 0 ns st → Member x st → asks_for (Some x.op) d name ≡ true → ino_in x.answer ≡ Some i
+tells : (ns : Names) (st : List Asked) (x : Asked) (d : ℕ) (name : List ℕ) (i : ℕ) → Settles 0 ns st → Member x st
+    → asks_for (Some x.op) d name ≡ true → ino_in x.answer ≡ Some i
     → Each (λ y. x.tid < y.tid → names_entry y.op d name ≡ false) st → ino_at (stage ns st) d name ≡ Some i
 tells ns st x d name i settles there asks ino last =
     let k = around x st there in
@@ -175,7 +186,8 @@ tells ns st x d name i settles there asks ino last =
     ∙ after_tells (stage ns k.before) x.op d name i asks (ap ino_in (sym own.1) ∙ ino)))
 
 -- a request with an answer stands, while the session is active
-answered_stands : (p : ℕ) (h : List Entry) → IsRun p h → is_active (server_state h) ≡ true → (x : Asked) → Member x (asked h) → has_reply x.tid (replies h) ≡ true
+answered_stands : (p : ℕ) (h : List Entry) → IsRun p h → is_active (server_state h) ≡ true → (x : Asked) → Member x (asked h)
+    → has_reply x.tid (replies h) ≡ true
     → Member x (asked_of (stand h))
 answered_stands p h run active x there told =
     let stands = asked_stands p h run in
@@ -184,10 +196,12 @@ answered_stands p h run active x there told =
     let y : Asked = record { tid = r.tid; op = right.0; answer = r.answer } in
     subst (λ z. Member z (asked_of (stand h)))
     (same_tid 0 y x (asked h) (settles_rises 0 (setup_names h) (asked h) (asked_settles p h run))
-    (subst (λ xs. Member y xs) (sym stands.front) (member_left y (asked_of (stand h)) stands.missing right.1)) there (eqb-true r.tid x.tid same))
+    (subst (λ xs. Member y xs) (sym stands.front) (member_left y (asked_of (stand h)) stands.missing right.1)) there
+    (eqb-true r.tid x.tid same))
     right.1
 
-lease_stands : (p : ℕ) (h : List Entry) → IsRun p h → is_active (server_state h) ≡ true → (d : ℕ) (name : List ℕ) (l : Lease) → LeaseOf (asked h) (replies h) d name l
+lease_stands : (p : ℕ) (h : List Entry) → IsRun p h → is_active (server_state h) ≡ true → (d : ℕ) (name : List ℕ) (l : Lease)
+    → LeaseOf (asked h) (replies h) d name l
     → ino_at (names h) d name ≡ Some l.ino
 lease_stands p h run active d name l i =
     let stands = asked_stands p h run in

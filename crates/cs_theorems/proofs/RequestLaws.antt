@@ -43,7 +43,8 @@ stands_once p h run x there = record {
 abbrev SavedAreDurable : List Entry → Type 0
 SavedAreDurable h = (t : ℕ) → is_saved h t ≡ true → Member t (asked_tids (asked_of (durable h)))
 
-step_client : (h : List Entry) (x : Answer) → FirstIs h x → AllTold h → SavedAreDurable h → SavedAreDurable (record { event = e.ToClient; answer = x } ∷ h)
+step_client : (h : List Entry) (x : Answer) → FirstIs h x → AllTold h → SavedAreDurable h
+    → SavedAreDurable (record { event = e.ToClient; answer = x } ∷ h)
 step_client h x first_idle told i = i
 step_client h x (first_cap g seq bits end q is) told i = i
 step_client h x (first_flush_ack g tid q is) told i = i
@@ -52,7 +53,8 @@ step_client h x (first_unlease d name q is) told i = i
 step_client h x (first_snap number realm now q is) told i = i
 step_client h x (first_safe tid q is) told i = λ t.
     cond_both (tid == t) true (is_saved h t) (λ b. b ≡ true → Member t (asked_tids (asked_of (durable h))))
-    (λ same _. subst (λ n. Member n (asked_tids (asked_of (durable h)))) (eqb-true tid t same) (told (messages.Safe tid) (member_first (messages.Safe tid) q (to_client h) is)))
+    (λ same _. subst (λ n. Member n (asked_tids (asked_of (durable h)))) (eqb-true tid t same)
+    (told (messages.Safe tid) (member_first (messages.Safe tid) q (to_client h) is)))
     (λ _. i t)
 
 saved_step : (p : ℕ) (h : List Entry) (x : Event) → AllTold h → SavedAreDurable h → SavedAreDurable (entry p h x ∷ h)
@@ -78,7 +80,8 @@ durable_grows (x ∷ new) before =
 durable_later : (new before : List Entry) (x : Asked) → Member x (asked_of (durable before)) → Member x (asked_of (stand (new ++ before)))
 durable_later new before x there =
     let k = durable_grows new before in
-    more_stand (durable (new ++ before)) (fresh (new ++ before)) x (subst (λ rs. Member x (asked_of rs)) (sym k.1) (more_stand (durable before) k.0 x there))
+    more_stand (durable (new ++ before)) (fresh (new ++ before)) x
+    (subst (λ rs. Member x (asked_of rs)) (sym k.1) (more_stand (durable before) k.0 x there))
 
 -- The laws
 
@@ -102,7 +105,8 @@ requests_once p h run = record {
 
 answered_stand : (p : ℕ) (h : List Entry) → IsRun p h → AnsweredStand h
 answered_stand p h run active r there =
-    let right = answer_stands p h run active r there in stands_once p h run (record { tid = r.tid; op = right.0; answer = r.answer }) right.1
+    let right
+    = answer_stands p h run active r there in stands_once p h run (record { tid = r.tid; op = right.0; answer = r.answer }) right.1
 
 pub replies_stand : (p : ℕ) (h : List Entry) → IsRun p h → RepliesStand h
 replies_stand p h run = in_every_prefix p AnsweredStand (λ g is. answered_stand p g is) h run
