@@ -67,7 +67,8 @@ unsafe_append q r = filter_map-append unsafe_on q r
 
 no_unsafe : (q : List Message) → Each (λ m. unsafe_on m ≡ None) q → unsafe_tids q ≡ []
 no_unsafe [] none = refl
-no_unsafe (m ∷ q) none = ap (λ o. cons_option o (unsafe_tids q)) (none m (inl refl)) ∙ no_unsafe q (each_tail (λ k. unsafe_on k ≡ None) m q none)
+no_unsafe (m ∷ q) none =
+    ap (λ o. cons_option o (unsafe_tids q)) (none m (inl refl)) ∙ no_unsafe q (each_tail (λ k. unsafe_on k ≡ None) m q none)
 
 no_unsafe_news : (before : List Record) (realms : List RealmRecord) (b : RecordBody) → unsafe_on (news_of before realms b) ≡ None
 no_unsafe_news before realms (bodies.Request tid op answer) = refl
@@ -107,13 +108,15 @@ pub record Telling (whole active : Bool) (xs st : List Asked) (rs : List Reply) 
   pub stands : active ≡ true → (more : List Asked) × (st ≡ got ++ more)
 
 -- the next one is asked
-telling_asked : {whole active : Bool} {xs st : List Asked} {rs : List Reply} {ms : List Made} {q p : List Message} (x : Asked) → last_asked xs < x.tid
+telling_asked : {whole active : Bool} {xs st : List Asked} {rs : List Reply} {ms : List Made} {q p : List Message} (x : Asked)
+    → last_asked xs < x.tid
     → Telling whole active xs st rs ms q p → Telling whole active (xs ++ x ∷ []) st rs ms q (p ++ messages.Req x.tid None x.op ∷ [])
 telling_asked {whole = whole} {xs = xs} {q = q} {p = p} x next i = record {
   got = i.got;
   missing = i.missing ++ x ∷ [];
   front = ap (λ ys. ys ++ x ∷ []) i.front ∙ append_assoc i.got i.missing (x ∷ []);
-  numbers = beside (asked_tids (xs ++ x ∷ [])) (asked_tids i.got) (unsafe_tids q ++ req_tids (p ++ m ∷ [])) (sym (tids_append xs (x ∷ []))) refl
+  numbers =
+      beside (asked_tids (xs ++ x ∷ [])) (asked_tids i.got) (unsafe_tids q ++ req_tids (p ++ m ∷ [])) (sym (tids_append xs (x ∷ []))) refl
       (append_assoc (unsafe_tids q) (req_tids p) (x.tid ∷ []) ∙ ap (λ ts. unsafe_tids q ++ ts) (sym (req_append p (m ∷ []))))
       (replays.send (λ t. t) whole (asked_tids xs) (asked_tids i.got) (unsafe_tids q ++ req_tids p) x.tid next i.numbers);
   right = i.right;
@@ -127,7 +130,8 @@ telling_asked {whole = whole} {xs = xs} {q = q} {p = p} x next i = record {
 
 -- the same numbers are on their way
 telling_moved : {whole active : Bool} {xs st : List Asked} {rs : List Reply} {ms : List Made} {q p : List Message} (r s : List Message)
-    → unsafe_tids q ++ req_tids p ≡ unsafe_tids r ++ req_tids s → Telling whole active xs st rs ms q p → Telling whole active xs st rs ms r s
+    → unsafe_tids q ++ req_tids p ≡ unsafe_tids r ++ req_tids s → Telling whole active xs st rs ms q p
+    → Telling whole active xs st rs ms r s
 telling_moved {whole = whole} {xs = xs} r s same i = record {
   got = i.got;
   missing = i.missing;
@@ -140,9 +144,11 @@ telling_moved {whole = whole} {xs = xs} r s same i = record {
 }
 
 -- the same stand
-telling_stand : {whole active : Bool} {xs st : List Asked} {rs : List Reply} {ms : List Made} {q p : List Message} (rt : List Asked) → st ≡ rt
+telling_stand : {whole active : Bool} {xs st : List Asked} {rs : List Reply} {ms : List Made} {q p : List Message} (rt : List Asked)
+    → st ≡ rt
     → Telling whole active xs st rs ms q p → Telling whole active xs rt rs ms q p
-telling_stand {whole = whole} {active = active} {xs = xs} {rs = rs} {ms = ms} {q = q} {p = p} rt same i = subst (λ l. Telling whole active xs l rs ms q p) same i
+telling_stand {whole = whole} {active = active} {xs = xs} {rs = rs} {ms = ms} {q = q} {p = p} rt same i =
+    subst (λ l. Telling whole active xs l rs ms q p) same i
 
 -- more stand
 telling_more : {whole active : Bool} {xs st : List Asked} {rs : List Reply} {ms : List Made} {q p : List Message} (ys : List Asked)
@@ -158,10 +164,10 @@ telling_more ys i = record {
   stands = λ is. let k = i.stands is in (k.0 ++ ys, ap (λ l. l ++ ys) k.1 ∙ append_assoc i.got k.0 ys);
 }
 
-reply_there : (r : Reply) (rs : List Reply) → has_reply r.tid (rs ++ r ∷ []) ≡ true
+pub reply_there : (r : Reply) (rs : List Reply) → has_reply r.tid (rs ++ r ∷ []) ≡ true
 reply_there r rs = any_true (λ k. k.tid == r.tid) (rs ++ r ∷ []) r (member_end r rs) (eq-eqb r.tid r.tid refl)
 
-reply_stays : (t : ℕ) (r : Reply) (rs : List Reply) → has_reply t rs ≡ true → has_reply t (rs ++ r ∷ []) ≡ true
+pub reply_stays : (t : ℕ) (r : Reply) (rs : List Reply) → has_reply t rs ≡ true → has_reply t (rs ++ r ∷ []) ≡ true
 reply_stays t r rs is = list_any-append (λ k. k.tid == t) rs (r ∷ []) ∙ or_left (has_reply t rs) _ is
 
 right_more : (xs ys : List Asked) (r : Reply) → IsRight xs r → IsRight (xs ++ ys) r
@@ -177,8 +183,10 @@ longer_front got (z ∷ zs) st ms ys y is front none =
     (zs, is ∙ (ap (λ k. got ++ k ∷ zs) same ∙ sym (append_assoc got (y ∷ []) zs)))
 
 -- An answer is delivered.
-module _ (active : Bool) (xs st ms_left : List Asked) (rs : List Reply) (ms : List Made) (q p : List Message) (requests : List Request) (t : ℕ) (o : OpAnswer) (ttl : ℕ)
-    (front : xs ≡ st ++ ms_left) (up : RisesFrom 0 (asked_tids xs)) (alike : Alike requests xs) (told : IsTold st [] (messages.Unsafe t o ttl))
+module _ (active : Bool) (xs st ms_left : List Asked) (rs : List Reply) (ms : List Made) (q p : List Message) (requests : List Request)
+    (t : ℕ) (o : OpAnswer) (ttl : ℕ)
+    (front : xs ≡ st ++ ms_left) (up : RisesFrom 0 (asked_tids xs)) (alike : Alike requests xs)
+    (told : IsTold st [] (messages.Unsafe t o ttl))
     (i : Telling true active xs st rs ms (messages.Unsafe t o ttl ∷ q) p) where
   abbrev answered_one : Asked
   answered_one = record { tid = t; op = told.0; answer = o }
@@ -193,13 +201,15 @@ module _ (active : Bool) (xs st ms_left : List Asked) (rs : List Reply) (ms : Li
   got_one : Member t (asked_tids i.got) → Member answered_one i.got
   got_one there =
       let k = tid_member t i.got there in
-      subst (λ z. Member z i.got) (same_tid 0 k.0 answered_one xs up (subst (λ l. Member k.0 l) (sym i.front) (member_left k.0 i.got i.missing k.1)) was_asked k.2) k.1
+      subst (λ z. Member z i.got)
+      (same_tid 0 k.0 answered_one xs up (subst (λ l. Member k.0 l) (sym i.front) (member_left k.0 i.got i.missing k.1)) was_asked k.2) k.1
 
   replied : has_reply t rs ≡ true → Member t (asked_tids i.got)
   replied is =
       let (r, there, same) = any_some (λ k. k.tid == t) rs is in
       let own = i.right r there in
-      subst (λ n. Member n (asked_tids i.got)) (eqb-true r.tid t same) (member_tid (record { tid = r.tid; op = own.0; answer = r.answer }) i.got own.1)
+      subst (λ n. Member n (asked_tids i.got)) (eqb-true r.tid t same)
+      (member_tid (record { tid = r.tid; op = own.0; answer = r.answer }) i.got own.1)
 
   got_replied : Member t (asked_tids i.got) → has_reply t rs ≡ true
   got_replied there = i.answered answered_one (got_one there)
@@ -208,14 +218,16 @@ module _ (active : Bool) (xs st ms_left : List Asked) (rs : List Reply) (ms : Li
   numbers = i.numbers
 
   last_got : Member t (asked_tids i.got) → t ≤ last_asked i.got
-  last_got there = member_upto (λ n. n) 0 t (asked_tids i.got) (replays.stands_rise (λ n. n) true (asked_tids xs) (asked_tids i.got) _ numbers) there
+  last_got there =
+      member_upto (λ n. n) 0 t (asked_tids i.got) (replays.stands_rise (λ n. n) true (asked_tids xs) (asked_tids i.got) _ numbers) there
 
   replied_again : has_reply t rs ≡ true → Telling true active xs st (rs ++ reply ∷ []) ms q p
   replied_again is = record {
     got = i.got;
     missing = i.missing;
     front = i.front;
-    numbers = (replays.repeat (λ n. n) true (asked_tids xs) (asked_tids i.got) (unsafe_tids q ++ req_tids p) t (last_got (replied is)) numbers).0;
+    numbers = (replays.repeat (λ n. n) true (asked_tids xs) (asked_tids i.got) (unsafe_tids q ++ req_tids p) t
+        (last_got (replied is)) numbers).0;
     right = each_end (λ r. IsRight i.got r) rs reply i.right (told.0, got_one (replied is));
     answered = λ x there. reply_stays x.tid reply rs (i.answered x there);
     made = i.made;
@@ -228,7 +240,8 @@ module _ (active : Bool) (xs st ms_left : List Asked) (rs : List Reply) (ms : Li
   above_got : has_reply t rs ≡ false → last_asked i.got < t
   above_got is = ⊎_elim
       (λ less. less)
-      (λ low. absurd (not_got is (replays.repeat (λ n. n) true (asked_tids xs) (asked_tids i.got) (unsafe_tids q ++ req_tids p) t low numbers).1))
+      (λ low. absurd
+      (not_got is (replays.repeat (λ n. n) true (asked_tids xs) (asked_tids i.got) (unsafe_tids q ++ req_tids p) t low numbers).1))
       (cases_lt (last_asked i.got) t)
 
   -- it is the answer to the first request without one
@@ -237,7 +250,8 @@ module _ (active : Bool) (xs st ms_left : List Asked) (rs : List Reply) (ms : Li
       let k : FirstOf t i.missing = first_missing xs i.got i.missing (unsafe_tids q ++ req_tids p) t (above_got is) i.front numbers in
       let found : xs ≡ i.got ++ k.first ∷ k.rest = i.front ∙ ap (λ l. i.got ++ l) k.is in
       let same : k.first ≡ answered_one
-      = same_tid 0 k.first answered_one xs up (subst (λ l. Member k.first l) (sym found) (member_right k.first i.got (k.first ∷ k.rest) (inl refl))) was_asked k.tid in
+      = same_tid 0 k.first answered_one xs up
+      (subst (λ l. Member k.first l) (sym found) (member_right k.first i.got (k.first ∷ k.rest) (inl refl))) was_asked k.tid in
       record { rest = k.rest; front = found ∙ ap (λ z. i.got ++ z ∷ k.rest) same }
 
   made_more : ms ++ made_by (op_of t requests) o ≡ asked_made (i.got ++ answered_one ∷ [])
@@ -253,17 +267,25 @@ module _ (active : Bool) (xs st ms_left : List Asked) (rs : List Reply) (ms : Li
         got = i.got ++ answered_one ∷ [];
         missing = k.rest;
         front = k.front ∙ sym (append_assoc i.got (answered_one ∷ []) k.rest);
-        numbers = beside (asked_tids xs) (asked_tids (i.got ++ answered_one ∷ [])) (unsafe_tids q ++ req_tids p) refl (sym (tids_append i.got (answered_one ∷ []))) refl
+        numbers =
+            beside (asked_tids xs) (asked_tids (i.got ++ answered_one ∷ [])) (unsafe_tids q ++ req_tids p) refl
+            (sym (tids_append i.got (answered_one ∷ []))) refl
             (replays.arrive (λ n. n) (asked_tids xs) (asked_tids i.got) (unsafe_tids q ++ req_tids p) t (above_got is) numbers);
-        right = each_end (λ r. IsRight (i.got ++ answered_one ∷ []) r) rs reply (λ r there. right_more i.got (answered_one ∷ []) r (i.right r there))
+        right =
+            each_end (λ r. IsRight (i.got ++ answered_one ∷ []) r) rs reply
+            (λ r there. right_more i.got (answered_one ∷ []) r (i.right r there))
             (told.0, member_end answered_one i.got);
-        answered = each_end (λ x. has_reply x.tid (rs ++ reply ∷ []) ≡ true) i.got answered_one (λ x there. reply_stays x.tid reply rs (i.answered x there))
+        answered =
+            each_end (λ x. has_reply x.tid (rs ++ reply ∷ []) ≡ true) i.got answered_one
+            (λ x there. reply_stays x.tid reply rs (i.answered x there))
             (reply_there reply rs);
         made = made_more;
         stands = λ active_is.
             let s = i.stands active_is in
             longer_front i.got s.0 st ms_left k.rest answered_one s.1 (sym k.front ∙ front)
-            (λ none. not_got is (member_tid answered_one i.got (subst (λ l. Member answered_one l) (s.1 ∙ (ap (λ l. i.got ++ l) none ∙ append-nil i.got)) told.1)));
+            (λ none. not_got is
+            (member_tid answered_one i.got
+            (subst (λ l. Member answered_one l) (s.1 ∙ (ap (λ l. i.got ++ l) none ∙ append-nil i.got)) told.1)));
       }
 
   replied_now : Telling true active xs st (rs ++ reply ∷ []) (cond (has_reply t rs) ms (ms ++ made_by (op_of t requests) o)) q p
@@ -287,7 +309,8 @@ told_also h r none i = telling_moved (to_client h ++ r) (to_server h) (moved_mor
 
 -- one more to the server, that is no request
 sent_also : (h : List Entry) (m : Message) → req_on m ≡ None → AskedAnswered h → On h (to_client h) (to_server h ++ m ∷ [])
-sent_also h m none i = telling_moved (to_client h) (to_server h ++ m ∷ []) (ap (λ ts. unsafe_tids (to_client h) ++ ts) (req_end (to_server h) m none)) i
+sent_also h m none i =
+    telling_moved (to_client h) (to_server h ++ m ∷ []) (ap (λ ts. unsafe_tids (to_client h) ++ ts) (req_end (to_server h) m none)) i
 
 step_grant : (h : List Entry) (g : ℕ) (bits : Caps) (end : ℕ) (x : Answer) → GrantIs h g (granted (server h g) bits end) x → AskedAnswered h
     → AskedAnswered (record { event = e.Grant g bits end; answer = x } ∷ h)
@@ -299,26 +322,30 @@ step_revoke : (h : List Entry) (g : ℕ) (bits : Caps) (x : Answer) → GrantIs 
 step_revoke h g bits x grant_unknown i = i
 step_revoke h g bits x grant_sent i = told_also h (cap_message g (revoked (server h g) bits) ∷ []) refl i
 
-step_check : (h : List Entry) (g : ℕ) (x : Answer) → CheckIs h g x → AskedAnswered h → AskedAnswered (record { event = e.Check g; answer = x } ∷ h)
+step_check : (h : List Entry) (g : ℕ) (x : Answer) → CheckIs h g x → AskedAnswered h
+    → AskedAnswered (record { event = e.Check g; answer = x } ∷ h)
 step_check h g x check_unknown i = i
 step_check h g x check_nothing i = i
 step_check h g x (check_hold bits) i = i
 step_check h g x (check_ack free) i = sent_also h _ refl i
 
-step_flush_snaps : (h : List Entry) (g : ℕ) (x : Answer) → FlushSnapsIs h g x → AskedAnswered h → AskedAnswered (record { event = e.FlushSnaps g; answer = x } ∷ h)
+step_flush_snaps : (h : List Entry) (g : ℕ) (x : Answer) → FlushSnapsIs h g x → AskedAnswered h
+    → AskedAnswered (record { event = e.FlushSnaps g; answer = x } ∷ h)
 step_flush_snaps h g x flush_unknown i = i
 step_flush_snaps h g x flush_none i = i
 step_flush_snaps h g x flush_writing i = i
 step_flush_snaps h g x (flush_sent y ys known is closed) i = sent_also h _ refl i
 
-step_flush : (h : List Entry) (g : ℕ) (x : Answer) → FlushIs h g x → AskedAnswered h → AskedAnswered (record { event = e.Flush g; answer = x } ∷ h)
+step_flush : (h : List Entry) (g : ℕ) (x : Answer) → FlushIs h g x → AskedAnswered h
+    → AskedAnswered (record { event = e.Flush g; answer = x } ∷ h)
 step_flush h g x head_unknown i = i
 step_flush h g x head_snap i = i
 step_flush h g x head_clean i = i
 step_flush h g x (head_sent known free changed) i = sent_also h _ refl i
 
 -- a message that is no answer arrives at the client
-client_taken : (h : List Entry) (m : Message) (q : List Message) → unsafe_on m ≡ None → to_client h ≡ m ∷ q → AskedAnswered h → On h (drop 1 (to_client h)) (to_server h)
+client_taken : (h : List Entry) (m : Message) (q : List Message) → unsafe_on m ≡ None → to_client h ≡ m ∷ q → AskedAnswered h
+    → On h (drop 1 (to_client h)) (to_server h)
 client_taken h m q none is i =
     at_first (λ r. On h r (to_server h)) (λ r. On h r (to_server h)) m q (to_client h) is
     (λ j. telling_moved q (to_server h) (ap (λ us. cons_option us (unsafe_tids q) ++ req_tids (to_server h)) none) j) i
@@ -334,20 +361,25 @@ step_client h x (first_snap number realm now q is) alike settles stands told i =
 step_client h x (first_unsafe tid o ttl q is) alike settles stands told i =
     let first : On h (messages.Unsafe tid o ttl ∷ q) (to_server h) = subst (λ r. On h r (to_server h)) is i in
     subst
-    (λ r. Telling (is_whole h) (is_active (server_state h)) (asked h) (asked_of (stand h)) (replies h ++ record { tid = tid; answer = o } ∷ [])
+    (λ r. Telling (is_whole h) (is_active (server_state h)) (asked h) (asked_of (stand h))
+    (replies h ++ record { tid = tid; answer = o } ∷ [])
     (cond (has_reply tid (replies h)) (client_made h) (client_made h ++ made_by (op_of tid (requests h)) o)) (drop 1 r) (to_server h))
     (sym is)
-    (replied_now (is_active (server_state h)) (asked h) (asked_of (stand h)) stands.missing (replies h) (client_made h) q (to_server h) (requests h) tid o ttl
-    stands.front (settles_rises 0 (setup_names h) (asked h) settles) alike (told (messages.Unsafe tid o ttl) (subst (λ r. Member (messages.Unsafe tid o ttl) r) (sym is) (inl refl))) first)
+    (replied_now (is_active (server_state h)) (asked h) (asked_of (stand h)) stands.missing (replies h) (client_made h) q (to_server h)
+    (requests h) tid o ttl
+    stands.front (settles_rises 0 (setup_names h) (asked h) settles) alike
+    (told (messages.Unsafe tid o ttl) (subst (λ r. Member (messages.Unsafe tid o ttl) r) (sym is) (inl refl))) first)
 
 -- one that is no request arrives at the server
-server_taken : (h : List Entry) (m : Message) (p : List Message) → req_on m ≡ None → to_server h ≡ m ∷ p → AskedAnswered h → On h (to_client h) (drop 1 (to_server h))
+server_taken : (h : List Entry) (m : Message) (p : List Message) → req_on m ≡ None → to_server h ≡ m ∷ p → AskedAnswered h
+    → On h (to_client h) (drop 1 (to_server h))
 server_taken h m p none is i =
     at_first (λ s. On h (to_client h) s) (λ s. On h (to_client h) s) m p (to_server h) is
     (λ j. telling_moved (to_client h) p (ap (λ ts. unsafe_tids (to_client h) ++ ts) (req_first m p none)) j) i
 
 -- a request does, and is answered
-server_answered : (h : List Entry) (tid : ℕ) (ino : Option ℕ) (op : ReqOp) (p r : List Message) → unsafe_tids r ≡ tid ∷ [] → to_server h ≡ messages.Req tid ino op ∷ p
+server_answered : (h : List Entry) (tid : ℕ) (ino : Option ℕ) (op : ReqOp) (p r : List Message) → unsafe_tids r ≡ tid ∷ []
+    → to_server h ≡ messages.Req tid ino op ∷ p
     → AskedAnswered h → On h (to_client h ++ r) (drop 1 (to_server h))
 server_answered h tid ino op p r one is i =
     at_first (λ s. On h (to_client h) s) (λ s. On h (to_client h ++ r) s) (messages.Req tid ino op) p (to_server h) is
@@ -357,7 +389,9 @@ step_server : (h : List Entry) (x : Answer) → ReceivedIs h x → AskedAnswered
 step_server h x received_idle i = i
 step_server h x (received_ack g seq bits q is) i = server_taken h (messages.CapAck g seq bits) q refl is i
 step_server h x (received_flush y q is first) i =
-    telling_stand _ (stand_same (durable h) (fresh h) (flush_record y) refl ∙ sym (ap (λ p. asked_of (durable h ++ (fresh h ++ p))) (ap recorded is ∙ recorded_one y)))
+    telling_stand _
+    (stand_same (durable h) (fresh h) (flush_record y) refl
+    ∙ sym (ap (λ p. asked_of (durable h ++ (fresh h ++ p))) (ap recorded is ∙ recorded_one y)))
     (server_taken h (flush_message y) q (flush_no_req y) is i)
 step_server h x (received_again y q is again) i =
     let acks : List Message = acked_again y.file y.tid (durable h) in
@@ -368,7 +402,8 @@ step_server h x (received_again y q is again) i =
 step_server h x (received_req tid ino op q is first) i =
     let o : OpAnswer = answer_on (names h) op in
     telling_stand _
-    (sym (stand_end (durable h) (fresh h) (record { body = bodies.Request tid op o })) ∙ ap (λ p. asked_of (durable h ++ (fresh h ++ requested o p))) (sym is))
+    (sym (stand_end (durable h) (fresh h) (record { body = bodies.Request tid op o }))
+    ∙ ap (λ p. asked_of (durable h ++ (fresh h ++ requested o p))) (sym is))
     (telling_more (record { tid = tid; op = op; answer = o } ∷ []) (server_answered h tid ino op q (unsafe_message tid o ∷ []) refl is i))
 step_server h x (received_req_again tid ino op q is again) i =
     server_answered h tid ino op q (answered_again tid (unwrap_or (answer_kept tid (stand h)) replies_of.Missing) (durable h))
@@ -380,7 +415,8 @@ step_snap h d name x snap_unknown i = i
 step_snap h d name x snap_exists i = i
 step_snap h d name x (snap_taken directory free) i = telling_stand _ (stand_same (durable h) (fresh h) _ refl) i
 
-step_remove : (h : List Entry) (t : ℕ) (x : Answer) → RemoveIs h t x → AskedAnswered h → AskedAnswered (record { event = e.RmSnap t; answer = x } ∷ h)
+step_remove : (h : List Entry) (t : ℕ) (x : Answer) → RemoveIs h t x → AskedAnswered h
+    → AskedAnswered (record { event = e.RmSnap t; answer = x } ∷ h)
 step_remove h t x remove_none i = i
 step_remove h t x remove_gone i = i
 step_remove h t x (removed there stays) i = telling_stand _ (stand_same (durable h) (fresh h) _ refl) i
@@ -390,14 +426,16 @@ step_unlease : (h : List Entry) (d : ℕ) (name : List ℕ) (x : Answer) → Unl
 step_unlease h d name x unlease_unknown i = i
 step_unlease h d name x unlease_sent i = told_also h (messages.Unlease d name ∷ []) refl i
 
-answered_step : (p : ℕ) (h : List Entry) (x : Event) → AskedAlike h → AskedSettles h → AskedStands h → AllTold h → AskedAnswered h → AskedAnswered (entry p h x ∷ h)
+answered_step : (p : ℕ) (h : List Entry) (x : Event) → AskedAlike h → AskedSettles h → AskedStands h → AllTold h → AskedAnswered h
+    → AskedAnswered (entry p h x ∷ h)
 answered_step p h (e.Grant g bits end) alike settles stands told i = step_grant h g bits end _ (grant_is h g bits end) i
 answered_step p h (e.Revoke g bits) alike settles stands told i = step_revoke h g bits _ (revoke_is h g bits) i
 answered_step p h (e.Check g) alike settles stands told i = step_check h g _ (check_is h g) i
 answered_step p h (e.Flush g) alike settles stands told i = step_flush h g _ (flush_is h g) i
 answered_step p h (e.FlushSnaps g) alike settles stands told i = step_flush_snaps h g _ (flush_snaps_is h g) i
 answered_step p h (e.Req c op) alike settles stands told i =
-    telling_asked (record { tid = length (requests h) + 1; op = op; answer = answer_on (stage (setup_names h) (asked h)) op }) (asked_next h alike settles) i
+    telling_asked (record { tid = length (requests h) + 1; op = op; answer = answer_on (stage (setup_names h) (asked h)) op })
+    (asked_next h alike settles) i
 answered_step p h e.ToClient alike settles stands told i = step_client h _ (first_is h) alike settles stands told i
 answered_step p h e.ToMds alike settles stands told i = step_server h _ (received_is h) i
 answered_step p h (e.Snap d name) alike settles stands told i = step_snap h d name _ (snap_is h d name) i
@@ -407,7 +445,8 @@ answered_step p h e.Commit alike settles stands told i =
     let news_now : List Message = news (λ d. server_path h d) (server_dirs h) (last_sent h) (durable h) (fresh h) in
     telling_stand _ (ap asked_of (sym (append-nil (stand h))))
     (told_also h news_now
-    (no_unsafe news_now (each_news (λ m. unsafe_on m ≡ None) no_unsafe_news (λ d. server_path h d) (server_dirs h) (last_sent h) (durable h) (fresh h))) i)
+    (no_unsafe news_now
+    (each_news (λ m. unsafe_on m ≡ None) no_unsafe_news (λ d. server_path h d) (server_dirs h) (last_sent h) (durable h) (fresh h))) i)
 answered_step p h _ alike settles stands told i = i
 
 answered_first : AskedAnswered []
@@ -425,7 +464,8 @@ answered_first = record {
 pub asked_answered : (p : ℕ) (h : List Entry) → IsRun p h → AskedAnswered h
 asked_answered p h run =
     of_run p AskedAnswered answered_first
-    (λ g x fit before i. answered_step p g x (asked_alike p g before) (asked_settles p g before) (asked_stands p g before) (all_told p g before) i) h run
+    (λ g x fit before i. answered_step p g x (asked_alike p g before) (asked_settles p g before) (asked_stands p g before)
+    (all_told p g before) i) h run
 
 -- What it says
 
@@ -436,30 +476,38 @@ client_front p h run =
 
 pub server_front : (p : ℕ) (h : List Entry) → IsRun p h → (more : List Made) × (asked_made (asked h) ≡ server_made h ++ more)
 server_front p h run =
-    let i = asked_stands p h run in
-    (asked_made i.missing, ap asked_made i.front ∙ (made_append (asked_of (stand h)) i.missing ∙ ap (λ l. l ++ asked_made i.missing) (sym (log_made (stand h)))))
+    let i = asked_stands p h run in (
+      asked_made i.missing,
+      ap asked_made i.front
+          ∙ (made_append (asked_of (stand h)) i.missing ∙ ap (λ l. l ++ asked_made i.missing) (sym (log_made (stand h)))),
+    )
 
 -- while the session is active, what the client was told of the server has made
-pub server_more : (p : ℕ) (h : List Entry) → IsRun p h → is_active (server_state h) ≡ true → (more : List Made) × (server_made h ≡ client_made h ++ more)
+pub server_more : (p : ℕ) (h : List Entry) → IsRun p h → is_active (server_state h) ≡ true
+    → (more : List Made) × (server_made h ≡ client_made h ++ more)
 server_more p h run active =
     let i = asked_answered p h run in
     let k = i.stands active in
     (asked_made k.0, log_made (stand h) ∙ (ap asked_made k.1 ∙ (made_append i.got k.0 ∙ ap (λ l. l ++ asked_made k.0) (sym i.made))))
 
-pub server_knows_too : (p : ℕ) (h : List Entry) (f : ℕ) → IsRun p h → is_active (server_state h) ≡ true → client_knows h f ≡ true → server_knows h f ≡ true
+pub server_knows_too : (p : ℕ) (h : List Entry) (f : ℕ) → IsRun p h → is_active (server_state h) ≡ true → client_knows h f ≡ true
+    → server_knows h f ≡ true
 server_knows_too p h f run active known =
     let k = server_more p h run active in
     ⊎_elim
     (λ setup. or_left (setup_file h f) _ setup)
-    (λ made. or_right (setup_file h f) _ (ap (makes_file f) k.1 ∙ (list_any-append (is_made_file f) (client_made h) k.0 ∙ or_left (makes_file f (client_made h)) _ made)))
+    (λ made. or_right (setup_file h f) _
+    (ap (makes_file f) k.1 ∙ (list_any-append (is_made_file f) (client_made h) k.0 ∙ or_left (makes_file f (client_made h)) _ made)))
     (or_cases (setup_file h f) (makes_file f (client_made h)) known)
 
-pub server_dir_too : (p : ℕ) (h : List Entry) (d : ℕ) → IsRun p h → is_active (server_state h) ≡ true → client_dir h d ≡ true → server_dir h d ≡ true
+pub server_dir_too : (p : ℕ) (h : List Entry) (d : ℕ) → IsRun p h → is_active (server_state h) ≡ true → client_dir h d ≡ true
+    → server_dir h d ≡ true
 server_dir_too p h d run active known =
     let k = server_more p h run active in
     ⊎_elim
     (λ setup. or_left (is_directory h d) _ setup)
-    (λ made. or_right (is_directory h d) _ (ap (makes_dir d) k.1 ∙ (list_any-append (is_made_dir d) (client_made h) k.0 ∙ or_left (makes_dir d (client_made h)) _ made)))
+    (λ made. or_right (is_directory h d) _
+    (ap (makes_dir d) k.1 ∙ (list_any-append (is_made_dir d) (client_made h) k.0 ∙ or_left (makes_dir d (client_made h)) _ made)))
     (or_cases (is_directory h d) (makes_dir d (client_made h)) known)
 
 -- A first answer is that of the request behind those that have one.
@@ -470,7 +518,8 @@ pub record NextAnswer (h : List Entry) (t : ℕ) (o : OpAnswer) : Type 0 where
   pub answered : Each (λ x. has_reply x.tid (replies h) ≡ true) got
   pub made : client_made h ≡ asked_made got
 
-pub next_answer : (p : ℕ) (h : List Entry) → IsRun p h → (t : ℕ) (o : OpAnswer) (ttl : ℕ) (q : List Message) → to_client h ≡ messages.Unsafe t o ttl ∷ q
+pub next_answer : (p : ℕ) (h : List Entry) → IsRun p h → (t : ℕ) (o : OpAnswer) (ttl : ℕ) (q : List Message)
+    → to_client h ≡ messages.Unsafe t o ttl ∷ q
     → has_reply t (replies h) ≡ false → NextAnswer h t o
 next_answer p h run t o ttl q is new =
     let stands = asked_stands p h run in
@@ -480,7 +529,9 @@ next_answer p h run t o ttl q is new =
     record {
       op = told.0;
       got = i.got;
-      next = first_reply (is_active (server_state h)) (asked h) (asked_of (stand h)) stands.missing (replies h) (client_made h) q (to_server h) (requests h) t o ttl
+      next =
+          first_reply (is_active (server_state h)) (asked h) (asked_of (stand h)) stands.missing (replies h) (client_made h) q
+          (to_server h) (requests h) t o ttl
           stands.front (settles_rises 0 (setup_names h) (asked h) (asked_settles p h run)) (asked_alike p h run) told i new;
       answered = i.answered;
       made = i.made;
@@ -492,7 +543,8 @@ answer_right p h run r there =
     let i = asked_answered p h run in
     subst (λ xs. IsRight xs r) (sym i.front) (right_more i.got i.missing r (i.right r there))
 
-pub answer_stands : (p : ℕ) (h : List Entry) → IsRun p h → is_active (server_state h) ≡ true → Each (λ r. IsRight (asked_of (stand h)) r) (replies h)
+pub answer_stands : (p : ℕ) (h : List Entry) → IsRun p h → is_active (server_state h) ≡ true
+    → Each (λ r. IsRight (asked_of (stand h)) r) (replies h)
 answer_stands p h run active r there =
     let i = asked_answered p h run in
     let k = i.stands active in

@@ -52,7 +52,8 @@ last_asked xs = last_tid (λ t. t) (asked_tids xs)
 abbrev pub Numbers : Bool → List ℕ → List ℕ → List ℕ → Type 0
 Numbers whole xs st fl = Replay (λ t. t) whole xs st fl
 
-pub beside : {whole : Bool} {xs st fl : List ℕ} (ys rt gl : List ℕ) → xs ≡ ys → st ≡ rt → fl ≡ gl → Numbers whole xs st fl → Numbers whole ys rt gl
+pub beside : {whole : Bool} {xs st fl : List ℕ} (ys rt gl : List ℕ) → xs ≡ ys → st ≡ rt → fl ≡ gl → Numbers whole xs st fl
+    → Numbers whole ys rt gl
 beside {whole = whole} {xs = xs} {st = st} {fl = fl} ys rt gl same stands flies i =
     subst (λ l. Numbers whole ys rt l) flies (subst (λ l. Numbers whole ys l fl) stands (subst (λ l. Numbers whole l st fl) same i))
 
@@ -60,10 +61,7 @@ map_same : (ts : List ℕ) → map (λ t. t) ts ≡ ts
 map_same [] = refl
 map_same (t ∷ ts) = ap (λ us. t ∷ us) (map_same ts)
 
--- what rises is what the replays say of it
-pub rises_same : (n : ℕ) (ts : List ℕ) → RisesFrom n ts → RisesFrom n (map (λ t. t) ts)
-rises_same n ts up = subst (λ us. RisesFrom n us) (sym (map_same ts)) up
-
+-- what the replays say rises does
 pub rises_plain : (n : ℕ) (ts : List ℕ) → RisesFrom n (map (λ t. t) ts) → RisesFrom n ts
 rises_plain n ts up = subst (λ us. RisesFrom n us) (map_same ts) up
 
@@ -101,7 +99,8 @@ pub settles_rises : (n : ℕ) (ns : Names) (xs : List Asked) → Settles n ns xs
 settles_rises n ns [] i = tt
 settles_rises n ns (x ∷ xs) i = (omega (arith, i.0), settles_rises x.tid (after ns x.op) xs i.2)
 
-pub settles_behind : (n : ℕ) (ns : Names) (xs ys : List Asked) → Settles n ns (xs ++ ys) → Settles (last_from (λ t. t) n (asked_tids xs)) (stage ns xs) ys
+pub settles_behind : (n : ℕ) (ns : Names) (xs ys : List Asked) → Settles n ns (xs ++ ys)
+    → Settles (last_from (λ t. t) n (asked_tids xs)) (stage ns xs) ys
 settles_behind n ns [] ys i = i
 settles_behind n ns (x ∷ xs) ys i = settles_behind x.tid (after ns x.op) xs ys i.2
 
@@ -144,26 +143,30 @@ asked_more xs ys _ i = tt
 pub asked_append : (rs ss : List Record) → asked_of (rs ++ ss) ≡ asked_of rs ++ asked_of ss
 asked_append rs ss = filter_map-append (λ r. asked_in r.body) rs ss
 
-pub stand_end : (ds fs : List Record) (r : Record) → asked_of (ds ++ (fs ++ r ∷ [])) ≡ asked_of (ds ++ fs) ++ cons_option (asked_in r.body) []
+pub stand_end : (ds fs : List Record) (r : Record)
+    → asked_of (ds ++ (fs ++ r ∷ [])) ≡ asked_of (ds ++ fs) ++ cons_option (asked_in r.body) []
 stand_end ds fs r = ap asked_of (sym (append_assoc ds fs (r ∷ []))) ∙ asked_append (ds ++ fs) (r ∷ [])
 
 -- a record more that is no request
 pub stand_same : (ds fs : List Record) (r : Record) → asked_in r.body ≡ None → asked_of (ds ++ fs) ≡ asked_of (ds ++ (fs ++ r ∷ []))
-stand_same ds fs r none = sym (stand_end ds fs r ∙ (ap (λ o. asked_of (ds ++ fs) ++ cons_option o []) none ∙ append-nil (asked_of (ds ++ fs))))
+stand_same ds fs r none =
+    sym (stand_end ds fs r ∙ (ap (λ o. asked_of (ds ++ fs) ++ cons_option o []) none ∙ append-nil (asked_of (ds ++ fs))))
 
 -- the numbers of the requests among records
 pub tids_are : (rs : List Record) → request_tids rs ≡ asked_tids (asked_of rs)
 tids_are [] = refl
 tids_are (r ∷ rs) = at r.body (tids_are rs)
   where
-    at : (b : RecordBody) → request_tids rs ≡ asked_tids (asked_of rs) → (request_tids_of b ++ request_tids rs) ≡ asked_tids (cons_option (asked_in b) (asked_of rs))
+    at : (b : RecordBody) → request_tids rs ≡ asked_tids (asked_of rs)
+        → (request_tids_of b ++ request_tids rs) ≡ asked_tids (cons_option (asked_in b) (asked_of rs))
     at (bodies.Request tid op answer) rest = ap (λ ts. tid ∷ ts) rest
     at (bodies.Flush snap f tid follows meta) rest = rest
     at (bodies.Snap n d name) rest = rest
     at (bodies.Removal s n) rest = rest
 
 -- where they rise, the last is the greatest
-pub greatest_last : (n : ℕ) (rs : List Record) → RisesFrom n (asked_tids (asked_of rs)) → max n (greatest_request rs) ≡ last_from (λ t. t) n (asked_tids (asked_of rs))
+pub greatest_last : (n : ℕ) (rs : List Record) → RisesFrom n (asked_tids (asked_of rs))
+    → max n (greatest_request rs) ≡ last_from (λ t. t) n (asked_tids (asked_of rs))
 greatest_last n [] up = omega arith
 greatest_last n (r ∷ rs) up = at r.body up (λ m j. greatest_last m rs j)
   where
@@ -176,15 +179,18 @@ greatest_last n (r ∷ rs) up = at r.body up (λ m j. greatest_last m rs j)
     at (bodies.Removal s m) more rest = omega (arith, rest n more)
 
 -- and the answer of each is found
-pub answer_found : (n : ℕ) (x : Asked) (rs : List Record) → RisesFrom n (asked_tids (asked_of rs)) → Member x (asked_of rs) → answer_kept x.tid rs ≡ Some x.answer
+pub answer_found : (n : ℕ) (x : Asked) (rs : List Record) → RisesFrom n (asked_tids (asked_of rs)) → Member x (asked_of rs)
+    → answer_kept x.tid rs ≡ Some x.answer
 answer_found n x [] up there = absurd there
 answer_found n x (r ∷ rs) up there = at r.body up there (λ m j k. answer_found m x rs j k)
   where
-    at : (b : RecordBody) → RisesFrom n (asked_tids (cons_option (asked_in b) (asked_of rs))) → Member x (cons_option (asked_in b) (asked_of rs))
+    at : (b : RecordBody) → RisesFrom n (asked_tids (cons_option (asked_in b) (asked_of rs)))
+        → Member x (cons_option (asked_in b) (asked_of rs))
         → ((m : ℕ) → RisesFrom m (asked_tids (asked_of rs)) → Member x (asked_of rs) → answer_kept x.tid rs ≡ Some x.answer)
         → answer_in x.tid b (answer_kept x.tid rs) ≡ Some x.answer
     at (bodies.Request tid op answer) more (inl is) rest =
-        cond-true (tid == x.tid) (Some answer) (answer_kept x.tid rs) (eq-eqb tid x.tid (ap (λ (z : Asked). z.tid) is)) ∙ ap (λ (z : Asked). Some z.answer) is
+        cond-true (tid == x.tid) (Some answer) (answer_kept x.tid rs) (eq-eqb tid x.tid (ap (λ (z : Asked). z.tid) is))
+        ∙ ap (λ (z : Asked). Some z.answer) is
     at (bodies.Request tid op answer) more (inr m) rest =
         cond-false (tid == x.tid) (Some answer) (answer_kept x.tid rs)
         (ne_eqb tid x.tid (λ is. omega (arith, is, member_above (λ (z : Asked). z.tid) tid x (asked_of rs) more.1 m)))
@@ -208,16 +214,20 @@ sending_asked : {whole : Bool} {xs st : List Asked} {p : List Message} (x : Aske
 sending_asked {whole = whole} {xs = xs} {st = st} {p = p} x next i = record {
   missing = i.missing ++ x ∷ [];
   front = ap (λ ys. ys ++ x ∷ []) i.front ∙ append_assoc st i.missing (x ∷ []);
-  numbers = beside (asked_tids (xs ++ x ∷ [])) (asked_tids st) (req_tids (p ++ m ∷ [])) (sym (tids_append xs (x ∷ []))) refl (sym (req_append p (m ∷ [])))
+  numbers =
+      beside (asked_tids (xs ++ x ∷ [])) (asked_tids st) (req_tids (p ++ m ∷ [])) (sym (tids_append xs (x ∷ []))) refl
+      (sym (req_append p (m ∷ [])))
       (replays.send (λ t. t) whole (asked_tids xs) (asked_tids st) (req_tids p) x.tid next i.numbers);
-  flying = each_end (λ k. IsAsked (xs ++ x ∷ []) k) p m (λ k there. asked_more xs (x ∷ []) k (i.flying k there)) (x.answer, member_end x xs);
+  flying = each_end (λ k. IsAsked (xs ++ x ∷ []) k) p m (λ k there. asked_more xs (x ∷ []) k (i.flying k there))
+      (x.answer, member_end x xs);
 }
   where
     m : Message
     m = messages.Req x.tid None x.op
 
 -- a message that is no request is sent
-sending_beside : {whole : Bool} {xs st : List Asked} {p : List Message} (m : Message) → req_on m ≡ None → IsAsked xs m → Sending whole xs st p
+sending_beside : {whole : Bool} {xs st : List Asked} {p : List Message} (m : Message) → req_on m ≡ None → IsAsked xs m
+    → Sending whole xs st p
     → Sending whole xs st (p ++ m ∷ [])
 sending_beside {whole = whole} {xs = xs} {st = st} {p = p} m none own i = record {
   missing = i.missing;
@@ -227,7 +237,8 @@ sending_beside {whole = whole} {xs = xs} {st = st} {p = p} m none own i = record
 }
 
 -- one arrives
-sending_taken : {whole : Bool} {xs st : List Asked} {p : List Message} (m : Message) → req_on m ≡ None → Sending whole xs st (m ∷ p) → Sending whole xs st p
+sending_taken : {whole : Bool} {xs st : List Asked} {p : List Message} (m : Message) → req_on m ≡ None → Sending whole xs st (m ∷ p)
+    → Sending whole xs st p
 sending_taken {whole = whole} {xs = xs} {st = st} {p = p} m none i = record {
   missing = i.missing;
   front = i.front;
@@ -236,7 +247,8 @@ sending_taken {whole = whole} {xs = xs} {st = st} {p = p} m none i = record {
 }
 
 -- the same stand
-sending_stand : {whole : Bool} {xs st : List Asked} {p : List Message} (rt : List Asked) → st ≡ rt → Sending whole xs st p → Sending whole xs rt p
+sending_stand : {whole : Bool} {xs st : List Asked} {p : List Message} (rt : List Asked) → st ≡ rt → Sending whole xs st p
+    → Sending whole xs rt p
 sending_stand {whole = whole} {xs = xs} {p = p} rt same i = subst (λ l. Sending whole xs l p) same i
 
 pub stands_rise : {whole : Bool} {xs st : List Asked} {p : List Message} → Sending whole xs st p → RisesFrom 0 (asked_tids st)
@@ -269,23 +281,27 @@ first_of t ts [] is = absurd cc
 first_of t ts (y ∷ ys) is = let same : t ≡ y.tid = cc in record { first = y; rest = ys; is = refl; tid = sym same }
 
 -- the first on its way that isn't among the first ones is the first of the others
-pub first_missing : (xs st ms : List Asked) (fl : List ℕ) (t : ℕ) → last_asked st < t → xs ≡ st ++ ms → Numbers true (asked_tids xs) (asked_tids st) (t ∷ fl) → FirstOf t ms
+pub first_missing : (xs st ms : List Asked) (fl : List ℕ) (t : ℕ) → last_asked st < t → xs ≡ st ++ ms
+    → Numbers true (asked_tids xs) (asked_tids st) (t ∷ fl) → FirstOf t ms
 first_missing xs st ms fl t more front i =
     first_of t (above (λ u. u) (last_asked st) fl) ms
     (sym (above_one (λ u. u) (last_asked st) t fl more)
     ∙ (i.rest refl ∙ cancel (asked_tids st) i.missing (asked_tids ms) (sym i.front ∙ (ap asked_tids front ∙ tids_append st ms))))
 
-asked_is : (y : Asked) (t : ℕ) (op : ReqOp) (o : OpAnswer) → y.tid ≡ t → y.op ≡ op → y.answer ≡ o → y ≡ record { tid = t; op = op; answer = o }
+asked_is : (y : Asked) (t : ℕ) (op : ReqOp) (o : OpAnswer) → y.tid ≡ t → y.op ≡ op → y.answer ≡ o
+    → y ≡ record { tid = t; op = op; answer = o }
 asked_is y t op o tid same own =
     ap (λ n. let z : Asked = record { tid = n; op = y.op; answer = y.answer } in z) tid
-    ∙ (ap (λ k. let z : Asked = record { tid = t; op = k; answer = y.answer } in z) same ∙ ap (λ k. let z : Asked = record { tid = t; op = op; answer = k } in z) own)
+    ∙ (ap (λ k. let z : Asked = record { tid = t; op = k; answer = y.answer } in z) same
+    ∙ ap (λ k. let z : Asked = record { tid = t; op = op; answer = k } in z) own)
 
 -- a new one arrives: it is that which was asked next, and its answer is the settled one
 pub record NextIs (xs st : List Asked) (x : Asked) : Type 0 where
   pub rest : List Asked
   pub front : xs ≡ st ++ x ∷ rest
 
-next_whole : (ns : Names) (xs st : List Asked) (p : List Message) (t : ℕ) (ino : Option ℕ) (op : ReqOp) → Settles 0 ns xs → last_asked st < t
+next_whole : (ns : Names) (xs st : List Asked) (p : List Message) (t : ℕ) (ino : Option ℕ) (op : ReqOp) → Settles 0 ns xs
+    → last_asked st < t
     → Sending true xs st (messages.Req t ino op ∷ p) → NextIs xs st (record { tid = t; op = op; answer = answer_on (stage ns st) op })
 next_whole ns xs st p t ino op settles more i =
     let k : FirstOf t i.missing = first_missing xs st i.missing (req_tids p) t more i.front i.numbers in
@@ -295,18 +311,23 @@ next_whole ns xs st p t ino op settles more i =
     = same_tid 0 k.first (record { tid = t; op = op; answer = own.0 }) xs (settles_rises 0 ns xs settles)
     (subst (λ zs. Member k.first zs) (sym found) (member_right k.first st (k.first ∷ k.rest) (inl refl))) own.1 k.tid in
     let asks : k.first.op ≡ op = ap (λ (z : Asked). z.op) same in
-    let right : k.first.answer ≡ answer_on (stage ns st) k.first.op = (settles_behind 0 ns st (k.first ∷ k.rest) (subst (λ zs. Settles 0 ns zs) found settles)).1 in
+    let right : k.first.answer ≡ answer_on (stage ns st) k.first.op
+    = (settles_behind 0 ns st (k.first ∷ k.rest) (subst (λ zs. Settles 0 ns zs) found settles)).1 in
     record {
       rest = k.rest;
-      front = found ∙ ap (λ z. st ++ z ∷ k.rest) (asked_is k.first t op (answer_on (stage ns st) op) k.tid asks (right ∙ ap (λ z. answer_on (stage ns st) z) asks));
+      front = found
+          ∙ ap (λ z. st ++ z ∷ k.rest)
+          (asked_is k.first t op (answer_on (stage ns st) op) k.tid asks (right ∙ ap (λ z. answer_on (stage ns st) z) asks));
     }
 
-pub sending_next : {whole : Bool} {xs st : List Asked} {p : List Message} (ns : Names) (t : ℕ) (ino : Option ℕ) (op : ReqOp) → whole ≡ true → Settles 0 ns xs → last_asked st < t
+pub sending_next : {whole : Bool} {xs st : List Asked} {p : List Message} (ns : Names) (t : ℕ) (ino : Option ℕ) (op : ReqOp)
+    → whole ≡ true → Settles 0 ns xs → last_asked st < t
     → Sending whole xs st (messages.Req t ino op ∷ p) → NextIs xs st (record { tid = t; op = op; answer = answer_on (stage ns st) op })
 sending_next {whole = whole} {xs = xs} {st = st} {p = p} ns t ino op is settles more i =
     next_whole ns xs st p t ino op settles more (subst (λ b. Sending b xs st (messages.Req t ino op ∷ p)) is i)
 
-sending_done : {whole : Bool} {xs st : List Asked} {p : List Message} (t : ℕ) (ino : Option ℕ) (op : ReqOp) (o : OpAnswer) → whole ≡ true → last_asked st < t
+sending_done : {whole : Bool} {xs st : List Asked} {p : List Message} (t : ℕ) (ino : Option ℕ) (op : ReqOp) (o : OpAnswer) → whole ≡ true
+    → last_asked st < t
     → NextIs xs st (record { tid = t; op = op; answer = o }) → Sending whole xs st (messages.Req t ino op ∷ p)
     → Sending whole xs (st ++ record { tid = t; op = op; answer = o } ∷ []) p
 sending_done {whole = whole} {xs = xs} {st = st} {p = p} t ino op o is more next i = record {
@@ -328,22 +349,26 @@ abbrev pub AskedStands : List Entry → Type 0
 AskedStands h = Sending (is_whole h) (asked h) (asked_of (stand h)) (to_server h)
 
 -- the greatest number of a request that stands is the last one's
-pub greatest_stands : {whole : Bool} {xs : List Asked} {p : List Message} (rs : List Record) → Sending whole xs (asked_of rs) p → greatest_request rs ≡ last_asked (asked_of rs)
+pub greatest_stands : {whole : Bool} {xs : List Asked} {p : List Message} (rs : List Record) → Sending whole xs (asked_of rs) p
+    → greatest_request rs ≡ last_asked (asked_of rs)
 greatest_stands rs i = omega (arith, greatest_last 0 rs (stands_rise i))
 
-step_check : (h : List Entry) (g : ℕ) (x : Answer) → CheckIs h g x → AskedStands h → AskedStands (record { event = e.Check g; answer = x } ∷ h)
+step_check : (h : List Entry) (g : ℕ) (x : Answer) → CheckIs h g x → AskedStands h
+    → AskedStands (record { event = e.Check g; answer = x } ∷ h)
 step_check h g x check_unknown i = i
 step_check h g x check_nothing i = i
 step_check h g x (check_hold bits) i = i
 step_check h g x (check_ack free) i = sending_beside _ refl tt i
 
-step_flush_snaps : (h : List Entry) (g : ℕ) (x : Answer) → FlushSnapsIs h g x → AskedStands h → AskedStands (record { event = e.FlushSnaps g; answer = x } ∷ h)
+step_flush_snaps : (h : List Entry) (g : ℕ) (x : Answer) → FlushSnapsIs h g x → AskedStands h
+    → AskedStands (record { event = e.FlushSnaps g; answer = x } ∷ h)
 step_flush_snaps h g x flush_unknown i = i
 step_flush_snaps h g x flush_none i = i
 step_flush_snaps h g x flush_writing i = i
 step_flush_snaps h g x (flush_sent y ys known is closed) i = sending_beside _ refl tt i
 
-step_flush : (h : List Entry) (g : ℕ) (x : Answer) → FlushIs h g x → AskedStands h → AskedStands (record { event = e.Flush g; answer = x } ∷ h)
+step_flush : (h : List Entry) (g : ℕ) (x : Answer) → FlushIs h g x → AskedStands h
+    → AskedStands (record { event = e.Flush g; answer = x } ∷ h)
 step_flush h g x head_unknown i = i
 step_flush h g x head_snap i = i
 step_flush h g x head_clean i = i
@@ -354,24 +379,29 @@ abbrev Left : List Entry → List Message → Type 0
 Left h p = Sending (is_whole h) (asked h) (asked_of (stand h)) p
 
 -- a request that arrives first is that which was asked next
-pub next_asked : (h : List Entry) (t : ℕ) (ino : Option ℕ) (op : ReqOp) (q : List Message) → AskedSettles h → AskedStands h → to_server h ≡ messages.Req t ino op ∷ q
+pub next_asked : (h : List Entry) (t : ℕ) (ino : Option ℕ) (op : ReqOp) (q : List Message) → AskedSettles h → AskedStands h
+    → to_server h ≡ messages.Req t ino op ∷ q
     → greatest_request (stand h) < t → NextIs (asked h) (asked_of (stand h)) (record { tid = t; op = op; answer = answer_on (names h) op })
 next_asked h t ino op q settles i is more =
     let first : Left h (messages.Req t ino op ∷ q) = subst (λ p. Left h p) is i in
-    subst (λ ns. NextIs (asked h) (asked_of (stand h)) (record { tid = t; op = op; answer = answer_on ns op })) (sym (names_stage (setup_names h) (stand h)))
+    subst (λ ns. NextIs (asked h) (asked_of (stand h)) (record { tid = t; op = op; answer = answer_on ns op }))
+    (sym (names_stage (setup_names h) (stand h)))
     (sending_next (setup_names h) t ino op refl settles (omega (arith, more, greatest_stands (stand h) first)) first)
 
-step_server : (h : List Entry) (x : Answer) → ReceivedIs h x → AskedSettles h → AskedStands h → AskedStands (record { event = e.ToMds; answer = x } ∷ h)
+step_server : (h : List Entry) (x : Answer) → ReceivedIs h x → AskedSettles h → AskedStands h
+    → AskedStands (record { event = e.ToMds; answer = x } ∷ h)
 step_server h x received_idle settles i = i
 step_server h x (received_ack g seq bits q is) settles i =
-    at_first (λ p. Left h p) (λ p. Left h p) (messages.CapAck g seq bits) q (to_server h) is (λ j. sending_taken (messages.CapAck g seq bits) refl j) i
+    at_first (λ p. Left h p) (λ p. Left h p) (messages.CapAck g seq bits) q (to_server h) is
+    (λ j. sending_taken (messages.CapAck g seq bits) refl j) i
 step_server h x (received_flush y q is first) settles i =
     subst (λ p. Sending (is_whole h) (asked h) (asked_of (durable h ++ (fresh h ++ recorded p))) (drop 1 p)) (sym is)
     (subst (λ rs. Sending (is_whole h) (asked h) (asked_of (durable h ++ (fresh h ++ rs))) q) (sym (recorded_one y))
     (sending_stand _ (stand_same (durable h) (fresh h) (flush_record y) refl)
     (sending_taken (flush_message y) (flush_no_req y) (subst (λ p. Left h p) is i))))
 step_server h x (received_again y q is again) settles i =
-    at_first (λ p. Left h p) (λ p. Left h p) (flush_message y) q (to_server h) is (λ j. sending_taken (flush_message y) (flush_no_req y) j) i
+    at_first (λ p. Left h p) (λ p. Left h p) (flush_message y) q (to_server h) is
+    (λ j. sending_taken (flush_message y) (flush_no_req y) j) i
 step_server h x (received_req tid ino op q is first) settles i =
     let o : OpAnswer = answer_on (names h) op in
     let more : greatest_request (stand h) < tid = ltb-true (greatest_request (stand h)) tid first in
@@ -389,7 +419,8 @@ step_snap h d name x snap_unknown i = i
 step_snap h d name x snap_exists i = i
 step_snap h d name x (snap_taken directory free) i = sending_stand _ (stand_same (durable h) (fresh h) _ refl) i
 
-step_remove : (h : List Entry) (t : ℕ) (x : Answer) → RemoveIs h t x → AskedStands h → AskedStands (record { event = e.RmSnap t; answer = x } ∷ h)
+step_remove : (h : List Entry) (t : ℕ) (x : Answer) → RemoveIs h t x → AskedStands h
+    → AskedStands (record { event = e.RmSnap t; answer = x } ∷ h)
 step_remove h t x remove_none i = i
 step_remove h t x remove_gone i = i
 step_remove h t x (removed there stays) i = sending_stand _ (stand_same (durable h) (fresh h) _ refl) i
@@ -404,7 +435,8 @@ stands_step p h (e.Check g) alike settles i = step_check h g _ (check_is h g) i
 stands_step p h (e.Flush g) alike settles i = step_flush h g _ (flush_is h g) i
 stands_step p h (e.FlushSnaps g) alike settles i = step_flush_snaps h g _ (flush_snaps_is h g) i
 stands_step p h (e.Req c op) alike settles i =
-    sending_asked (record { tid = length (requests h) + 1; op = op; answer = answer_on (stage (setup_names h) (asked h)) op }) (asked_next h alike settles) i
+    sending_asked (record { tid = length (requests h) + 1; op = op; answer = answer_on (stage (setup_names h) (asked h)) op })
+    (asked_next h alike settles) i
 stands_step p h e.ToMds alike settles i = step_server h _ (received_is h) settles i
 stands_step p h (e.Snap d name) alike settles i = step_snap h d name _ (snap_is h d name) i
 stands_step p h (e.RmSnap t) alike settles i = step_remove h t _ (remove_is h t) i
@@ -421,7 +453,8 @@ asked_stands p h run =
 -- What it says
 
 -- A request that the server does next is answered as was settled when it was sent.
-pub next_settled : (p : ℕ) (h : List Entry) → IsRun p h → (t : ℕ) (ino : Option ℕ) (op : ReqOp) (q : List Message) → to_server h ≡ messages.Req t ino op ∷ q
+pub next_settled : (p : ℕ) (h : List Entry) → IsRun p h → (t : ℕ) (ino : Option ℕ) (op : ReqOp) (q : List Message)
+    → to_server h ≡ messages.Req t ino op ∷ q
     → greatest_request (stand h) < t → Member (record { tid = t; op = op; answer = answer_on (names h) op }) (asked h)
 next_settled p h run t ino op q is more =
     let x : Asked = record { tid = t; op = op; answer = answer_on (names h) op } in

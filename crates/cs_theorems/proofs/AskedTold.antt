@@ -1,5 +1,5 @@
--- After each event what the client was answered is what was settled: each answer on its way is of a standing request, each word that a
--- record is durable of a durable one, and the requests with an answer are a front of those that were asked.
+-- After each event each answer on its way to the client is that of a standing request, and each word that a record is durable is of a
+-- durable one.
 use Rattle.std.proofs.Common.{◌≡◌, ◌⊎◌, refl, sym, ap, ◌∙◌, subst, ℕ, ◌≤◌, true, List, [], ◌∷◌, ◌++◌, None, unwrap_or, arith, inl, inr}
 use Rattle.std.specs.List.{cons_option}
 use Rattle.std.proofs.lemmas.Bool.{cond_both, eqb-true, ltb-false, or_cases}
@@ -28,6 +28,7 @@ use Rattle.cs_laws.specs.Lists.{RisesFrom}
 use Rattle.cs_laws.specs.Names.{names}
 use Rattle.cs_laws.specs.Namespace.{answer_on}
 use Rattle.cs_laws.specs.Realms.{differing, realm_records}
+use Rattle.cs_laws.specs.Requests.{Request}
 use Rattle.cs_laws.specs.Runs.{IsRun}
 use Rattle.cs_laws.specs.ServerKnows.{server_dirs, server_path}
 use Rattle.cs_laws.specs.Standing.{answer_kept, greatest_request, has_request, is_request, news, news_of, news_on, recorded, requested}
@@ -49,7 +50,8 @@ IsTold st ds (messages.Unsafe tid o ttl) = (op : ReqOp) × Member (record { tid 
 IsTold st ds (messages.Safe tid) = Member tid (asked_tids ds)
 IsTold st ds _ = Unit {0}
 
-told_more : (st rt ds es : List Asked) → Each (λ x. Member x rt) st → Each (λ t. Member t (asked_tids es)) (asked_tids ds) → (m : Message) → IsTold st ds m → IsTold rt es m
+told_more : (st rt ds es : List Asked) → Each (λ x. Member x rt) st → Each (λ t. Member t (asked_tids es)) (asked_tids ds) → (m : Message)
+    → IsTold st ds m → IsTold rt es m
 told_more st rt ds es stands durable (messages.Unsafe tid o ttl) i = (i.0, stands (record { tid = tid; op = i.0; answer = o }) i.1)
 told_more st rt ds es stands durable (messages.Safe tid) i = durable tid i
 told_more st rt ds es stands durable _ i = tt
@@ -72,9 +74,11 @@ news_told st es up dirs ss before (r ∷ rs) all =
     let k = at (differing ss (realm_records up dirs (before ++ r ∷ []))) r.body all in
     each_cons (λ n. IsTold st es n) m (news up dirs now (before ++ r ∷ []) rs) k.0 (news_told st es up dirs now (before ++ r ∷ []) rs k.1)
   where
-    at : (realms : List RealmRecord) (b : RecordBody) → Each (λ t. Member t (asked_tids es)) (asked_tids (cons_option (asked_in b) (asked_of rs)))
+    at : (realms : List RealmRecord) (b : RecordBody)
+        → Each (λ t. Member t (asked_tids es)) (asked_tids (cons_option (asked_in b) (asked_of rs)))
         → IsTold st es (news_of before realms b) × Each (λ t. Member t (asked_tids es)) (asked_tids (asked_of rs))
-    at realms (bodies.Request tid op answer) own = (own tid (inl refl), each_tail (λ t. Member t (asked_tids es)) tid (asked_tids (asked_of rs)) own)
+    at realms (bodies.Request tid op answer) own =
+        (own tid (inl refl), each_tail (λ t. Member t (asked_tids es)) tid (asked_tids (asked_of rs)) own)
     at realms (bodies.Flush snap f tid follows meta) own = (tt, own)
     at realms (bodies.Snap n d name) own = (tt, own)
     at realms (bodies.Removal s n) own = (tt, own)
@@ -94,7 +98,8 @@ request_member t (r ∷ rs) is = at r.body (or_cases (is_request t r.body) _ is)
     behind (bodies.Snap n d name) m = m
     behind (bodies.Removal s n) m = m
 
-    at : (b : RecordBody) → (is_request t b ≡ true) ⊎ (has_request t rs ≡ true) → (has_request t rs ≡ true → Member t (asked_tids (asked_of rs)))
+    at : (b : RecordBody) → (is_request t b ≡ true) ⊎ (has_request t rs ≡ true)
+        → (has_request t rs ≡ true → Member t (asked_tids (asked_of rs)))
         → Member t (asked_tids (cons_option (asked_in b) (asked_of rs)))
     at b (inl same) rest = here b same
     at b (inr there) rest = behind b (rest there)
@@ -103,7 +108,8 @@ each_answered : (P : Message → Type 0) (tid : ℕ) (o : OpAnswer) (ds : List R
     → (has_request tid ds ≡ true → P (messages.Safe tid)) → Each P (answered_again tid o ds)
 each_answered P tid o ds answered safe =
     each_cons P (messages.Unsafe tid o 0) _ answered
-    (cond_both (has_request tid ds) _ _ (λ q. Each P q) (λ there. each_cons P (messages.Safe tid) [] (safe there) (each_nil P)) (λ _. each_nil P))
+    (cond_both (has_request tid ds) _ _ (λ q. Each P q) (λ there. each_cons P (messages.Safe tid) [] (safe there) (each_nil P))
+    (λ _. each_nil P))
 
 -- the answer that is sent again is that of a standing one
 again_right : (rs : List Record) (t : ℕ) → RisesFrom 0 (asked_tids (asked_of rs)) → Member t (asked_tids (asked_of rs))
@@ -112,7 +118,8 @@ again_right rs t up there =
     let k = tid_member t (asked_of rs) there in (
       k.0.op,
       subst (λ n. Member (record { tid = n; op = k.0.op; answer = unwrap_or (answer_kept n rs) replies_of.Missing }) (asked_of rs)) k.2
-          (subst (λ o. Member (record { tid = k.0.tid; op = k.0.op; answer = unwrap_or o replies_of.Missing }) (asked_of rs)) (sym (answer_found 0 k.0 rs up k.1)) k.1),
+          (subst (λ o. Member (record { tid = k.0.tid; op = k.0.op; answer = unwrap_or o replies_of.Missing }) (asked_of rs))
+          (sym (answer_found 0 k.0 rs up k.1)) k.1),
     )
 
 -- Steps
@@ -145,7 +152,8 @@ told_client h x (first_snap number realm now q is) i = each_drop (λ m. Told h m
 -- a record more that is no request
 told_record : (h : List Entry) (r : Record) → asked_in r.body ≡ None → AllTold h
     → Each (λ m. IsTold (asked_of (durable h ++ (fresh h ++ r ∷ []))) (asked_of (durable h)) m) (to_client h)
-told_record h r none i = subst (λ st. Each (λ m. IsTold st (asked_of (durable h)) m) (to_client h)) (stand_same (durable h) (fresh h) r none) i
+told_record h r none i =
+    subst (λ st. Each (λ m. IsTold st (asked_of (durable h)) m) (to_client h)) (stand_same (durable h) (fresh h) r none) i
 
 told_request : (h : List Entry) (x : Asked) → AllTold h
     → Each (λ m. IsTold (asked_of (stand h) ++ x ∷ []) (asked_of (durable h)) m) (to_client h ++ unsafe_message x.tid x.answer ∷ [])
@@ -156,30 +164,38 @@ told_request h x i =
     (λ y old. member_left y (asked_of (stand h)) (x ∷ []) old) (λ t old. old) m (i m there))
     (x.op, member_end x (asked_of (stand h)))
 
-told_server : (h : List Entry) (x : Answer) → ReceivedIs h x → AskedStands h → AllTold h → AllTold (record { event = e.ToMds; answer = x } ∷ h)
+told_server : (h : List Entry) (x : Answer) → ReceivedIs h x → AskedStands h → AllTold h
+    → AllTold (record { event = e.ToMds; answer = x } ∷ h)
 told_server h x received_idle stands i = i
 told_server h x (received_ack g seq bits q is) stands i = i
 told_server h x (received_flush y q is first) stands i =
     subst (λ p. Each (λ m. IsTold (asked_of (durable h ++ (fresh h ++ recorded p))) (asked_of (durable h)) m) (to_client h)) (sym is)
-    (subst (λ rs. Each (λ m. IsTold (asked_of (durable h ++ (fresh h ++ rs))) (asked_of (durable h)) m) (to_client h)) (sym (recorded_one y))
+    (subst (λ rs. Each (λ m. IsTold (asked_of (durable h ++ (fresh h ++ rs))) (asked_of (durable h)) m) (to_client h))
+    (sym (recorded_one y))
     (told_record h (flush_record y) refl i))
 told_server h x (received_again y q is again) stands i =
-    each_append (λ m. Told h m) (to_client h) (acked_again y.file y.tid (durable h)) i (each_again (λ m. Told h m) y.file y.tid (durable h) (λ _. tt))
+    each_append (λ m. Told h m) (to_client h) (acked_again y.file y.tid (durable h)) i
+    (each_again (λ m. Told h m) y.file y.tid (durable h) (λ _. tt))
 told_server h x (received_req tid ino op q is first) stands i =
     let o : OpAnswer = answer_on (names h) op in
-    subst (λ p. Each (λ m. IsTold (asked_of (durable h ++ (fresh h ++ requested o p))) (asked_of (durable h)) m) (to_client h ++ unsafe_message tid o ∷ [])) (sym is)
+    subst
+    (λ p. Each (λ m. IsTold (asked_of (durable h ++ (fresh h ++ requested o p))) (asked_of (durable h)) m)
+    (to_client h ++ unsafe_message tid o ∷ [])) (sym is)
     (subst (λ st. Each (λ m. IsTold st (asked_of (durable h)) m) (to_client h ++ unsafe_message tid o ∷ []))
     (sym (stand_end (durable h) (fresh h) (record { body = bodies.Request tid op o })))
     (told_request h (record { tid = tid; op = op; answer = o }) i))
 told_server h x (received_req_again tid ino op q is again) stands i =
-    let first : Sending (is_whole h) (asked h) (asked_of (stand h)) (messages.Req tid ino op ∷ q) = subst (λ p. Sending (is_whole h) (asked h) (asked_of (stand h)) p) is stands in
-    let low : tid ≤ last_asked (asked_of (stand h)) = omega (arith, ltb-false (greatest_request (stand h)) tid again, greatest_stands (stand h) first) in
+    let first : Sending (is_whole h) (asked h) (asked_of (stand h)) (messages.Req tid ino op ∷ q)
+    = subst (λ p. Sending (is_whole h) (asked h) (asked_of (stand h)) p) is stands in
+    let low : tid ≤ last_asked (asked_of (stand h))
+    = omega (arith, ltb-false (greatest_request (stand h)) tid again, greatest_stands (stand h) first) in
     each_append (λ m. Told h m) (to_client h) (answered_again tid (unwrap_or (answer_kept tid (stand h)) replies_of.Missing) (durable h)) i
     (each_answered (λ m. Told h m) tid (unwrap_or (answer_kept tid (stand h)) replies_of.Missing) (durable h)
     (again_right (stand h) tid (stands_rise stands) (again_stands tid ino op low first))
     (λ there. request_member tid (durable h) there))
 
-told_snap : (h : List Entry) (d : ℕ) (name : List ℕ) (x : Answer) → SnapIs h d name x → AllTold h → AllTold (record { event = e.Snap d name; answer = x } ∷ h)
+told_snap : (h : List Entry) (d : ℕ) (name : List ℕ) (x : Answer) → SnapIs h d name x → AllTold h
+    → AllTold (record { event = e.Snap d name; answer = x } ∷ h)
 told_snap h d name x snap_unknown i = i
 told_snap h d name x snap_exists i = i
 told_snap h d name x (snap_taken directory free) i = told_record h _ refl i
@@ -189,7 +205,8 @@ told_remove h t x remove_none i = i
 told_remove h t x remove_gone i = i
 told_remove h t x (removed there stays) i = told_record h _ refl i
 
-told_unlease : (h : List Entry) (d : ℕ) (name : List ℕ) (x : Answer) → UnleaseIs h x → AllTold h → AllTold (record { event = e.Unlease d name; answer = x } ∷ h)
+told_unlease : (h : List Entry) (d : ℕ) (name : List ℕ) (x : Answer) → UnleaseIs h x → AllTold h
+    → AllTold (record { event = e.Unlease d name; answer = x } ∷ h)
 told_unlease h d name x unlease_unknown i = i
 told_unlease h d name x unlease_sent i = each_end (λ m. Told h m) (to_client h) (messages.Unlease d name) i tt
 
@@ -202,7 +219,8 @@ told_commit h i =
     (λ m there. told_more (asked_of (stand h)) (asked_of (stand h ++ [])) (asked_of (durable h)) (asked_of (stand h))
     (more_stand (stand h) []) (more_tids (durable h) (fresh h)) m (i m there))
     (news_told (asked_of (stand h ++ [])) (asked_of (stand h)) (λ d. server_path h d) (server_dirs h) (last_sent h) (durable h) (fresh h)
-    (λ t there. subst (λ ts. Member t ts) (sym (ap asked_tids (asked_append (durable h) (fresh h)) ∙ tids_append (asked_of (durable h)) (asked_of (fresh h))))
+    (λ t there. subst (λ ts. Member t ts)
+    (sym (ap asked_tids (asked_append (durable h) (fresh h)) ∙ tids_append (asked_of (durable h)) (asked_of (fresh h))))
     (member_right t (asked_tids (asked_of (durable h))) (asked_tids (asked_of (fresh h))) there)))
 
 told_step : (p : ℕ) (h : List Entry) (x : Event) → AskedStands h → AllTold h → AllTold (entry p h x ∷ h)

@@ -64,7 +64,8 @@ member_with_entry x y (z ∷ zs) there =
 pub setup_low : (i : ℕ) → nat_le i 9999 ≡ true → (n : ℕ) → i < 10000 + n
 setup_low i is n = omega (arith, leb-true i 9999 is)
 
-fresh_dir : (h : List Entry) (d p : ℕ) → fits (e.Dir d p) ≡ true → SetupFresh h → SetupFresh (record { event = e.Dir d p; answer = a.Made } ∷ h)
+fresh_dir : (h : List Entry) (d p : ℕ) → fits (e.Dir d p) ≡ true → SetupFresh h
+    → SetupFresh (record { event = e.Dir d p; answer = a.Made } ∷ h)
 fresh_dir h d p fit i = record {
   entries = λ x m is. ⊎_elim
       (λ new. subst (λ k. is_directory (record { event = e.Dir d p; answer = a.Made } ∷ h) k ≡ true) (ap (λ (z : Named). z.ino) new)
@@ -82,11 +83,13 @@ fresh_dir h d p fit i = record {
     new_low k true same is = omega (arith, small, eqb-true d k same)
     new_low k false other is = i.low k (or_left (is_directory h k) (setup_file h k) is)
 
-    low : (k : ℕ) → (is_directory (record { event = e.Dir d p; answer = a.Made } ∷ h) k ≡ true) ⊎ (setup_file h k ≡ true) → k < next_ino (setup_names h)
+    low : (k : ℕ) → (is_directory (record { event = e.Dir d p; answer = a.Made } ∷ h) k ≡ true) ⊎ (setup_file h k ≡ true)
+        → k < next_ino (setup_names h)
     low k (inl is) = new_low k (d == k) refl is
     low k (inr is) = i.low k (or_right (is_directory h k) (setup_file h k) is)
 
-fresh_file : (h : List Entry) (f p : ℕ) → fits (e.File f p) ≡ true → SetupFresh h → SetupFresh (record { event = e.File f p; answer = a.Made } ∷ h)
+fresh_file : (h : List Entry) (f p : ℕ) → fits (e.File f p) ≡ true → SetupFresh h
+    → SetupFresh (record { event = e.File f p; answer = a.Made } ∷ h)
 fresh_file h f p fit i = record {
   entries = λ x m is. ⊎_elim
       (λ new. let k : false ≡ x.is_dir = ap (λ (z : Named). z.is_dir) new in absurd cc)
@@ -139,7 +142,8 @@ Alike [] [] = Unit {0}
 Alike (x ∷ xs) (y ∷ ys) = (x.tid ≡ y.tid) × (x.op ≡ y.op) × Alike xs ys
 Alike _ _ = ⊥
 
-pub alike_end : (xs : List Request) (ys : List Asked) (x : Request) (y : Asked) → x.tid ≡ y.tid → x.op ≡ y.op → Alike xs ys → Alike (xs ++ x ∷ []) (ys ++ y ∷ [])
+pub alike_end : (xs : List Request) (ys : List Asked) (x : Request) (y : Asked) → x.tid ≡ y.tid → x.op ≡ y.op → Alike xs ys
+    → Alike (xs ++ x ∷ []) (ys ++ y ∷ [])
 alike_end [] [] x y tid op i = (tid, op, tt)
 alike_end (z ∷ xs) (w ∷ ys) x y tid op i = (i.0, i.1, alike_end xs ys x y tid op i.2)
 alike_end _ _ x y tid op i = absurd i
@@ -170,7 +174,8 @@ was_sent xs ys y i m =
     let k = alike_member xs ys y i m in any_true (λ x. x.tid == y.tid) xs k.request k.there (eq-eqb k.request.tid y.tid k.tid)
 
 -- and its operation is found
-pub op_found : (n : ℕ) (xs : List Request) (ys : List Asked) (y : Asked) → RisesFrom n (map (λ z. z.tid) ys) → Alike xs ys → Member y ys → op_of y.tid xs ≡ Some y.op
+pub op_found : (n : ℕ) (xs : List Request) (ys : List Asked) (y : Asked) → RisesFrom n (map (λ z. z.tid) ys) → Alike xs ys → Member y ys
+    → op_of y.tid xs ≡ Some y.op
 op_found n (x ∷ xs) (z ∷ ys) y up i (inl is) =
     let same : x.tid ≡ y.tid = i.0 ∙ ap (λ (w : Asked). w.tid) is in
     ap (λ b. option_map (λ (w : Request). w.op) (cond b (Some x) (find (λ w. w.tid == y.tid) xs))) (eq-eqb x.tid y.tid same)
@@ -205,7 +210,8 @@ settles_step p h (e.File f q) fit alike i =
     subst (λ xs. Settles 0 (setup_names (entry p h (e.File f q) ∷ h)) xs) (sym (asks_later h (fit.setup refl))) tt
 settles_step p h (e.Req c op) fit alike i =
     let same : length (requests h) ≡ length (asked h) = alike_length (requests h) (asked h) alike in
-    settle_end 0 (setup_names h) (asked h) (record { tid = length (requests h) + 1; op = op; answer = answer_on (stage (setup_names h) (asked h)) op })
+    settle_end 0 (setup_names h) (asked h)
+    (record { tid = length (requests h) + 1; op = op; answer = answer_on (stage (setup_names h) (asked h)) op })
     (omega (arith, same)) refl i
 settles_step p h _ fit alike i = i
 

@@ -47,9 +47,9 @@ pub mod AskedStands
 pub mod AskedTold
 pub mod Answered
 pub mod Asks
-pub mod RequestLaws
 pub mod Entries
-pub mod LeaseLaws
+pub mod Leased
+pub mod RequestLaws
 pub mod Sides
 pub mod Links
 pub mod Sent

@@ -5,9 +5,8 @@ use Rattle.cs_laws.specs.Laws.{Laws}
 use Rattle.cs_laws.specs.Runs.{IsRun}
 use Rattle.cs_theorems.proofs.AcksFree.{acks_free}
 use Rattle.cs_theorems.proofs.HeldCovers.{held_covers}
-use Rattle.cs_theorems.proofs.LeaseLaws.{leases_stand}
 use Rattle.cs_theorems.proofs.OnceStanding.{flushes_once}
-use Rattle.cs_theorems.proofs.RequestLaws.{replies_stand, requests_once}
+use Rattle.cs_theorems.proofs.RequestLaws.{leases_stand, replies_stand, requests_once}
 use Rattle.cs_theorems.proofs.Uses.{uses_issued}
 
 pub lawful : (p : ℕ) (h : List Entry) → IsRun p h → Laws h

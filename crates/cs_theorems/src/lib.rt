@@ -10,6 +10,7 @@ mod laws;
 mod metadata;
 mod references;
 mod refusals;
+mod requests;
 mod snapshots;
 mod spellings;
 
@@ -20,6 +21,7 @@ pub use laws::runs_are_lawful;
 pub use metadata::{metadata_is_of_the_writes, states_read_back};
 pub use references::{live_references_were_issued, numbers_are_drawn_once, uses_are_issued};
 pub use refusals::refused_events_change_the_journal_alone;
+pub use requests::{leases_stand, replies_stand, requests_stand_once};
 pub use snapshots::{
     contexts_never_fall, finished_snaps_are_not_written, finished_snaps_keep_their_writes,
     follows_rise, one_context_for_each_seq, only_the_last_is_writing, tags_are_of_the_begin,
