@@ -29,8 +29,9 @@ impl Lease {
     }
 }
 
-/// The leases on entries of directories, at most one on each. The times are of the clock that the
-/// caller goes by. A lease whose time has come stays until it is ended.
+/// The leases on entries of directories, at most one on each, after the leases on dentries of Linux
+/// `fs/ceph/dir.c`. Times are in seconds of the clock that the caller goes by. A lease whose time has
+/// come stays until it is ended.
 #[derive(Drop)]
 pub struct Leases {
     // In no order that a caller can see: where one ends, the last takes its place.
