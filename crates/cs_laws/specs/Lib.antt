@@ -5,6 +5,7 @@ pub mod Capabilities
 pub mod Carried
 pub mod ClientKnows
 pub mod Context
+pub mod Covering
 pub mod Devices
 pub mod Events
 pub mod Fits

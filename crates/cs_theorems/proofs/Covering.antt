@@ -29,7 +29,7 @@ use Rattle.cs_theorems.proofs.WayContexts.{has_realm}
 use Rattle.cs_theorems.proofs.Logs.{realm_dir}
 use Rattle.cs_theorems.proofs.Paths.{Tree}
 use Rattle.cs_theorems.proofs.Sides.{log_dirs, server_listing, server_tree}
-use Rattle.cs_theorems.specs.Covering.{covers_along, passes}
+use Rattle.cs_laws.specs.Covering.{covers_along, passes}
 
 -- The records of all realms
 

@@ -1,7 +1,6 @@
 pub mod Asked
 pub mod Contents
 pub mod Contexts
-pub mod Covering
 pub mod Flushes
 pub mod Metadata
 pub mod Order
