@@ -187,7 +187,7 @@ new_one : (dir used : ℕ → Bool) (ns : Names) (i : ℕ) → i ≡ next_ino ns
 new_one dir used ns i ino fresh = false_from_ne_true (used i) (λ is. omega (arith, fresh.low i is, ino))
 
 -- an operation that makes nothing
-made_same : (ns : Names) (op : ReqOp) (o : OpAnswer) → made_by (Some op) o ≡ [] → (after_answer op o ns).made ≡ ns.made
+pub made_same : (ns : Names) (op : ReqOp) (o : OpAnswer) → made_by (Some op) o ≡ [] → (after_answer op o ns).made ≡ ns.made
 made_same ns (ops.Mkdir d name) (replies.Made i) none = absurd cc
 made_same ns (ops.Create d name) (replies.Made i) none = absurd cc
 made_same ns (ops.Unlink d name) replies.Gone none = refl
@@ -202,11 +202,11 @@ fresh_same dir used ns op o none i = record {
 }
 
 -- one that makes m
-record Makes (ns now : Names) (m : Made) (ms : List Made) : Type 0 where
-  only : ms ≡ []
-  above : has_dir ns m.dir ≡ true
-  ino : m.ino ≡ next_ino ns
-  count : now.made ≡ ns.made + 1
+pub record Makes (ns now : Names) (m : Made) (ms : List Made) : Type 0 where
+  pub only : ms ≡ []
+  pub above : has_dir ns m.dir ≡ true
+  pub ino : m.ino ≡ next_ino ns
+  pub count : now.made ≡ ns.made + 1
 
 makes_one : (ns now : Names) (one m : Made) (ms : List Made) → one ∷ [] ≡ m ∷ ms → MadeIs ns one.dir one.ino → now.made ≡ ns.made + 1 → Makes ns now m ms
 makes_one ns now one m ms same is count =
@@ -214,7 +214,7 @@ makes_one ns now one m ms same is count =
     let l : ms ≡ [] = cc in
     subst (λ x. Makes ns now x ms) k (record { only = l; above = is.above; ino = is.ino; count = count })
 
-makes_is : (ns : Names) (op : ReqOp) (o : OpAnswer) (m : Made) (ms : List Made) → made_by (Some op) o ≡ m ∷ ms → answer_on ns op ≡ o → Makes ns (after_answer op o ns) m ms
+pub makes_is : (ns : Names) (op : ReqOp) (o : OpAnswer) (m : Made) (ms : List Made) → made_by (Some op) o ≡ m ∷ ms → answer_on ns op ≡ o → Makes ns (after_answer op o ns) m ms
 makes_is ns (ops.Mkdir d name) (replies.Made i) m ms same is =
     makes_one ns (after_answer (ops.Mkdir d name) (replies.Made i) ns) (record { ino = i; dir = d; is_dir = true }) m ms same (made_is ns d name i is) refl
 makes_is ns (ops.Create d name) (replies.Made i) m ms same is =

@@ -46,6 +46,9 @@ pub mod AsksRun
 pub mod AskedStands
 pub mod AskedTold
 pub mod Answered
+pub mod Flying
+pub mod Unused
+pub mod Added
 pub mod Asks
 pub mod Entries
 pub mod Leased
