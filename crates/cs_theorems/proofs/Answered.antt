@@ -65,12 +65,12 @@ unsafe_tids q = filter_map unsafe_on q
 pub unsafe_append : (q r : List Message) → unsafe_tids (q ++ r) ≡ unsafe_tids q ++ unsafe_tids r
 unsafe_append q r = filter_map-append unsafe_on q r
 
-no_unsafe : (q : List Message) → Each (λ m. unsafe_on m ≡ None) q → unsafe_tids q ≡ []
+pub no_unsafe : (q : List Message) → Each (λ m. unsafe_on m ≡ None) q → unsafe_tids q ≡ []
 no_unsafe [] none = refl
 no_unsafe (m ∷ q) none =
     ap (λ o. cons_option o (unsafe_tids q)) (none m (inl refl)) ∙ no_unsafe q (each_tail (λ k. unsafe_on k ≡ None) m q none)
 
-no_unsafe_news : (before : List Record) (realms : List RealmRecord) (b : RecordBody) → unsafe_on (news_of before realms b) ≡ None
+pub no_unsafe_news : (before : List Record) (realms : List RealmRecord) (b : RecordBody) → unsafe_on (news_of before realms b) ≡ None
 no_unsafe_news before realms (bodies.Request tid op answer) = refl
 no_unsafe_news before realms (bodies.Flush snap f tid follows meta) = refl
 no_unsafe_news before realms (bodies.Snap n d name) = refl

@@ -297,7 +297,7 @@ all_fly p h run =
 reply_member : (t : ℕ) (rs : List Reply) → has_reply t rs ≡ true → Member t (reply_tids rs)
 reply_member t [] is = absurd cc
 reply_member t (r ∷ rs) is =
-    ⊎_elim (λ same. inl (sym (eqb-true r.tid t same))) (λ there. inr (reply_member t rs there)) (or_cases (r.tid == t) (has_reply t rs) is)
+    ⊎_elim (λ same. inl (eqb-true r.tid t same)) (λ there. inr (reply_member t rs there)) (or_cases (r.tid == t) (has_reply t rs) is)
 
 -- no answer on its way came before
 pub first_reply : (p : ℕ) (h : List Entry) → IsRun p h → (t : ℕ) (o : OpAnswer) (ttl : ℕ) (q : List Message)
@@ -308,8 +308,10 @@ first_reply p h run t o ttl q is =
     = subst (λ ts. RisesFrom 0 ts) (sym i.client) (asked_rise p h run) in
     let here : Member t (unsafe_tids (to_client h)) = subst (λ s. Member t (unsafe_tids s)) (sym is) (inl refl) in
     false_from_ne_true (has_reply t (replies h))
-    (λ had. omega (arith,
-    less_behind 0 (reply_tids (replies h)) _ t t up (reply_member t (replies h) had) (member_left t (unsafe_tids (to_client h)) (req_tids (to_server h)) here)))
+    (λ had. omega (
+      arith,
+      less_behind 0 (reply_tids (replies h)) _ t t up (reply_member t (replies h) had) (member_left t (unsafe_tids (to_client h)) (req_tids (to_server h)) here),
+    ))
 
 -- while one has no answer, none behind it has
 pub later_unanswered : (p : ℕ) (h : List Entry) → IsRun p h → (t u : ℕ) → Member t (asked_tids (asked h)) → has_reply t (replies h) ≡ false → t < u
@@ -326,5 +328,5 @@ later_unanswered p h run t u asked_one unanswered less =
   where
     replied : (t : ℕ) (rs : List Reply) → Member t (reply_tids rs) → has_reply t rs ≡ true
     replied t [] there = absurd there
-    replied t (r ∷ rs) (inl is) = or_left (r.tid == t) _ (eq-eqb r.tid t (sym is))
+    replied t (r ∷ rs) (inl is) = or_left (r.tid == t) _ (eq-eqb r.tid t is)
     replied t (r ∷ rs) (inr there) = or_right (r.tid == t) _ (replied t rs there)

@@ -70,9 +70,12 @@ module _ (p : ℕ) (h : List Entry) (run : IsRun p h) where
   pub no_dir_yet : (i : ℕ) → next_ino (names h) ≤ i → server_dir h i ≡ false
   no_dir_yet i above =
       false_from_ne_true (server_dir h i)
-      (λ there. absurd (omega (arith, above,
-      low_now i
-      (all_are_used (server_made h) (λ k. is_directory h k) (λ k. is_in_use h k) (setup_used h) i (dirs_are (server_made h) (λ k. is_directory h k) i ∙ there)))))
+      (λ there. absurd (omega (
+        arith,
+        above,
+        low_now i
+            (all_are_used (server_made h) (λ k. is_directory h k) (λ k. is_in_use h k) (setup_used h) i (dirs_are (server_made h) (λ k. is_directory h k) i ∙ there)),
+      )))
 
   -- and no file
   pub no_file_yet : (i : ℕ) → next_ino (names h) ≤ i → server_knows h i ≡ false
@@ -111,12 +114,14 @@ made_stage ns (x ∷ xs) = omega (arith, made_stage (after ns x.op) xs, made_ste
 
 setup_made : (h : List Entry) → (setup_names h).made ≡ 0
 setup_made [] = refl
-setup_made (x ∷ h) = at x.event x.answer
+setup_made (x ∷ h) = at x.event x.answer (setup_made h)
   where
-    at : (x : Event) (y : Answer) → (setup_names (record { event = x; answer = y } ∷ h)).made ≡ 0
-    at (e.Dir d q) a.Made = setup_made h
-    at (e.File f q) a.Made = setup_made h
-    at _ _ = setup_made h
+    at : (x : Event) (y : Answer) → (setup_names h).made ≡ 0 → (setup_names (record { event = x; answer = y } ∷ h)).made ≡ 0
+    at (e.Dir d q) a.Made none = none
+    at (e.Dir d q) _ none = none
+    at (e.File f q) a.Made none = none
+    at (e.File f q) _ none = none
+    at _ _ none = none
 
 pub made_few : (p : ℕ) (h : List Entry) → IsRun p h → (names h).made ≤ length h
 made_few p h run =
