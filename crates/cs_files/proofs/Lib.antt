@@ -3,6 +3,7 @@ pub mod ByFile
 pub mod Checks
 pub mod Chmods
 pub mod Counting
+pub mod Created
 pub mod Delivered
 pub mod Ends
 pub mod Flushes

@@ -27,8 +27,6 @@ use Rattle.cs_theorems.specs.Queues.{snaps}
 use Rattle.cs_theorems.specs.References.{IsEachOnce}
 use Rattle.cs_theorems.proofs.Contexts.{told_moves}
 use Rattle.cs_theorems.proofs.Course.{course_run}
-use Rattle.cs_theorems.proofs.Inversions.{FirstIs, first_idle, first_cap, first_flush_ack, first_snap, first_is}
-use Rattle.cs_theorems.proofs.Settings.{Setting}
 use Rattle.cs_theorems.proofs.Files.{listed, listed_once}
 use Rattle.cs_theorems.proofs.Listed.{Member, Each, each_end, each_reverse, each_tail}
 use Rattle.cs_theorems.proofs.Order.{not_other}
@@ -37,6 +35,7 @@ use Rattle.cs_theorems.proofs.Owing.{writer_counted}
 use Rattle.cs_theorems.proofs.QueueAnswers.{queue_makes}
 use Rattle.cs_files.specs.Rows.{inode}
 use Rattle.cs_files.specs.Laws.{TellsNext, told_context}
+use Rattle.cs_files.proofs.Delivered.{can_deliver}
 use Rattle.cs_inode.specs.Calls.{count_needed, needs_snap_at, with_context_at}
 
 -- Counted in the order in which the files were made
@@ -77,12 +76,6 @@ rises old new moves other = ⊎_elim (λ same. absurd (both_ways (differs old ne
 
 abbrev telling : Answer → List Entry → List Entry
 telling a h = record { event = events.ToClient; answer = a } ∷ h
-
-rises_by : (h : List Entry) (f : ℕ) (a : Answer) → FirstIs h a → Setting h → Rises (context h f) (context (telling a h) f)
-rises_by h f a first_idle i = inl refl
-rises_by h f a (first_cap g seq bits end q there) i = inl refl
-rises_by h f a (first_flush_ack g tid q there) i = inl refl
-rises_by h f a (first_snap n d now q there) i = told_moves h n d now q f there i
 
 pub context_told : (h : List Entry) (number realm made : ℕ) (told : List RealmRecord) (f : ℕ) → TellsNext h number realm told
     → context (telling (answers.SnapTold number realm made) h) f ≡ told_context h told f
@@ -132,10 +125,9 @@ module _ (p : ℕ) (h : List Entry) (run : IsRun p h) where
       (λ f. ((λ known. member_reverse fs f ((listed p h run f).0 known)), back f)))
       ∙ counted new needs (reverse fs) agree back
 
-  -- the context of each file stays, or its seq rises
-  told_rises : (a : Answer) (f : ℕ) → a ≡ answer_to_client h → Rises (context h f) (context (telling a h) f)
-  told_rises a f is =
-      subst (λ x. Rises (context h f) (context (telling x h) f)) (sym is) (rises_by h f (answer_to_client h) (first_is h) (course_run p h run).setting)
+  -- the context of a file that the client knows stays, or its seq rises
+  told_rises : (a : Answer) (f : ℕ) → a ≡ answer_to_client h → client_knows h f ≡ true → Rises (context h f) (context (telling a h) f)
+  told_rises a f is known = (course_run p (telling a h) ((can_deliver h, is), run)).contexts.0 f known
 
   pub context_rises : (number realm : ℕ) (told : List RealmRecord) (f : ℕ) → TellsNext h number realm told
       → differs (context h f) (told_context h told f) ≡ true → (context h f).seq < (told_context h told f).seq
@@ -144,9 +136,9 @@ module _ (p : ℕ) (h : List Entry) (run : IsRun p h) where
       let moves = told_moves h number realm told next.rest f next.first (course_run p h run).setting in
       rises (context h f) (told_context h told f) (subst (λ ts. Rises (context h f) (path_context (client_file_path h f) ts)) now moves)
 
-  pub told_row : (number realm made f : ℕ) → answers.SnapTold number realm made ≡ answer_to_client h
+  pub told_row : (number realm made f : ℕ) → answers.SnapTold number realm made ≡ answer_to_client h → client_knows h f ≡ true
       → inode (telling (answers.SnapTold number realm made) h) f ≡ with_context_at (context (telling (answers.SnapTold number realm made) h) f) (inode h f)
-  told_row number realm made f is =
+  told_row number realm made f is known =
       let new : Context = context (telling (answers.SnapTold number realm made) h) f in
       ap (λ b. inode_with h f new b) (makes_is f new)
-      ∙ changed h f new (differs (context h f) new) refl (told_rises (answers.SnapTold number realm made) f is)
+      ∙ changed h f new (differs (context h f) new) refl (told_rises (answers.SnapTold number realm made) f is known)

@@ -1,5 +1,5 @@
 -- What is proved of the files of a run: what the client keeps of them, by the calls of `Inode`, is what the history says.
-use Rattle.std.specs.Prelude.{◌≡◌, ℕ, ◌+◌, ◌<◌, ◌≤◌, ◌/◌, ◌%◌, Bool, true, false, List, [], ◌∷◌, Option, Some, None, length, reverse}
+use Rattle.std.specs.Prelude.{◌≡◌, ℕ, ◌+◌, ◌<◌, ◌≤◌, ◌/◌, ◌%◌, Bool, true, false, List, [], ◌∷◌, Option, Some, None, length, reverse, if◌then◌else◌}
 use Rattle.cs_bits.specs.declared.Caps.{Caps}
 use Rattle.cs_geom.specs.declared.places.TheConstants.{OBJECT_SIZE}
 use Rattle.cs_parts.specs.declared.references.Live.{Live}
@@ -12,7 +12,7 @@ use Rattle.cs_inode.specs.declared.answers.FlushStep.TheVariants as flush
 use Rattle.cs_inode.specs.declared.answers.SnapStep.TheVariants as snap
 use Rattle.cs_inode.specs.Answers.{allowance, check_answer, chmod_answer, flush_answer, flush_snaps_answer}
 use Rattle.cs_inode.specs.Calls.{count_needed, needs_snap_at}
-use Rattle.cs_inode.specs.Inodes.{greatest_tid, new_inode, owed, write_operations}
+use Rattle.cs_inode.specs.Inodes.{FileInode, greatest_tid, new_inode, owed, write_operations}
 use Rattle.cs_inode.specs.Said.{begun_said, check_said, chmod_said, flush_said, shown_count, snap_said}
 use Rattle.cs_laws.specs.declared.answers.Answer.TheVariants as answers
 use Rattle.cs_laws.specs.declared.answers.Entry.{Entry}
@@ -22,6 +22,9 @@ use Rattle.cs_laws.specs.declared.messages.Message.{Message}
 use Rattle.cs_laws.specs.declared.messages.Message.TheVariants as messages
 use Rattle.cs_laws.specs.declared.objects.At.{At}
 use Rattle.cs_laws.specs.declared.objects.At.TheVariants as at
+use Rattle.cs_laws.specs.declared.requests.OpAnswer.{OpAnswer}
+use Rattle.cs_laws.specs.declared.requests.OpAnswer.TheVariants as replies_of
+use Rattle.cs_laws.specs.declared.requests.ReqOp.TheVariants as ops
 use Rattle.cs_laws.specs.Answers.{answer_begin, answer_check, answer_chmod, answer_flush, answer_flush_snaps}
 use Rattle.cs_laws.specs.Answers.{answer_read, bytes_from, count_made, may_change_mode, may_read, may_write}
 use Rattle.cs_laws.specs.CapSnaps.{is_writing, makes}
@@ -34,20 +37,40 @@ use Rattle.cs_laws.specs.Objects.{object_byte}
 use Rattle.cs_laws.specs.Operations.{applied, brought, operations_drawn}
 use Rattle.cs_laws.specs.Owed as history
 use Rattle.cs_laws.specs.References.{named}
+use Rattle.cs_laws.specs.Requests.{has_reply, op_of, replies, requests}
+use Rattle.cs_laws.specs.Runs.{all_setup}
 use Rattle.cs_theorems.specs.Unacked.{sent_of}
 use Rattle.cs_files.specs.Rows.{inode}
 use Rattle.cs_files.specs.Steps.{inode_then}
 
--- At first each file is as a new one, and each entry makes of it what the call does that serves the event.
+-- what is kept of a file after an entry: of one that the client knew before, what the call makes of it that serves the event; any
+-- other is as a new one
+abbrev pub inode_after : Entry → List Entry → ℕ → FileInode
+inode_after x h f =
+    if client_knows h f
+    then inode_then x.event x.answer (live h) (clock h) (context (x ∷ h) f) f (inode h f)
+    else new_inode f (context (x ∷ h) f)
+
+-- At first each file is as a new one, and so it goes on with each entry.
 abbrev pub RowsFollow : List Entry → Type 0
 RowsFollow [] = (f : ℕ) → inode [] f ≡ new_inode f (context [] f)
-RowsFollow (x ∷ h) = ((f : ℕ) → inode (x ∷ h) f ≡ inode_then x.event x.answer (live h) (clock h) (context (x ∷ h) f) f (inode h f)) × RowsFollow h
+RowsFollow (x ∷ h) = ((f : ℕ) → inode (x ∷ h) f ≡ inode_after x h f) × RowsFollow h
 
--- Until the client knows a file it is as a new one, and once it is made its context is that of its directory. A live reference
--- is of a file that the client knows.
+-- The message that is delivered next answers a request.
+pub record AnswersNext (h : List Entry) (tid : ℕ) (o : OpAnswer) : Type 0 where
+  pub lease : ℕ
+  pub rest : List Message
+  pub first : to_client h ≡ messages.Unsafe tid o lease ∷ rest
+
+-- Until the client knows a file it is as a new one. Where a line makes it, or the first answer to a request tells that it was made,
+-- its context is that of its directory. A live reference is of a file that the client knows.
 pub record FilesAreNew (h : List Entry) : Type 0 where
   pub new : (f : ℕ) → client_knows h f ≡ false → inode h f ≡ new_inode f (context h f)
-  pub at_home : (f d : ℕ) → context (record { event = events.File f d; answer = answers.Made } ∷ h) f ≡ path_context (client_path h d) (realms h)
+  pub at_home : (f d : ℕ) → all_setup h ≡ true
+      → context (record { event = events.File f d; answer = answers.Made } ∷ h) f ≡ path_context (client_path h d) (realms h)
+  pub created : (tid f d : ℕ) (name : List ℕ) → AnswersNext h tid (replies_of.Made f) → has_reply tid (replies h) ≡ false
+      → op_of tid (requests h) ≡ Some (ops.Create d name)
+      → context (record { event = events.ToClient; answer = answers.Unsafe tid (replies_of.Made f) } ∷ h) f ≡ path_context (client_path h d) (realms h)
   pub known : (c : ℕ) (name : RefName) (r : Live) → named c name (live h) ≡ Some r → client_knows h r.file ≡ true
 
 -- The answers are those that the file gives, which knows whether a cap snap of it is writing.

@@ -1,10 +1,10 @@
--- What each event makes of what the client keeps of a file, by the functions that say what the calls of `Inode` do. Functions go
--- by the event first, and then by its answer.
+-- What each event makes of what the client keeps of a file that it knows, by the functions that say what the calls of `Inode` do.
+-- Functions go by the event first, and then by its answer.
 use Rattle.std.specs.Prelude.{ℕ, ◌+◌, ◌==◌, List, Option, Some, None, length, if◌then◌else◌}
 use Rattle.cs_parts.specs.declared.references.Live.{Live}
 use Rattle.cs_snapctx.specs.Context.{Context}
 use Rattle.cs_inode.specs.Calls.{acked, started, stopped, with_caps, with_context_at}
-use Rattle.cs_inode.specs.Inodes.{FileInode, after_ack, after_flush, after_flush_snaps, new_inode, with_mode, written}
+use Rattle.cs_inode.specs.Inodes.{FileInode, after_ack, after_flush, after_flush_snaps, with_mode, written}
 use Rattle.cs_laws.specs.declared.events.Event.{Event}
 use Rattle.cs_laws.specs.declared.events.Event.TheVariants as events
 use Rattle.cs_laws.specs.declared.answers.Answer.{Answer}
@@ -19,7 +19,6 @@ on_file (Some r) go f i = if r.file == f then go r i else i
 -- What an entry makes of what is kept of file f. rs, time: the live references and the clock before the entry; new: the file's
 -- context after it.
 abbrev pub inode_then : Event → Answer → List Live → ℕ → Context → ℕ → FileInode → FileInode
-inode_then (events.File g d) answers.Made rs time new f i = if g == f then new_inode f new else i
 inode_then (events.Begin caller g bits end) (answers.Ref number) rs time new f i = if g == f then started bits i else i
 inode_then (events.End caller name) answers.Ended rs time new f i = on_file (named caller name rs) (λ r. stopped r.bits) f i
 inode_then (events.Write caller name off bytes) answers.Wrote rs time new f i =

@@ -4,14 +4,16 @@ ghost use Rattle.cs_laws.specs.declared.answers.Entry.{Entry};
 ghost use Rattle.cs_laws.specs.Runs.{IsRun};
 ghost use Rattle.cs_files.specs.Laws.{FilesAnswer, FilesAreNew, FilesAreTold, FilesOwe, FilesRead, FilesSend, FilesWrite, RowsFollow};
 
-/// What the client keeps of a file is at first what a new file has. Each event makes of it what the call
-/// does that serves the event: the files that no call touches stay as they are.
+/// What the client keeps of a file is what a new file has until an event makes the file known. Each later
+/// event makes of it what the call does that serves the event: the files that no call touches stay as they
+/// are.
 pub fn rows_follow_the_history()
     ensures { (pages : ℕ) (h : List Entry) → IsRun pages h → RowsFollow h }
 {}
 
-/// Until the client knows a file it is as a new one, and where it is made its context is that of its
-/// directory. Live references are of files that the client knows.
+/// Until the client knows a file it is as a new one. Where a line makes it, or the first answer to a
+/// request tells that it was made, its context is that of its directory. Live references are of files
+/// that the client knows.
 pub fn files_are_new()
     ensures { (pages : ℕ) (h : List Entry) → IsRun pages h → FilesAreNew h }
 {}
