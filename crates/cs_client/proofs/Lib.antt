@@ -1,8 +1,10 @@
 pub mod AllTold
 pub mod Counts
 pub mod Draws
+pub mod Leased
 pub mod Likes
 pub mod Made
+pub mod Makings
 pub mod Nearest
 pub mod Once
 pub mod Puts

@@ -16,9 +16,11 @@ use Rattle.cs_laws.specs.declared.answers.Answer.TheVariants as answers
 use Rattle.cs_laws.specs.declared.objects.At.TheVariants as at
 use Rattle.cs_laws.specs.declared.objects.ObjOp.{ObjOp}
 use Rattle.cs_laws.specs.Answers.{answer_write_on, bytes_from, may_change_mode, may_read}
+use Rattle.cs_laws.specs.Leases.{looked_up}
 use Rattle.cs_laws.specs.References.{can_end, named}
 use Rattle.cs_objstore.specs.Files.{file_byte}
 use Rattle.cs_client.specs.declared.file.ClientFile.{ClientFile}
+use Rattle.cs_client.specs.Requests.{lease_of}
 use Rattle.cs_client.specs.Views.{ClientView, Files}
 
 -- what is said of a file that is kept, or else Unknown
@@ -76,4 +78,6 @@ call_answer v active head (events.Chmod caller name mode) = chmod_call_answer (n
 call_answer v active head (events.Check f) = check_call_answer f v.refs.live (get nat_cmp v.files f)
 call_answer v active head (events.Flush f) = flush_call_answer v.flushes (get nat_cmp v.files f)
 call_answer v active head (events.FlushSnaps f) = flush_snaps_call_answer v.flushes (get nat_cmp v.files f)
+call_answer v active head (events.Lookup caller d name) = looked_up (lease_of v.leases d name) v.clock
+call_answer v active head (events.Req caller op) = answers.Sent (v.requests.sent + 1)
 call_answer v active head _ = answers.Unknown

@@ -24,6 +24,7 @@ use Rattle.cs_laws.specs.Events.{begun_then, clock_then}
 use Rattle.cs_laws.specs.References.{live_then, named}
 use Rattle.cs_laws.specs.Tree.{with_directory}
 use Rattle.cs_client.specs.declared.file.ClientFile.{ClientFile}
+use Rattle.cs_client.specs.Requests.{lease_after, lease_of, request_sent, requests_after}
 use Rattle.cs_client.specs.Rows.{row_after}
 use Rattle.cs_client.specs.Views.{ClientView, Files, is_kept}
 
@@ -42,16 +43,22 @@ is_call (events.Chmod caller name mode) = true
 is_call (events.Check f) = true
 is_call (events.Flush f) = true
 is_call (events.FlushSnaps f) = true
+is_call (events.Lookup caller d name) = true
+is_call (events.Req caller op) = true
 is_call _ = false
 
 -- a directory or a file of the client has the inode
 abbrev pub is_in_use : ℕ → List Directory → Files → Bool
 is_in_use i tree files = has_directory i tree || is_kept files i
 
+-- the inode is new, and the directory p is one of the tree
+pub record IsNewIn (i p : ℕ) (tree : List Directory) (files : Files) : Type 0 where
+  pub unused : is_in_use i tree files ≡ false
+  pub parent : has_directory p tree ≡ true
+
 -- of an inode that is new to it the client is told together with a directory p that it knows
-pub record IsNewInode (i p : ℕ) (v : ClientView) : Type 0 where
-  pub unused : is_in_use i v.tree v.files ≡ false
-  pub parent : has_directory p v.tree ≡ true
+abbrev pub IsNewInode : ℕ → ℕ → ClientView → Type 0
+IsNewInode i p v = IsNewIn i p v.tree v.files
 
 -- a directory or a file of which it is told is new to it
 abbrev pub IsNewTo : ClientView → Event → Type 0
@@ -64,12 +71,14 @@ pub record HasNumbers (v : ClientView) : Type 0 where
   pub operations : v.operations < 99998
   pub flushes : v.flushes < 99998
   pub begun : (c : ℕ) → begun_of c v.refs < 99998
+  pub requests : v.requests.sent < 99998
 
 -- at most so many numbers of each kind were drawn
 pub record HasDrawn (k : ℕ) (v : ClientView) : Type 0 where
   pub operations : v.operations ≤ k
   pub flushes : v.flushes ≤ k
   pub begun : (c : ℕ) → begun_of c v.refs ≤ k
+  pub requests : v.requests.sent ≤ k
 
 -- What it leaves
 
@@ -124,6 +133,8 @@ pub record Called (old new : ClientView) (e : Event) (a : Answer) : Type 0 where
   pub rows : (f : ℕ) → get nat_cmp new.files f ≡ row_after e a old f
   pub made : new.made ≡ made_after e a old.made
   pub refs : RefsAfter e a (seq_of old.files) old.refs new.refs
+  pub requests : new.requests ≡ requests_after e a old.requests
+  pub leases : (d : ℕ) (name : List ℕ) → lease_of new.leases d name ≡ lease_after e a d name (lease_of old.leases d name)
   pub operations : new.operations ≡ old.operations + length (call_operations e a old)
   pub flushes : new.flushes ≡ flushes_after e a old.flushes
 
@@ -155,6 +166,7 @@ abbrev pub call_sent : Event → Answer → ClientView → List Message
 call_sent (events.Check f) a v = check_sent f a
 call_sent (events.Flush f) a v = flush_sent f a (get nat_cmp v.files f)
 call_sent (events.FlushSnaps f) a v = flush_snaps_sent f a (get nat_cmp v.files f)
+call_sent (events.Req caller op) a v = request_sent op a
 call_sent _ a v = []
 
 -- When it calls the lent store

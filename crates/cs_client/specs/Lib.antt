@@ -2,6 +2,8 @@ pub mod Answers
 pub mod Calls
 pub mod Contexts
 pub mod Messages
+pub mod Replies
+pub mod Requests
 pub mod Rows
 pub mod Told
 pub mod Views

@@ -13,7 +13,10 @@ use Rattle.cs_laws.specs.declared.answers.Answer.TheVariants as answers
 use Rattle.cs_laws.specs.declared.messages.Message.{Message}
 use Rattle.cs_laws.specs.declared.messages.Message.TheVariants as messages
 use Rattle.cs_laws.specs.Carried.{realms_of}
+use Rattle.cs_laws.specs.Made.{made_by}
 use Rattle.cs_client.specs.declared.file.ClientFile.{ClientFile}
+use Rattle.cs_client.specs.Replies.{AreNew, TreeTold, files_with, lease_told, made_known, requests_told, row_with}
+use Rattle.cs_client.specs.Requests.{lease_of, unanswered}
 use Rattle.cs_client.specs.Rows.{at_file}
 use Rattle.cs_client.specs.Told.{ContextsRise, count_changed, told_row}
 use Rattle.cs_client.specs.Views.{ClientView, is_kept}
@@ -40,6 +43,9 @@ abbrev pub Accepts : ClientView → Message → Type 0
 Accepts v (messages.Cap f seq bits end) = is_kept v.files f ≡ true
 Accepts v (messages.FlushAck f tid) = TellsFlush v f tid
 Accepts v (messages.Snap number realm told) = TellsRealms v told
+Accepts v (messages.Unsafe t a ttl) = AreNew (made_by (unanswered t v.requests.requests) a) v.tree v.files
+Accepts v (messages.Safe t) = Unit {0}
+Accepts v (messages.Unlease d name) = Unit {0}
 Accepts v _ = ⊥
 
 -- What it answers
@@ -49,6 +55,9 @@ message_answer v (messages.Cap f seq bits end) = answers.Cap f seq bits end
 message_answer v (messages.FlushAck f tid) = answers.FlushAck f tid
 message_answer v (messages.Snap number realm told) =
     answers.SnapTold number realm (count_changed (path_of v.tree) (with_records told v.realms) v.files v.made)
+message_answer v (messages.Unsafe t a ttl) = answers.Unsafe t a
+message_answer v (messages.Safe t) = answers.Safe t
+message_answer v (messages.Unlease d name) = answers.Unlease d name
 message_answer v _ = answers.Idle
 
 -- What it leaves
@@ -58,14 +67,17 @@ abbrev pub delivered_row : Message → ClientView → ℕ → Option ClientFile
 delivered_row (messages.Cap g seq bits end) v f = at_file g (with_caps bits seq end) f (get nat_cmp v.files f)
 delivered_row (messages.FlushAck g tid) v f = at_file g (after_ack tid) f (get nat_cmp v.files f)
 delivered_row (messages.Snap number realm told) v f = option_map (told_row (path_of v.tree) (with_records told v.realms)) (get nat_cmp v.files f)
+delivered_row (messages.Unsafe t a ttl) v f = row_with (made_by (unanswered t v.requests.requests) a) v.tree v.realms f (get nat_cmp v.files f)
 delivered_row _ v f = get nat_cmp v.files f
 
 pub record Delivered (old new : ClientView) (m : Message) : Type 0 where
   pub clock : new.clock ≡ old.clock
-  pub tree : new.tree ≡ old.tree
+  pub tree : TreeTold m (made_known m old.requests) old.tree new.tree
   pub realms : new.realms ≡ with_records (realms_of m) old.realms
   pub rows : (f : ℕ) → get nat_cmp new.files f ≡ delivered_row m old f
-  pub made : new.made ≡ old.made
+  pub made : new.made ≡ files_with (made_known m old.requests) old.made
   pub refs : new.refs ≡ old.refs
+  pub requests : new.requests ≡ requests_told m old.requests
+  pub leases : (d : ℕ) (name : List ℕ) → lease_of new.leases d name ≡ lease_told m old.requests old.clock d name (lease_of old.leases d name)
   pub operations : new.operations ≡ old.operations
   pub flushes : new.flushes ≡ old.flushes

@@ -12,7 +12,9 @@ use Rattle.cs_snapctx.specs.Records.{root_record}
 use Rattle.cs_tree.specs.Directories.{has_directory}
 use Rattle.cs_refs.specs.Table.{RefTable, begun_of, writers_of}
 use Rattle.cs_inode.specs.Inodes.{FileInode, greatest_tid}
-use Rattle.cs_laws.specs.Fits.{greatest_end}
+use Rattle.cs_laws.specs.Fits.{greatest_end, greatest_time}
+use Rattle.cs_leases.specs.Leases.{EntryLease}
+use Rattle.cs_requests.specs.RequestTable.{RequestTable}
 use Rattle.cs_client.specs.declared.file.ClientFile.{ClientFile}
 use Rattle.cs_client.specs.Contexts.{home_context}
 
@@ -31,6 +33,10 @@ pub record ClientView : Type 0 where
   -- these files, in the order in which it was told of them
   pub made : List ℕ
   pub refs : RefTable
+  -- how many requests were sent, and those that are open
+  pub requests : RequestTable
+  -- the leases on entries of directories
+  pub leases : List EntryLease
   -- how many numbers of operations were drawn
   pub operations : ℕ
   -- how many numbers of flushes were drawn
@@ -46,6 +52,8 @@ pub record IsBlank (v : ClientView) : Type 0 where
   pub made : v.made ≡ []
   pub live : v.refs.live ≡ []
   pub begun : (c : ℕ) → begun_of c v.refs ≡ 0
+  pub requests : v.requests ≡ record { sent = 0; requests = [] }
+  pub leases : v.leases ≡ []
   pub operations : v.operations ≡ 0
   pub flushes : v.flushes ≡ 0
 
@@ -93,6 +101,7 @@ abbrev pub HaveHomes : List Directory → Files → Type 0
 HaveHomes tree files = (f : ℕ) (r : ClientFile) → get nat_cmp files f ≡ Some r → has_directory r.home tree ≡ true
 
 pub record IsClient (v : ClientView) : Type 0 where
+  pub clock : v.clock ≤ greatest_time
   pub tables : AreTables v.files v.refs.live v.flushes
   pub made : AreMade v.files v.made
   pub homes : HaveHomes v.tree v.files

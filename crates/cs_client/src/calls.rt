@@ -1,5 +1,5 @@
 // The client is told of directories and files and of the time, and acknowledges what was revoked.
-ghost use Rattle.std.specs.Prelude.{◌≡◌, ◌+◌, ℕ, ◌∷◌, ◌++◌, [], true, false, IfOk, OnOk, OnErr};
+ghost use Rattle.std.specs.Prelude.{◌≡◌, ◌+◌, ◌≤◌, ℕ, ◌∷◌, ◌++◌, [], true, false, IfOk, OnOk, OnErr};
 ghost use Rattle.std.specs.BTreeMap.{get};
 ghost use Rattle.std.specs.Option.{option_map};
 ghost use Rattle.std.specs.Ordering.{nat_cmp};
@@ -7,6 +7,7 @@ ghost use Rattle.cs_tree.specs.Directories.{has_directory};
 ghost use Rattle.cs_laws.specs.declared.answers.Answer.TheVariants as answers;
 ghost use Rattle.cs_laws.specs.declared.events.Event.TheVariants as events;
 ghost use Rattle.cs_laws.specs.Events.{clock_then};
+ghost use Rattle.cs_laws.specs.Fits.{greatest_time};
 ghost use Rattle.cs_inode.specs.Answers.{check_answer};
 ghost use Rattle.cs_client.specs.Answers.{check_call_answer, clock_answer};
 ghost use Rattle.cs_client.specs.Calls.{AddsDirectory, check_sent, made_after};
@@ -75,8 +76,10 @@ pub fn add_file(
 
 /// The script's time becomes this one, unless that is past.
 pub fn set_clock(clock: &mut u64, time: u64) -> Answer
+    requires { time ≤ greatest_time }
     ensures answer { result ≡ clock_answer time clock.old }
     ensures clock { clock.new ≡ clock_then (events.Clock time) result clock.old }
+    ensures small { clock.old ≤ greatest_time → clock.new ≤ greatest_time }
 {
     if time < *clock {
         return Answer::Back;

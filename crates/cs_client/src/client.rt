@@ -1,5 +1,5 @@
 // The client, as the layer above sees it.
-ghost use Rattle.std.specs.Prelude.{◌≡◌, ℕ, ◌++◌, true, false, length, IfOk, OnOk, OnErr, IsErrOf};
+ghost use Rattle.std.specs.Prelude.{◌≡◌, ℕ, ◌+◌, ◌≤◌, ◌++◌, true, false, length, IfOk, OnOk, OnErr, IsErrOf};
 ghost use Rattle.std.specs.BTreeMap.{get};
 ghost use Rattle.std.specs.Option.{option_map_or};
 ghost use Rattle.std.specs.Ordering.{nat_cmp};
@@ -9,12 +9,16 @@ ghost use Rattle.cs_laws.specs.declared.events.Event.TheVariants as events;
 ghost use Rattle.cs_laws.specs.declared.messages.Message.TheVariants as messages;
 ghost use Rattle.cs_laws.specs.Answers.{answer_write_on};
 ghost use Rattle.cs_laws.specs.Devices.{FaultsOf};
-ghost use Rattle.cs_laws.specs.Fits.{fits, is_shown, is_write};
+ghost use Rattle.cs_laws.specs.Fits.{fits, greatest_time, is_shown, is_write};
+ghost use Rattle.cs_laws.specs.Leases.{looked_up};
+ghost use Rattle.cs_laws.specs.Made.{made_by};
 ghost use Rattle.cs_laws.specs.References.{can_end, named};
 ghost use Rattle.cs_objstore.specs.Files.{AppliesNew, with_new};
 ghost use Rattle.cs_client.specs.Answers.{begin_answer, call_answer, check_call_answer, chmod_call_answer, clock_answer, end_answer, flush_call_answer, flush_snaps_call_answer, head_byte, read_answer};
 ghost use Rattle.cs_client.specs.Calls.{Called, HasNumbers, IsNewInode, IsNewTo, call_operations, call_sent, calls_store, check_sent, flush_sent, flush_snaps_sent, is_call, read_calls, write_calls};
 ghost use Rattle.cs_client.specs.Messages.{Accepts, Delivered, TellsRealms, message_answer};
+ghost use Rattle.cs_client.specs.Replies.{AreNew};
+ghost use Rattle.cs_client.specs.Requests.{lease_of, request_sent, unanswered};
 ghost use Rattle.cs_client.specs.Views.{IsBlank, is_kept};
 
 use crate::calls::{add_directory, add_file, check, set_clock};
@@ -22,22 +26,30 @@ use crate::file::ClientFile;
 use crate::flushes::{flush, flush_snaps};
 use crate::messages::{deliver_ack, deliver_cap, deliver_realms};
 use crate::references::{begin, chmod, end};
+use crate::replies::{deliver_unlease, deliver_unsafe};
+use crate::requests::{look_up, send};
 use crate::writes::{read, write};
 use cs_bits::Caps;
-use cs_ids::{Bytes, Caller, Ino, Memory, Seq, Snap, Tid};
-use cs_laws::{Answer, Event, Message, MessageList, RealmRecordList, RefName, StepFault};
+use cs_ids::{Bytes, Caller, Ino, Memory, Name, Seq, Snap, Tid};
+use cs_laws::{
+    Answer, Event, Message, MessageList, OpAnswer, RealmRecordList, RefName, ReqOp, StepFault,
+};
+use cs_leases::Leases;
 use cs_objstore::ObjStore;
 use cs_realms::Realms;
 use cs_refs::Refs;
+use cs_requests::Requests;
 use cs_tree::Directories;
 use std::alloc::Global;
 use std::collections::BTreeMap;
 use std::marker::Model;
 
-/// The client of a run: the directories and realms of which it was told, what it keeps of each file, and
-/// the callers' live references. Of each file it counts the live references that may write, has
-/// unacknowledged flushes of numbers alone that were drawn, and a size of at most 1,048,576 bytes; each
-/// live reference is one to a file that it keeps. So it is after a fault too, and no more is said then.
+/// The client of a run: the directories and realms of which it was told, what it keeps of each file, the
+/// callers' live references and open requests, and the leases on entries of directories. It knows a
+/// directory or a file from its setup line, or from the first answer to the request that made it on. Of
+/// each file it counts the live references that may write, has unacknowledged flushes of numbers alone
+/// that were drawn, and a size of at most 1,048,576 bytes; each live reference is one to a file that it
+/// keeps. So it is after a fault too, and no more is said then.
 #[derive(Drop)]
 pub struct Client {
     alloc: Global,
@@ -50,6 +62,8 @@ pub struct Client {
     // The files in the order in which the client was told of them.
     made: Vec<Ino>,
     refs: Refs,
+    requests: Requests,
+    leases: Leases,
     operations: u64,
     flushes: u64,
     // Whether the files have the contexts of their directories by the realms. They have not after want of
@@ -74,6 +88,8 @@ impl Model for Client {
       files = c.files;
       made = c.made.items;
       refs = c.refs;
+      requests = c.requests;
+      leases = c.leases;
       operations = c.operations;
       flushes = c.flushes;
     } };
@@ -85,6 +101,8 @@ impl Model for Client {
       files = c.files;
       made = c.made.items;
       refs = c.refs;
+      requests = c.requests;
+      leases = c.leases;
       operations = c.operations;
       flushes = c.flushes;
     })
@@ -105,6 +123,8 @@ impl Client {
             files: BTreeMap::new(alloc),
             made: Vec::new(alloc),
             refs: Refs::new(alloc),
+            requests: Requests::new(alloc),
+            leases: Leases::new(alloc),
             operations: 0,
             flushes: 0,
             followed: true,
@@ -113,12 +133,14 @@ impl Client {
 
     /// Does an event of the client's own, and adds what it sends to the server to `out`. `active` tells
     /// whether its session is; no event looks at it yet. A write applies its operations to the store, each
-    /// unless one of its number was applied before, and a read reads the head of the store.
+    /// unless one of its number was applied before, and a read reads the head of the store. A request is
+    /// sent under the next number, from 1 on, and the leases on the entries that it names end. A look-up is
+    /// answered by the lease on the entry and the clock alone: it takes no memory and changes nothing.
     ///
     /// `Store` comes only where the store's count of faults rose in this call, and only at a write that
     /// would be answered `wrote` or a read that would be answered by some bytes: the store isn't called
     /// else. `Log` never comes. After a fault the store has a front of the event's operations behind those
-    /// before.
+    /// before. After `Memory` a request may be open that is not in `out`.
     pub fn step_call<O: ObjStore>(
         &mut self,
         event: &Event,
@@ -183,17 +205,31 @@ impl Client {
             Event::Check { file } => Ok(self.check(*file, out)?),
             Event::Flush { file } => Ok(self.flush(*file, out)?),
             Event::FlushSnaps { file } => Ok(self.flush_snaps(*file, out)?),
+            Event::Lookup { dir, name, .. } => Ok(self.look_up(*dir, name)),
+            Event::Req { caller, op } => Ok(self.send(*caller, op, out)?),
             _ => unreachable!(),
         }
     }
 
-    /// Takes a message of the server: what the client may have of a file, that a flush is durable, or a
-    /// snapshot or a removal of one with the realm records that it changed.
+    /// Takes a message of the server: what the client may have of a file, that a flush is durable, a
+    /// snapshot or a removal of one with the realm records that it changed, the answer to a request, that a
+    /// request's record is durable, or that the lease on an entry ends.
+    ///
+    /// The first answer to an open request makes the directory or the file known that the request made. If
+    /// it tells of an inode, it gives a lease on the entry that the request makes or looks up, for 60
+    /// seconds, unless an open request behind it names the entry. The same answer to the request again, or
+    /// one to a request that isn't open, changes nothing. A request of which the record is durable isn't
+    /// open any more, if it was answered.
+    ///
+    /// After `Memory` a snapshot's realms and the files' contexts may be those of before or the new ones,
+    /// and a directory or a file may be known before its request has the answer, or without the lease.
     pub fn step_message(&mut self, message: &Message) -> Result<Answer, Memory>
         requires { Accepts self.old message.now }
         ensures answer { IfOk result (λ a. a ≡ message_answer self.old message.now) }
         ensures after { OnOk result (Delivered self.old self.new message.now) }
     {
+        // The proof of a move of an answer needs its type named.
+        let _told: Option<OpAnswer> = None;
         match message {
             Message::Cap {
                 file,
@@ -207,6 +243,9 @@ impl Client {
                 realm,
                 realms,
             } => Ok(self.deliver_realms(*number, *realm, realms)?),
+            Message::Unsafe { tid, answer, .. } => Ok(self.deliver_unsafe(*tid, answer)?),
+            Message::Safe { tid } => Ok(self.deliver_safe(*tid)),
+            Message::Unlease { dir, name } => Ok(self.deliver_unlease(*dir, name)?),
             _ => unreachable!(),
         }
     }
@@ -247,6 +286,7 @@ impl Client {
     }
 
     fn set_clock(&mut self, time: u64) -> Answer
+        requires { time ≤ greatest_time }
         ensures answer { result ≡ clock_answer time self.old.clock }
         ensures after { Called self.old self.new (events.Clock time) result }
     {
@@ -384,6 +424,29 @@ impl Client {
         flush_snaps(&mut self.files, &mut self.flushes, file, out)
     }
 
+    fn look_up(&self, dir: Ino, name: &Name) -> Answer
+        ensures answer { result ≡ looked_up (lease_of self.now.leases dir name.now) self.now.clock }
+        ensures after { (caller : ℕ) → Called self.now self.now (events.Lookup caller dir name.now) result }
+    {
+        look_up(&self.leases, self.clock, dir, name)
+    }
+
+    fn send(&mut self, caller: Caller, op: &ReqOp, out: &mut MessageList) -> Result<Answer, Memory>
+        requires { HasNumbers self.old }
+        ensures answer { IfOk result (λ a. a ≡ answers.Sent (self.old.requests.sent + 1)) }
+        ensures after { IfOk result (λ a. Called self.old self.new (events.Req caller op.now) a) }
+        ensures sent { IfOk result (λ a. out.new ≡ out.old ++ request_sent op.now a) }
+    {
+        send(
+            self.alloc,
+            &mut self.requests,
+            &mut self.leases,
+            caller,
+            op,
+            out,
+        )
+    }
+
     fn deliver_cap(&mut self, file: Ino, seq: Seq, bits: Caps, max: u32) -> Answer
         requires { is_kept self.old.files file ≡ true }
         ensures answer { result ≡ answers.Cap file seq bits max }
@@ -431,5 +494,45 @@ impl Client {
             realm,
             made,
         })
+    }
+
+    fn deliver_unsafe(&mut self, tid: Tid, answer: &OpAnswer) -> Result<Answer, Memory>
+        requires { AreNew (made_by (unanswered tid self.old.requests.requests) answer.now) self.old.tree
+            self.old.files }
+        ensures answer { IfOk result (λ a. a ≡ answers.Unsafe tid answer.now) }
+        ensures after { OnOk result
+            ((ttl : ℕ) → Delivered self.old self.new (messages.Unsafe tid answer.now ttl)) }
+    {
+        deliver_unsafe(
+            self.alloc,
+            &mut self.files,
+            &mut self.made,
+            &mut self.tree,
+            &self.realms,
+            &mut self.requests,
+            &mut self.leases,
+            self.clock,
+            tid,
+            answer,
+        )?;
+        Ok(Answer::Unsafe {
+            tid,
+            answer: *answer,
+        })
+    }
+
+    fn deliver_safe(&mut self, tid: Tid) -> Answer
+        ensures answer { result ≡ answers.Safe tid }
+        ensures after { Delivered self.old self.new (messages.Safe tid) }
+    {
+        self.requests.safe_reply(tid);
+        Answer::Safe { tid }
+    }
+
+    fn deliver_unlease(&mut self, dir: Ino, name: &Name) -> Result<Answer, Memory>
+        ensures answer { IfOk result (λ a. a ≡ answers.Unlease dir name.now) }
+        ensures after { OnOk result (Delivered self.old self.new (messages.Unlease dir name.now)) }
+    {
+        deliver_unlease(self.alloc, &mut self.leases, dir, name)
     }
 }

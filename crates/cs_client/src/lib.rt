@@ -1,6 +1,6 @@
-//! The client of a run: what it keeps of directories, realms, files and references, and what it makes
-//! of callers' events and of the server's messages. Contracts see of it values of its own, and no
-//! history. The object store is lent to it by each call.
+//! The client of a run: what it keeps of directories, realms, files, references, requests and leases, and
+//! what it makes of callers' events and of the server's messages. Contracts see of it values of its own,
+//! and no history. The object store is lent to it by each call.
 #![tactic(auto)]
 
 mod calls;
@@ -11,6 +11,8 @@ mod flushes;
 mod laws;
 mod messages;
 mod references;
+mod replies;
+mod requests;
 mod told;
 mod writes;
 
