@@ -43,12 +43,12 @@ made_known tid o h = cond (has_reply tid (replies h)) [] (made_by (op_of tid (re
 -- Directories and files that are made, dir and used as in `Grown`
 
 -- at most one
-abbrev IsFew : List Made → Type 0
+abbrev pub IsFew : List Made → Type 0
 IsFew [] = Unit {0}
 IsFew (m ∷ []) = Unit {0}
 IsFew (m ∷ n ∷ ms) = ⊥
 
-made_few : (op : Option ReqOp) (o : OpAnswer) → IsFew (made_by op o)
+pub made_few : (op : Option ReqOp) (o : OpAnswer) → IsFew (made_by op o)
 made_few (Some (ops.Mkdir d name)) (replies_of.Made i) = tt
 made_few (Some (ops.Create d name)) (replies_of.Made i) = tt
 made_few _ _ = tt

@@ -31,8 +31,9 @@ use Rattle.cs_laws.specs.Standing.{greatest_request, news, recorded, requested}
 use Rattle.cs_theorems.specs.Flushes.{is_whole}
 use Rattle.cs_theorems.specs.Asked.{Asked, asked, asked_of, stage}
 use Rattle.cs_theorems.proofs.Answered.{no_unsafe, no_unsafe_news, unsafe_append, unsafe_on, unsafe_tids}
-use Rattle.cs_theorems.proofs.AsksRun.{asked_settles}
-use Rattle.cs_theorems.proofs.AskedStands.{AskedStands, Sending, again_stands, asked_stands, asked_tids, flush_no_req, greatest_stands, last_asked, req_append, req_end, req_first, req_on, req_tids, settles_rises, stand_end, stand_same, tids_append}
+use Rattle.cs_theorems.proofs.Ascending.{member_upto}
+use Rattle.cs_theorems.proofs.AsksRun.{asked_alike, asked_settles}
+use Rattle.cs_theorems.proofs.AskedStands.{AskedStands, Sending, again_stands, asked_next, asked_stands, asked_tids, flush_no_req, greatest_stands, last_asked, req_append, req_end, req_first, req_on, req_tids, settles_rises, stand_end, stand_same, tids_append}
 use Rattle.cs_theorems.proofs.Inversions.{FlushIs, head_unknown, head_snap, head_clean, head_sent, flush_is, CheckIs, check_unknown, check_nothing, check_hold, check_ack, check_is, FlushSnapsIs, flush_unknown, flush_none, flush_writing, flush_sent, flush_snaps_is, FirstIs, first_idle, first_cap, first_flush_ack, first_unsafe, first_safe, first_unlease, first_snap, first_is, GrantIs, grant_unknown, grant_sent, grant_is, revoke_is, ReceivedIs, received_idle, received_ack, received_flush, received_again, received_req, received_req_again, received_is, SnapIs, snap_unknown, snap_exists, snap_taken, snap_is, RemoveIs, remove_none, remove_gone, removed, remove_is, UnleaseIs, unlease_unknown, unlease_sent, unlease_is}
 use Rattle.cs_theorems.proofs.Listed.{Each, Member, member_cases, member_first, member_left, member_right}
 use Rattle.cs_theorems.proofs.News.{each_again, each_news}
@@ -314,7 +315,7 @@ first_reply p h run t o ttl q is =
     ))
 
 -- while one has no answer, none behind it has
-pub later_unanswered : (p : ℕ) (h : List Entry) → IsRun p h → (t u : ℕ) → Member t (asked_tids (asked h)) → has_reply t (replies h) ≡ false → t < u
+later_unanswered : (p : ℕ) (h : List Entry) → IsRun p h → (t u : ℕ) → Member t (asked_tids (asked h)) → has_reply t (replies h) ≡ false → t < u
     → has_reply u (replies h) ≡ false
 later_unanswered p h run t u asked_one unanswered less =
     let i = all_fly p h run in
@@ -330,3 +331,32 @@ later_unanswered p h run t u asked_one unanswered less =
     replied t [] there = absurd there
     replied t (r ∷ rs) (inl is) = or_left (r.tid == t) _ (eq-eqb r.tid t is)
     replied t (r ∷ rs) (inr there) = or_right (r.tid == t) _ (replied t rs there)
+
+-- nor does one that is yet to be sent
+pub next_unanswered : (p : ℕ) (h : List Entry) → IsRun p h → has_reply (length (requests h) + 1) (replies h) ≡ false
+next_unanswered p h run =
+    let i = all_fly p h run in
+    false_from_ne_true (has_reply (length (requests h) + 1) (replies h))
+    (λ had.
+    let there : Member (length (requests h) + 1) (asked_tids (asked h))
+    = subst (λ ts. Member (length (requests h) + 1) ts) i.client
+    (member_left _ (reply_tids (replies h)) _ (reply_member (length (requests h) + 1) (replies h) had)) in
+    omega (arith, asked_next h (asked_alike p h run) (asked_settles p h run),
+    member_upto (λ t. t) 0 (length (requests h) + 1) (asked_tids (asked h)) (plain_rises 0 (asked_tids (asked h)) (asked_rise p h run)) there))
+  where
+    same : (ts : List ℕ) → map (λ t. t) ts ≡ ts
+    same [] = refl
+    same (t ∷ ts) = ap (λ us. t ∷ us) (same ts)
+
+    plain_rises : (n : ℕ) (ts : List ℕ) → RisesFrom n ts → RisesFrom n (map (λ t. t) ts)
+    plain_rises n ts up = subst (λ us. RisesFrom n us) (sym (same ts)) up
+
+-- while an answer to one is on its way, none behind it has any
+pub later_open : (p : ℕ) (h : List Entry) → IsRun p h → (t : ℕ) (o : OpAnswer) (ttl : ℕ) (q : List Message)
+    → to_client h ≡ messages.Unsafe t o ttl ∷ q → (u : ℕ) → t < u → has_reply u (replies h) ≡ false
+later_open p h run t o ttl q is u less =
+    let i = all_fly p h run in
+    let here : Member t (unsafe_tids (to_client h)) = subst (λ s. Member t (unsafe_tids s)) (sym is) (inl refl) in
+    later_unanswered p h run t u
+    (subst (λ ts. Member t ts) i.client (member_right t (reply_tids (replies h)) _ (member_left t (unsafe_tids (to_client h)) (req_tids (to_server h)) here)))
+    (first_reply p h run t o ttl q is) less

@@ -1,34 +1,39 @@
 -- A side accepts the message that is delivered to it.
-use Rattle.std.proofs.Common.{◌≡◌, refl, sym, subst, inl, inr, ℕ, ◌<◌, ◌≤◌, Bool, true, false, cond, List, [], ◌∷◌, ◌++◌, length, Option, Some, None, arith}
+use Rattle.std.proofs.Common.{◌≡◌, ◌∙◌, refl, sym, ap, subst, ℕ, ◌+◌, ◌<◌, ◌≤◌, ◌||◌, Bool, true, false, cond, List, [], ◌∷◌, length, Option, Some, None, is_some, arith}
 use Rattle.std.proofs.lemmas.Bool.{true≢false}
 use Rattle.std.specs.List.{All}
+use Rattle.std.specs.Option.{option_and_then, option_map}
 use Rattle.cs_snapctx.specs.declared.realm.RealmRecord.{RealmRecord}
 use Rattle.cs_snapctx.specs.Records.{with_record, with_records}
 use Rattle.cs_tree.specs.Directories.{path_of}
-use Rattle.cs_laws.specs.declared.events.Event.{Event}
-use Rattle.cs_laws.specs.declared.events.Event.TheVariants as events
-use Rattle.cs_laws.specs.declared.answers.Answer.{Answer}
-use Rattle.cs_laws.specs.declared.answers.Answer.TheVariants as answers
 use Rattle.cs_laws.specs.declared.answers.Entry.{Entry}
 use Rattle.cs_laws.specs.declared.messages.Message.{Message}
 use Rattle.cs_laws.specs.declared.messages.Message.TheVariants as messages
-use Rattle.cs_laws.specs.declared.records.Record.{Record}
-use Rattle.cs_laws.specs.declared.records.RecordBody.{RecordBody}
-use Rattle.cs_laws.specs.declared.records.RecordBody.TheVariants as bodies
-use Rattle.cs_laws.specs.Carried.{flush_on, is_for_client, realms_of}
+use Rattle.cs_laws.specs.declared.requests.OpAnswer.{OpAnswer}
+use Rattle.cs_laws.specs.declared.requests.OpAnswer.TheVariants as replies_of
+use Rattle.cs_laws.specs.declared.requests.ReqOp.{ReqOp}
+use Rattle.cs_laws.specs.declared.requests.ReqOp.TheVariants as ops
+use Rattle.cs_laws.specs.Carried.{is_for_client}
 use Rattle.cs_laws.specs.Context.{differs, path_context}
-use Rattle.cs_laws.specs.ClientKnows.{client_knows, client_home}
-use Rattle.cs_laws.specs.Flight.{acked_again, to_client_then}
-use Rattle.cs_laws.specs.Flushes.{Flush, flush_record}
-use Rattle.cs_laws.specs.History.{context, durable, fresh, last_sent, realms, sent, server, stand, to_client, to_server}
-use Rattle.cs_laws.specs.Realms.{differing, realm_records}
+use Rattle.cs_laws.specs.ClientKnows.{client_dir, client_home, client_knows}
+use Rattle.cs_laws.specs.Flushes.{flush_record}
+use Rattle.cs_laws.specs.History.{context, durable, fresh, realms, sent, stand, to_client, to_server}
+use Rattle.cs_laws.specs.Made.{Made, made_by}
+use Rattle.cs_laws.specs.Names.{names}
+use Rattle.cs_laws.specs.Namespace.{Names, first_made, has_dir, next_ino}
+use Rattle.cs_laws.specs.Requests.{has_reply, op_of, replies, requests}
 use Rattle.cs_laws.specs.Runs.{IsRun}
+use Rattle.cs_laws.specs.ServerKnows.{server_dir, server_knows}
 use Rattle.cs_laws.specs.Spellings.{message_fits}
-use Rattle.cs_laws.specs.Standing.{durable_then, fresh_then, has_flush, news, news_of, news_on, recorded, recorded_of}
-use Rattle.cs_laws.specs.ServerKnows.{server_dirs, server_path}
+use Rattle.cs_requests.specs.declared.requests.OpenReq.{OpenReq}
+use Rattle.cs_requests.specs.RequestTable.{RequestTable}
+use Rattle.cs_requests.specs.Requests.{open_at}
+use Rattle.cs_client.specs.Calls.{IsNewIn}
 use Rattle.cs_client.specs.Messages.{Accepts, ParentsAreKnown}
+use Rattle.cs_client.specs.Requests.{op_without_answer, unanswered}
 use Rattle.cs_client.specs.Told.{ContextsRise, RisesIn}
 use Rattle.cs_client.specs.Views.{ClientView, is_kept}
+use Rattle.cs_mds.specs.Views.{IsWhole, ServerView}
 use Rattle.cs_files.specs.Laws.{TellsNext}
 use Rattle.cs_files.specs.Rows.{inode}
 use Rattle.cs_files.proofs.Told.{context_rises}
@@ -37,100 +42,21 @@ use Rattle.cs_theorems.specs.Realms.{TellsKnownParents}
 use Rattle.cs_theorems.specs.Underway.{IsToldClient}
 use Rattle.cs_theorems.proofs.Acks.{run_acked}
 use Rattle.cs_theorems.proofs.Applying.{run_tells_known}
+use Rattle.cs_theorems.proofs.Asks.{asks_run, unsafe_next}
 use Rattle.cs_theorems.proofs.FlushReplays.{flushes_numbered}
-use Rattle.cs_theorems.proofs.Listed.{Each, Member, each_append, each_cons, each_drop, each_end, each_nil, member_first, member_left}
+use Rattle.cs_theorems.proofs.Flying.{first_reply}
+use Rattle.cs_theorems.proofs.Listed.{Member, member_first, member_left}
 use Rattle.cs_theorems.proofs.Numbered.{run_numbered, upto_numbered}
+use Rattle.cs_theorems.proofs.Sides.{named_dirs}
 use Rattle.cs_theorems.proofs.Spelled.{messages_fit}
 use Rattle.cs_theorems.proofs.Standing.{HasTid, has_record, tid_has}
 use Rattle.cs_theorems.proofs.Underway.{received_known, told_known}
-use Rattle.cs_world.specs.Parts.{ClientAt}
-
--- No request was sent yet, so that none is recorded, and no reply to one is on its way
-
-abbrev IsPlain : RecordBody → Type 0
-IsPlain (bodies.Request tid op answer) = ⊥
-IsPlain _ = Unit {0}
-
-abbrev IsNoReply : Message → Type 0
-IsNoReply (messages.Safe tid) = ⊥
-IsNoReply _ = Unit {0}
-
-abbrev ArePlain : List Record → Type 0
-ArePlain rs = Each (λ (r : Record). IsPlain r.body) rs
-
-recorded_plain : (q : List Message) → ArePlain (recorded q)
-recorded_plain [] = each_nil (λ (r : Record). IsPlain r.body)
-recorded_plain (m ∷ q) = at (flush_on m)
-  where
-    at : (o : Option Flush) → ArePlain (recorded_of o)
-    at None = each_nil (λ (r : Record). IsPlain r.body)
-    at (Some x) = each_cons (λ (r : Record). IsPlain r.body) (flush_record x) [] tt (each_nil (λ (r : Record). IsPlain r.body))
-
-fresh_plain : (e : Event) (a : Answer) (q : List Message) (rs : List Record) → ArePlain rs → ArePlain (fresh_then e a q rs)
-fresh_plain events.ToMds (answers.Flushed f tid) q rs i = each_append (λ (r : Record). IsPlain r.body) rs (recorded q) i (recorded_plain q)
-fresh_plain (events.Snap d name) (answers.Snap number) q rs i =
-    each_end (λ (r : Record). IsPlain r.body) rs (record { body = bodies.Snap number d name }) i tt
-fresh_plain (events.RmSnap s) (answers.Removed t number) q rs i =
-    each_end (λ (r : Record). IsPlain r.body) rs (record { body = bodies.Removal s number }) i tt
-fresh_plain events.Commit (answers.Commit count) q rs i = each_nil (λ (r : Record). IsPlain r.body)
-fresh_plain _ _ q rs i = i
-
-durable_plain : (e : Event) (a : Answer) (fs rs : List Record) → ArePlain fs → ArePlain rs → ArePlain (durable_then e a fs rs)
-durable_plain events.Commit (answers.Commit count) fs rs new i = each_append (λ (r : Record). IsPlain r.body) rs fs i new
-durable_plain _ _ fs rs new i = i
-
-news_no_reply : (before : List Record) (ts : List RealmRecord) (b : RecordBody) → IsPlain b → IsNoReply (news_of before ts b)
-news_no_reply before ts (bodies.Request tid op answer) i = i
-news_no_reply before ts (bodies.Flush snap f tid follows meta) i = tt
-news_no_reply before ts (bodies.Snap number d name) i = tt
-news_no_reply before ts (bodies.Removal s number) i = tt
-
-no_replies : (up : ℕ → List ℕ) (ds : List ℕ) (sent : List RealmRecord) (before rs : List Record) → ArePlain rs → Each IsNoReply (news up ds sent before rs)
-no_replies up ds last before [] i = each_nil IsNoReply
-no_replies up ds last before (r ∷ rs) i =
-    let m : Message = news_on up ds last before r in
-    each_cons IsNoReply m (news up ds (with_records (realms_of m) last) (before ++ r ∷ []) rs)
-    (news_no_reply before (differing last (realm_records up ds (before ++ r ∷ []))) r.body (i r (inl refl)))
-    (no_replies up ds (with_records (realms_of m) last) (before ++ r ∷ []) rs (λ x m. i x (inr m)))
-
-again_no_reply : (f tid : ℕ) (ds : List Record) → Each IsNoReply (acked_again f tid ds)
-again_no_reply f tid ds = at (has_flush f tid ds)
-  where
-    at : (b : Bool) → Each IsNoReply (cond b (messages.FlushAck f tid ∷ []) [])
-    at true = each_cons IsNoReply (messages.FlushAck f tid) [] tt (each_nil IsNoReply)
-    at false = each_nil IsNoReply
-
-module _ (h : List Entry) (new : List Message) (plain : Each IsNoReply new) where
-  flies_then : (e : Event) (a : Answer) (q : List Message) → Each IsNoReply q → Each IsNoReply (to_client_then e a (λ f. server h f) (durable h) new q)
-  flies_then (events.Grant f bits end) (answers.SentCap seq held) q i = each_end IsNoReply q _ i tt
-  flies_then (events.Revoke f bits) (answers.SentCap seq held) q i = each_end IsNoReply q _ i tt
-  flies_then events.Commit (answers.Commit count) q i = each_append IsNoReply q new i plain
-  flies_then events.ToMds (answers.FlushDup f tid) q i = each_append IsNoReply q (acked_again f tid (durable h)) i (again_no_reply f tid (durable h))
-  flies_then events.ToClient (answers.Cap g seq bits end) q i = each_drop IsNoReply q i
-  flies_then events.ToClient (answers.FlushAck f tid) q i = each_drop IsNoReply q i
-  flies_then events.ToClient (answers.SnapTold number realm made) q i = each_drop IsNoReply q i
-  flies_then _ _ q i = i
-
-record NoRequests (h : List Entry) : Type 0 where
-  durable : ArePlain (durable h)
-  fresh : ArePlain (fresh h)
-  flying : Each IsNoReply (to_client h)
-
-no_requests : (h : List Entry) → NoRequests h
-no_requests [] = record {
-  durable = each_nil (λ (r : Record). IsPlain r.body);
-  fresh = each_nil (λ (r : Record). IsPlain r.body);
-  flying = each_nil IsNoReply;
-}
-no_requests (x ∷ h) =
-    let i = no_requests h in
-    let new : List Message = news (λ d. server_path h d) (server_dirs h) (last_sent h) (durable h) (fresh h) in
-    record {
-      durable = durable_plain x.event x.answer (fresh h) (durable h) i.fresh i.durable;
-      fresh = fresh_plain x.event x.answer (to_server h) (fresh h) i.fresh;
-      flying =
-          flies_then h new (no_replies (λ d. server_path h d) (server_dirs h) (last_sent h) (durable h) (fresh h) i.fresh) x.event x.answer (to_client h) i.flying;
-    }
+use Rattle.cs_theorems.proofs.Unused.{made_few, no_dir_yet, no_file_yet}
+use Rattle.cs_world.specs.OpenRequests.{open_requests, request_table}
+use Rattle.cs_world.specs.Parts.{ClientAt, ServerAt}
+use Rattle.cs_world.proofs.Opens.{first_answer, first_op}
+use Rattle.cs_world.proofs.Rows.{is_known}
+use Rattle.cs_world.proofs.Serves.{knows}
 
 -- The client
 
@@ -149,7 +75,46 @@ parents_known ts (t ∷ now) i = (i.0, parents_known (with_record t ts) now i.1)
 kept_is : (h : List Entry) (v : ClientView) (f : ℕ) → ClientAt h v → client_knows h f ≡ true → is_kept v.files f ≡ true
 kept_is h v f i known = rw (i.rows f, known) refl
 
+-- Answers to requests
+
+-- the operation of an open request without an answer is that which was sent
+pub unanswered_is : (h : List Entry) (t : ℕ) → has_reply t (replies h) ≡ false → unanswered t (open_requests h) ≡ op_of t (requests h)
+unanswered_is h t none = at (open_at t (open_requests h)) (first_answer h t none) ∙ first_op h t none
+  where
+    by : (o : Option OpAnswer) (op : ReqOp) → o ≡ None → cond (is_some o) None (Some op) ≡ Some op
+    by None op is = refl
+    by (Some a) op is = absurd cc
+
+    at : (o : Option OpenReq) → option_and_then (λ (r : OpenReq). r.answer) o ≡ None → option_and_then op_without_answer o ≡ option_map (λ (r : OpenReq). r.op) o
+    at None is = refl
+    at (Some r) is = by r.answer r.op is
+
+-- only an inode that was made makes something
+made_only : (op : Option ReqOp) (o : OpAnswer) (m : Made) → made_by op o ≡ m ∷ [] → (i : ℕ) × (o ≡ replies_of.Made i)
+made_only (Some (ops.Mkdir d name)) (replies_of.Made i) m is = (i, refl)
+made_only (Some (ops.Create d name)) (replies_of.Made i) m is = (i, refl)
+made_only _ _ m is = absurd cc
+
 module _ (p : ℕ) (h : List Entry) (run : IsRun p h) (v : ClientView) (i : ClientAt h v) (rest : List Message) where
+  pub unanswered_at : (t : ℕ) → has_reply t (replies h) ≡ false → unanswered t v.requests.requests ≡ op_of t (requests h)
+  unanswered_at t none = ap (λ (x : RequestTable). unanswered t x.requests) i.requests ∙ unanswered_is h t none
+
+  -- what it tells that was made is new
+  new_made : (t : ℕ) (o : OpAnswer) (ttl : ℕ) → to_client h ≡ messages.Unsafe t o ttl ∷ rest → (m : Made) → made_by (op_of t (requests h)) o ≡ m ∷ []
+      → IsNewIn m.ino m.dir v.tree v.files
+  new_made t o ttl first m is =
+      let told = made_only (op_of t (requests h)) o m is in
+      let new = ((unsafe_next p h run t o ttl rest first).first (first_reply p h run t o ttl rest first)).makes told.0 told.1 in
+      let same : m ≡ new.made =
+      let one : m ∷ [] ≡ new.made ∷ [] = sym is ∙ (ap (λ x. made_by (op_of t (requests h)) x) told.1 ∙ new.is) in cc in
+      record {
+        unused =
+            (λ k. i.tree.known m.ino k || (ap is_some (i.rows m.ino) ∙ is_known (client_knows h m.ino) _ _) k)
+            ∙ subst (λ j. (client_dir h j || client_knows h j) ≡ false) (sym (ap (λ (x : Made). x.ino) same ∙ new.ino))
+            ((λ k. new.no_dir k || new.no_file k));
+        parent = i.tree.known m.dir ∙ subst (λ (x : Made). client_dir h x.dir ≡ true) (sym same) new.above;
+      }
+
   rises : (number realm : ℕ) (now : List RealmRecord) → to_client h ≡ messages.Snap number realm now ∷ rest
       → ContextsRise (path_of v.tree) (with_records now v.realms) v.files
   rises number realm now first f = subst (λ o. RisesIn (path_of v.tree) (with_records now v.realms) o) (sym (i.rows f)) (at (client_knows h f))
@@ -175,13 +140,17 @@ module _ (p : ℕ) (h : List Entry) (run : IsRun p h) (v : ClientView) (i : Clie
     parents = rw i.realms (parents_known (realms h) now (subst (λ q. TellsKnownParents (realms h) q) first (run_tells_known p h run)));
     rises = rises number realm now first;
   }
-  accepted (messages.Safe tid) first told = absurd ((no_requests h).flying (messages.Safe tid) (member_first (messages.Safe tid) rest (to_client h) first))
+  accepted (messages.Unsafe tid o ttl) first told = λ m is.
+      new_made tid o ttl first m (ap (λ op. made_by op o) (sym (unanswered_at tid (first_reply p h run tid o ttl rest first))) ∙ is)
+  accepted (messages.Safe tid) first told = tt
+  accepted (messages.Unlease d name) first told = tt
+  accepted (messages.Req tid ino op) first told = absurd (true≢false (sym told.0))
   accepted (messages.CapAck f seq bits) first told = absurd (true≢false (sym told.0))
   accepted (messages.Flush f tid follows meta) first told = absurd (true≢false (sym told.0))
   accepted (messages.FlushSnap f tid follows meta) first told = absurd (true≢false (sym told.0))
 
 pub client_accepts : (p : ℕ) (h : List Entry) (v : ClientView) (m : Message) (rest : List Message) → IsRun p h → ClientAt h v → to_client h ≡ m ∷ rest → Accepts v m
-client_accepts p h v m rest run i first = accepted p h run v i rest m first (told_known p h run m (member_first m rest (to_client h) first))
+client_accepts p h v m rest run i first = accepted p h run v i rest m first (told_known p h run m rest first)
 
 -- The server
 
@@ -193,3 +162,16 @@ fits_server p h m rest run first = let P : List Message → Type 0 = λ q. All (
   where
     first_of : (m : Message) (q : List Message) → All (λ x. message_fits x ≡ true) (m ∷ q) → message_fits m ≡ true
     first_of m q all = all 0 m (omega arith)
+
+-- the server's tables are whole, and few inodes were drawn
+
+pub is_whole : (p : ℕ) (h : List Entry) (s : ServerView) → IsRun p h → ServerAt h s → IsWhole s
+is_whole p h s run i = record {
+  dirs = λ d is. i.tree.known d ∙ named_dirs h (asks_run p h run) d (sym (ap (λ ns. has_dir ns d) i.names) ∙ is);
+  new = λ j above.
+      let yet : next_ino (names h) ≤ j = subst (λ ns. first_made + ns.made ≤ j) i.names above in
+      (λ k. i.tree.known j k || knows p h s i j k) ∙ (λ k. no_dir_yet p h run j yet k || no_file_yet p h run j yet k);
+}
+
+pub has_inodes : (p : ℕ) (h : List Entry) (s : ServerView) → IsRun p h → ServerAt h s → length h < 10000 → s.names.made < 89999
+has_inodes p h s run i room = omega (arith, ap (λ (ns : Names). ns.made) i.names, made_few p h run, room)

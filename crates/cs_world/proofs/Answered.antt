@@ -19,6 +19,7 @@ use Rattle.cs_laws.specs.Answers.{answer, answer_begin, answer_check, answer_chm
 use Rattle.cs_laws.specs.ClientKnows.{client_knows}
 use Rattle.cs_laws.specs.Events.{is_setup}
 use Rattle.cs_laws.specs.History.{live}
+use Rattle.cs_laws.specs.Leases.{looked_up}
 use Rattle.cs_laws.specs.Operations.{applied}
 use Rattle.cs_laws.specs.References.{can_end, named}
 use Rattle.cs_laws.specs.Runs.{IsRun}
@@ -26,6 +27,7 @@ use Rattle.cs_client.specs.Answers.{begin_answer, call_answer, check_call_answer
 use Rattle.cs_client.specs.Calls.{is_call}
 use Rattle.cs_client.specs.Views.{ClientView}
 use Rattle.cs_refs.specs.Table.{begun_of}
+use Rattle.cs_requests.specs.RequestTable.{RequestTable}
 use Rattle.cs_files.specs.Rows.{inode}
 use Rattle.cs_files.proofs.Begins.{begin_said}
 use Rattle.cs_files.proofs.Checks.{check_is}
@@ -125,6 +127,8 @@ module _ (p : ℕ) (h : List Entry) (run : IsRun p h) (v : ClientView) (i : Clie
   call_answer_is active (events.Check f) ops call later listed = check_on f
   call_answer_is active (events.Flush f) ops call later listed = flush_on f
   call_answer_is active (events.FlushSnaps f) ops call later listed = flush_snaps_on f
+  call_answer_is active (events.Lookup c d name) ops call later listed = λ k. looked_up (i.leases d name k) (i.clock k)
+  call_answer_is active (events.Req c op) ops call later listed = ap (λ (t : RequestTable). answers.Sent (t.sent + 1)) i.requests
   call_answer_is active (events.Dir d q) ops call later listed = absurd (cc)
   call_answer_is active (events.File f q) ops call later listed = absurd (cc)
   call_answer_is active _ ops call later listed = absurd (cc)

@@ -69,6 +69,7 @@ none_called (events.Read c name off len) (answers.Bytes bytes) adds = absurd (cc
 none_called (events.Show f at off len) (answers.Size meta bytes) adds = absurd (cc)
 none_called (events.Snap d name) (answers.Snap number) adds = absurd (cc)
 none_called (events.RmSnap n) (answers.Removed s number) adds = absurd (cc)
+none_called events.ToMds (answers.Req tid o) adds = absurd (cc)
 none_called events.ToMds (answers.Flushed f tid) adds = absurd (cc)
 none_called events.Commit (answers.Commit count) adds = absurd (cc)
 none_called _ _ adds = record { store = refl; log = refl }

@@ -1,8 +1,11 @@
 -- What each side answers, keeps and sends is what the history says
 pub mod Rows
+pub mod Opens
 pub mod Answered
 pub mod Numbers
 pub mod Client
+pub mod Recorded
+pub mod SetupNames
 pub mod Serves
 pub mod News
 pub mod Sent
@@ -11,6 +14,7 @@ pub mod Stays
 pub mod Made
 -- Deliveries
 pub mod Accepted
+pub mod Replies
 pub mod Delivered
 -- Shows
 pub mod Showing

@@ -1,6 +1,5 @@
 -- A line that makes a directory or a file.
 use Rattle.std.proofs.Common.{◌≡◌, ◌∙◌, refl, sym, ap, subst, ℕ, ◌||◌, Bool, true, false, cond, List, [], ◌∷◌, is_some}
-use Rattle.std.proofs.lemmas.Bool.{and_parts}
 use Rattle.cs_tree.specs.Directories.{has_directory}
 use Rattle.cs_laws.specs.declared.events.Event.{Event}
 use Rattle.cs_laws.specs.declared.events.Event.TheVariants as events
@@ -8,46 +7,40 @@ use Rattle.cs_laws.specs.declared.answers.Answer.{Answer}
 use Rattle.cs_laws.specs.declared.answers.Answer.TheVariants as answers
 use Rattle.cs_laws.specs.declared.answers.Entry.{Entry}
 use Rattle.cs_laws.specs.declared.messages.Message.{Message}
-use Rattle.cs_laws.specs.declared.records.Record.{Record}
 use Rattle.cs_laws.specs.Answers.{answer}
-use Rattle.cs_laws.specs.ClientKnows.{client_knows}
-use Rattle.cs_laws.specs.Events.{is_setup}
-use Rattle.cs_laws.specs.History.{durable, fresh, to_server}
-use Rattle.cs_laws.specs.Runs.{IsRun, all_setup}
-use Rattle.cs_laws.specs.Standing.{durable_then, fresh_then}
+use Rattle.cs_laws.specs.ClientKnows.{client_dir, client_knows}
+use Rattle.cs_laws.specs.Events.{is_setup, setup_file}
+use Rattle.cs_laws.specs.Made.{makes_dir, makes_file}
+use Rattle.cs_laws.specs.Runs.{CanFollow, IsRun, all_setup}
+use Rattle.cs_laws.specs.Tree.{is_directory}
 use Rattle.cs_client.specs.Answers.{call_answer}
 use Rattle.cs_client.specs.Calls.{Called, IsNewInode, IsNewTo, is_call}
 use Rattle.cs_client.specs.Views.{ClientView}
-use Rattle.cs_mds.specs.Answers.{is_in_use, made_answer, served_answer}
+use Rattle.cs_mds.specs.Answers.{made_answer, served_answer}
 use Rattle.cs_mds.specs.Served.{Served}
-use Rattle.cs_mds.specs.Views.{ServerView}
+use Rattle.cs_mds.specs.Views.{ServerView, is_in_use}
 use Rattle.cs_mds.specs.Views as views
+use Rattle.cs_theorems.proofs.AsksRun.{quiet}
 use Rattle.cs_world.specs.Parts.{After, ClientAt, LinksAt, ServerAt}
 use Rattle.cs_world.proofs.Client.{client_after}
 use Rattle.cs_world.proofs.Rows.{is_known}
-use Rattle.cs_world.proofs.Serves.{knows, made_is, server_after}
+use Rattle.cs_world.proofs.Serves.{knows, line_after, made_is}
+use Rattle.cs_world.proofs.SetupNames.{early_dir, early_file}
 
--- before all other events no record stands
-
-fresh_stays : (e : Event) (a : Answer) (q : List Message) (rs : List Record) → is_setup e ≡ true → fresh_then e a q rs ≡ rs
-fresh_stays (events.Dir d p) a q rs is = refl
-fresh_stays (events.File f p) a q rs is = refl
-fresh_stays _ a q rs is = absurd (cc)
-
-durable_stays : (e : Event) (a : Answer) (fs rs : List Record) → is_setup e ≡ true → durable_then e a fs rs ≡ rs
-durable_stays (events.Dir d p) a fs rs is = refl
-durable_stays (events.File f p) a fs rs is = refl
-durable_stays _ a fs rs is = absurd (cc)
-
-no_records : (h : List Entry) → all_setup h ≡ true → (durable h ≡ []) × (fresh h ≡ [])
-no_records [] all = (refl, refl)
-no_records (x ∷ h) all =
-    let parts = and_parts (is_setup x.event) (all_setup h) all in
-    let none = no_records h parts.1 in
-    (durable_stays x.event x.answer (fresh h) (durable h) parts.0 ∙ none.0, fresh_stays x.event x.answer (to_server h) (fresh h) parts.0 ∙ none.1)
+-- before all other events no record stands, and the client was told of nothing
 
 pub stands_none : (h : List Entry) (s : ServerView) → all_setup h ≡ true → ServerAt h s → views.stand s ≡ []
-stands_none h s all i = let none = no_records h all in rw (i.durable, i.fresh, none.0, none.1) refl
+stands_none h s all i = let none = quiet h all in rw (i.durable, i.fresh, none.durable, none.fresh) refl
+
+or_none : (b : Bool) → (b || false) ≡ b
+or_none true = refl
+or_none false = refl
+
+told_dir : (h : List Entry) → all_setup h ≡ true → (d : ℕ) → client_dir h d ≡ is_directory h d
+told_dir h all d = ap (λ ms. is_directory h d || makes_dir d ms) (quiet h all).told ∙ or_none (is_directory h d)
+
+told_file : (h : List Entry) → all_setup h ≡ true → (f : ℕ) → client_knows h f ≡ setup_file h f
+told_file h all f = ap (λ ms. setup_file h f || makes_file f ms) (quiet h all).told ∙ or_none (setup_file h f)
 
 -- The line is one of both sides
 
@@ -56,10 +49,10 @@ setup_call (events.Dir d p) is = refl
 setup_call (events.File f p) is = refl
 setup_call _ is = absurd (cc)
 
-pub setup_answer_is : (p : ℕ) (h : List Entry) (s : ServerView) (e : Event) → ServerAt h s → is_setup e ≡ true → served_answer s e ≡ answer p h e
-setup_answer_is p h s (events.Dir d q) i is = made_is p h s i d q
-setup_answer_is p h s (events.File f q) i is = made_is p h s i f q
-setup_answer_is p h s _ i is = absurd (cc)
+pub setup_answer_is : (p : ℕ) (h : List Entry) (s : ServerView) (e : Event) → ServerAt h s → all_setup h ≡ true → is_setup e ≡ true → served_answer s e ≡ answer p h e
+setup_answer_is p h s (events.Dir d q) i all is = made_is p h s i all d q
+setup_answer_is p h s (events.File f q) i all is = made_is p h s i all f q
+setup_answer_is p h s _ i all is = absurd (cc)
 
 -- where it stands, its inode is new and its directory is known
 was_new : (used there : Bool) → answers.Made ≡ cond used answers.Exists (cond there answers.Made answers.NoDir) → (used ≡ false) × (there ≡ true)
@@ -67,20 +60,22 @@ was_new true there is = absurd (cc)
 was_new false true is = (refl, refl)
 was_new false false is = absurd (cc)
 
-new_inode_is : (h : List Entry) (v : ClientView) (s : ServerView) (j q : ℕ) → ClientAt h v → ServerAt h s → answers.Made ≡ made_answer s.tree s.homes j q → IsNewInode j q v
-new_inode_is h v s j q i t is =
+new_inode_is : (h : List Entry) (v : ClientView) (s : ServerView) (j q : ℕ) → all_setup h ≡ true → ClientAt h v → ServerAt h s
+    → answers.Made ≡ made_answer s.tree s.homes j q → IsNewInode j q v
+new_inode_is h v s j q all i t is =
     let new = was_new (is_in_use j s.tree s.homes) (has_directory q s.tree) is in
     record {
       unused =
-          (λ k. i.tree.known j k || (ap is_some (i.rows j) ∙ is_known (client_knows h j) _ _) k)
-          ∙ (sym (λ k. t.tree.known j k || knows 0 h s t j k) ∙ new.0);
-      parent = i.tree.known q ∙ (sym (t.tree.known q) ∙ new.1);
+          (λ k. (i.tree.known j ∙ told_dir h all j) k || ((ap is_some (i.rows j) ∙ is_known (client_knows h j) _ _) ∙ told_file h all j) k)
+          ∙ (sym (λ k. (t.tree.known j ∙ early_dir h all j) k || (knows 0 h s t j ∙ early_file h all j) k) ∙ new.0);
+      parent = (i.tree.known q ∙ told_dir h all q) ∙ (sym (t.tree.known q ∙ early_dir h all q) ∙ new.1);
     }
 
-pub made_new : (h : List Entry) (v : ClientView) (s : ServerView) (e : Event) → ClientAt h v → ServerAt h s → is_setup e ≡ true → answers.Made ≡ served_answer s e → IsNewTo v e
-made_new h v s (events.Dir d q) i t is made = new_inode_is h v s d q i t made
-made_new h v s (events.File f q) i t is made = new_inode_is h v s f q i t made
-made_new h v s _ i t is made = absurd (cc)
+pub made_new : (h : List Entry) (v : ClientView) (s : ServerView) (e : Event) → all_setup h ≡ true → ClientAt h v → ServerAt h s → is_setup e ≡ true
+    → answers.Made ≡ served_answer s e → IsNewTo v e
+made_new h v s (events.Dir d q) all i t is made = new_inode_is h v s d q all i t made
+made_new h v s (events.File f q) all i t is made = new_inode_is h v s f q all i t made
+made_new h v s _ all i t is made = absurd (cc)
 
 made_says : (e : Event) (v : ClientView) (active : Bool) (head : ℕ → ℕ → ℕ) → is_setup e ≡ true → call_answer v active head e ≡ answers.Made
 made_says (events.Dir d q) v active head is = refl
@@ -104,26 +99,25 @@ refused_stays _ a h v is other i = absurd (cc)
 -- The parts after it
 
 module _ (p : ℕ) (h : List Entry) (run : IsRun p h) (v : ClientView) (s t : ServerView) (ms qs : List Message) (e : Event) (i : ClientAt h v) (j : ServerAt h s)
-    (links : LinksAt h ms qs) (is : is_setup e ≡ true) where
-  server_then : (a : Answer) → Served [] s t e a → ServerAt (record { event = e; answer = a } ∷ h) t
-  server_then a d = server_after h s t e a [] (fresh_stays e a [] (fresh h) is ∙ sym (fresh_stays e a (to_server h) (fresh h) is)) j d
-
+    (links : LinksAt h ms qs) (is : is_setup e ≡ true) (can : CanFollow h e) where
   pub refused_steps : (a : Answer) → a ≡ served_answer s e → (a ≡ answers.Made → ⊥) → Served [] s t e a → After p h e a v t ms qs
-  refused_steps a said other d = record {
-    answer = said ∙ setup_answer_is p h s e j is;
-    client = refused_stays e a h v is other i;
-    server = server_then a d;
-    links = links_stay e a h ms qs is links;
-  }
+  refused_steps a said other d =
+      let now : a ≡ answer p h e = said ∙ setup_answer_is p h s e j (can.setup is) is in
+      record {
+        answer = now;
+        client = refused_stays e a h v is other i;
+        server = line_after p h s t e a is (can.setup is) j d now;
+        links = links_stay e a h ms qs is links;
+      }
 
   pub made_steps : (w : ClientView) (a : Answer) (active : Bool) (head : ℕ → ℕ → ℕ) → answers.Made ≡ served_answer s e → a ≡ call_answer v active head e
       → Served [] s t e answers.Made → Called v w e a → After p h e a w t ms qs
   made_steps w a active head made said d c =
       let same : a ≡ answers.Made = said ∙ made_says e v active head is in
-      let now : a ≡ answer p h e = same ∙ (made ∙ setup_answer_is p h s e j is) in
+      let now : a ≡ answer p h e = same ∙ (made ∙ setup_answer_is p h s e j (can.setup is) is) in
       record {
         answer = now;
-        client = client_after p h run v w i e a (setup_call e is) now c;
-        server = server_then a (subst (λ b. Served [] s t e b) (sym same) d);
+        client = client_after p h run v w i e a (setup_call e is) now can c;
+        server = line_after p h s t e a is (can.setup is) j (subst (λ b. Served [] s t e b) (sym same) d) now;
         links = links_stay e a h ms qs is links;
       }

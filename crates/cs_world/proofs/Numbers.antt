@@ -22,6 +22,8 @@ use Rattle.cs_files.proofs.Writes.{brought_is}
 use Rattle.cs_theorems.proofs.Counts.{sent_few}
 use Rattle.cs_theorems.proofs.Growth.{begun_small}
 use Rattle.cs_theorems.proofs.Operations.{few_drawn}
+use Rattle.cs_theorems.proofs.Unused.{requests_few}
+use Rattle.cs_requests.specs.RequestTable.{RequestTable}
 use Rattle.cs_world.specs.Parts.{ClientAt}
 
 pub has_numbers : (p : ℕ) (h : List Entry) (v : ClientView) → IsRun p h → ClientAt h v → length h < 10000 → HasNumbers v
@@ -29,6 +31,7 @@ has_numbers p h v run i room = record {
   operations = omega (arith, i.operations, few_drawn p h run, room);
   flushes = omega (arith, i.flushes, sent_few h, room);
   begun = λ c. omega (arith, i.begun c, begun_small h c, room);
+  requests = omega (arith, ap (λ (t : RequestTable). t.sent) i.requests, requests_few h, room);
 }
 
 -- an event that makes no file or directory asks for no new inode
@@ -66,6 +69,8 @@ module _ (p : ℕ) (h : List Entry) (run : IsRun p h) (v : ClientView) (i : Clie
   operations_are (events.End c name) a call is = refl
   operations_are (events.Read c name off len) a call is = refl
   operations_are (events.Chmod c name mode) a call is = refl
+  operations_are (events.Lookup c d name) a call is = refl
+  operations_are (events.Req c op) a call is = refl
   operations_are (events.Check f) a call is = refl
   operations_are (events.Flush f) a call is = refl
   operations_are (events.FlushSnaps f) a call is = refl

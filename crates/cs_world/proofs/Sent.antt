@@ -64,6 +64,9 @@ module _ (p : ℕ) (h : List Entry) (run : IsRun p h) (v : ClientView) (i : Clie
   sent_then (events.Write c name off bytes) a q call is = append-nil q
   sent_then (events.Read c name off len) a q call is = append-nil q
   sent_then (events.Chmod c name mode) a q call is = append-nil q
+  sent_then (events.Lookup c d name) a q call is = append-nil q
+  sent_then (events.Req c op) (answers.Sent tid) q call is = refl
+  sent_then (events.Req c op) _ q call is = append-nil q
   sent_then _ a q call is = absurd (cc)
 
 -- an event of the client's own sends the client nothing
@@ -79,6 +82,8 @@ away_then (events.Chmod c name mode) a h call = refl
 away_then (events.Check f) a h call = refl
 away_then (events.Flush f) a h call = refl
 away_then (events.FlushSnaps f) a h call = refl
+away_then (events.Lookup c d name) a h call = refl
+away_then (events.Req c op) a h call = refl
 away_then _ a h call = absurd (cc)
 
 -- what the client sends at a call stands behind the messages to the server
@@ -96,7 +101,7 @@ news_at h = news (λ d. server_path h d) (server_dirs h) (last_sent h) (durable 
 
 module _ (p : ℕ) (h : List Entry) (run : IsRun p h) (s : ServerView) (i : ServerAt h s) where
   pub committed : commit_news (λ d. path_of s.tree d) (inos s.tree) s.durable s.fresh ≡ news_at h
-  committed = (λ k. commit_news (λ d. i.tree.paths d k) (i.tree.order k) (i.durable k) (i.fresh k)) ∙ sym (news_told p h run)
+  committed = (λ k. commit_news (λ d. i.tree.paths d k) (i.order k) (i.durable k) (i.fresh k)) ∙ sym (news_told p h run)
 
   served_then : (e : Event) (a : Answer) (q : List Message) → is_served e ≡ true → a ≡ answer p h e
       → q ++ event_sent e a s ≡ to_client_then e a (λ f. server h f) (durable h) (news_at h) q
@@ -106,6 +111,8 @@ module _ (p : ℕ) (h : List Entry) (run : IsRun p h) (s : ServerView) (i : Serv
   served_then (events.Revoke f bits) _ q is said = append-nil q
   served_then (events.Snap d name) a q is said = append-nil q
   served_then (events.RmSnap n) a q is said = append-nil q
+  served_then (events.Unlease d name) answers.SentUnlease q is said = refl
+  served_then (events.Unlease d name) _ q is said = append-nil q
   served_then events.Commit (answers.Commit count) q is said = ap (λ ms. q ++ ms) committed
   served_then events.Commit _ q is said = absurd (cc)
   served_then _ a q is said = absurd (cc)
@@ -116,6 +123,7 @@ here_then (events.Grant f bits end) a h is = refl
 here_then (events.Revoke f bits) a h is = refl
 here_then (events.Snap d name) a h is = refl
 here_then (events.RmSnap n) a h is = refl
+here_then (events.Unlease d name) a h is = refl
 here_then events.Commit a h is = refl
 here_then _ a h is = absurd (cc)
 

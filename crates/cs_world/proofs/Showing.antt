@@ -1,6 +1,6 @@
 -- What is shown of a file, by the sides and by the store.
-use Rattle.std.proofs.Common.{◌≡◌, ◌∙◌, refl, sym, ap, ℕ, zero, suc, ◌+◌, ◌<◌, ◌≤◌, ◌&&◌, ◌==◌, ◌++◌, Bool, true, false, cond, List, ◌∷◌, nat_lt, nat_le, Option, Some, None, is_some, arith}
-use Rattle.std.proofs.lemmas.Bool.{and_parts, cond-false, cond-true, leb-true, ltb-true}
+use Rattle.std.proofs.Common.{◌≡◌, ◌∙◌, refl, sym, ap, ℕ, zero, suc, ◌+◌, ◌<◌, ◌≤◌, ◌&&◌, ◌==◌, ◌++◌, not, Bool, true, false, cond, List, ◌∷◌, nat_lt, nat_le, Option, Some, None, is_some, arith}
+use Rattle.std.proofs.lemmas.Bool.{and_parts, cond-false, cond-true, ltb-true, or_left}
 use Rattle.std.specs.BTreeMap.{get}
 use Rattle.std.specs.List.{list_any}
 use Rattle.std.specs.Option.{option_map_or}
@@ -18,6 +18,7 @@ use Rattle.cs_laws.specs.declared.objects.At.TheVariants as at
 use Rattle.cs_laws.specs.declared.objects.ObjOp.{ObjOp}
 use Rattle.cs_laws.specs.Answers.{answer_show, bytes_from, covers_file, is_gone, shown, standing_context, stands}
 use Rattle.cs_laws.specs.ClientKnows.{client_knows, client_home}
+use Rattle.cs_laws.specs.Covering.{covers_along}
 use Rattle.cs_laws.specs.ServerKnows.{server_knows, server_file_path, server_home}
 use Rattle.cs_laws.specs.Fits.{greatest_end, is_shown, is_state, most_shown}
 use Rattle.cs_laws.specs.History.{stand, writes}
@@ -65,13 +66,13 @@ shown_is h s f a i = ap (shown_of_home s f a) (i.homes f) ∙ at (server_knows h
     at true = λ k. shown_at f (i.durable k ++ i.fresh k) (i.tree.paths (server_home h f) k) a
     at false = refl
 
-standing_snap : (p : ℕ) (h : List Entry) (f s off len : ℕ) (o : Option ℕ) → IsRun p h → 1 ≤ s → dir_of s (stand h) ≡ o
+standing_snap : (p : ℕ) (h : List Entry) (f s off len : ℕ) (o : Option ℕ) → IsRun p h → dir_of s (stand h) ≡ o
     → cond (stands (at.Snap s) (stand h)) (cond (is_gone (at.Snap s) (stand h)) answers.Gone
     (cond (covers_file (at.Snap s) (standing_context h f)) (by_shown h f (at.Snap s) off len (states.Meta (meta_at f (at.Snap s) (stand h)))) answers.NoSnap)) answers.NoSnap
     ≡ by_shown h f (at.Snap s) off len (shown_in f (stand h) (server_file_path h f) s o)
-standing_snap p h f s off len None run low is =
+standing_snap p h f s off len None run is =
     cond-false (stands (at.Snap s) (stand h)) _ answers.NoSnap (stands_dir s (stand h) ∙ ap is_some is)
-standing_snap p h f s off len (Some e) run low is =
+standing_snap p h f s off len (Some e) run is =
     cond-true (stands (at.Snap s) (stand h)) _ answers.NoSnap (stands_dir s (stand h) ∙ ap is_some is) ∙ by_removal (is_removed s (stand h)) refl
   where
     x : Answer
@@ -84,23 +85,23 @@ standing_snap p h f s off len (Some e) run low is =
     by_removal : (b : Bool) → is_removed s (stand h) ≡ b
         → cond b answers.Gone (cond (covers_file (at.Snap s) (standing_context h f)) x answers.NoSnap)
         ≡ by_shown h f (at.Snap s) off len (cond b states.Gone
-        (cond (list_any (λ d. d == e) (server_file_path h f)) (states.Meta (meta_at f (at.Snap s) (stand h))) states.Absent))
+        (cond (covers_along s e (stand h) (server_file_path h f)) (states.Meta (meta_at f (at.Snap s) (stand h))) states.Absent))
     by_removal true gone = refl
     by_removal false stays =
-        ap (λ c. cond c x answers.NoSnap) (covers_by p h f s e run low is stays) ∙ by_place (list_any (λ d. d == e) (server_file_path h f))
+        ap (λ c. cond c x answers.NoSnap) (covers_by p h f s e run is stays) ∙ by_place (covers_along s e (stand h) (server_file_path h f))
 
-show_known : (p : ℕ) (h : List Entry) (f : ℕ) (a : At) (off len : ℕ) → IsRun p h → is_state a ≡ true
+show_known : (p : ℕ) (h : List Entry) (f : ℕ) (a : At) (off len : ℕ) → IsRun p h
     → cond (stands a (stand h)) (cond (is_gone a (stand h)) answers.Gone
     (cond (covers_file a (standing_context h f)) (by_shown h f a off len (states.Meta (meta_at f a (stand h)))) answers.NoSnap)) answers.NoSnap
     ≡ by_shown h f a off len (shown_at f (stand h) (server_file_path h f) a)
-show_known p h f at.Head off len run state = refl
-show_known p h f (at.Snap s) off len run state = standing_snap p h f s off len (dir_of s (stand h)) run (leb-true 1 s state) refl
+show_known p h f at.Head off len run = refl
+show_known p h f (at.Snap s) off len run = standing_snap p h f s off len (dir_of s (stand h)) run refl
 
 -- the answer to a show is by what the server has
-pub show_is : (p : ℕ) (h : List Entry) (s : ServerView) (f : ℕ) (a : At) (off len : ℕ) (x : Shown) → IsRun p h → ServerAt h s → is_state a ≡ true → x ≡ shown_of s f a
+pub show_is : (p : ℕ) (h : List Entry) (s : ServerView) (f : ℕ) (a : At) (off len : ℕ) (x : Shown) → IsRun p h → ServerAt h s → x ≡ shown_of s f a
     → answer_show h f a off len ≡ by_shown h f a off len x
-show_is p h s f a off len x run i state is =
-    (ap (λ y. cond (server_knows h f) y answers.Unknown) (show_known p h f a off len run state) ∙ at (server_knows h f))
+show_is p h s f a off len x run i is =
+    (ap (λ y. cond (server_knows h f) y answers.Unknown) (show_known p h f a off len run) ∙ at (server_knows h f))
     ∙ sym (ap (by_shown h f a off len) (is ∙ shown_is h s f a i))
   where
     at : (b : Bool) → cond b (by_shown h f a off len (shown_at f (stand h) (server_file_path h f) a)) answers.Unknown
@@ -122,10 +123,10 @@ meta_in h f (at.Snap s) meta is = by (dir_of s (stand h)) is
     by_place true is = cc
     by_place false is = absurd (cc)
 
-    by_removal : (b : Bool) (e : ℕ) → states.Meta meta ≡ cond b states.Gone (cond (list_any (λ d. d == e) (server_file_path h f)) (states.Meta (meta_at f (at.Snap s) (stand h))) states.Absent)
+    by_removal : (b : Bool) (e : ℕ) → states.Meta meta ≡ cond b states.Gone (cond (covers_along s e (stand h) (server_file_path h f)) (states.Meta (meta_at f (at.Snap s) (stand h))) states.Absent)
         → meta ≡ meta_at f (at.Snap s) (stand h)
     by_removal true e is = absurd (cc)
-    by_removal false e is = by_place (list_any (λ d. d == e) (server_file_path h f)) is
+    by_removal false e is = by_place (covers_along s e (stand h) (server_file_path h f)) is
 
     by : (o : Option ℕ) → states.Meta meta ≡ shown_in f (stand h) (server_file_path h f) s o → meta ≡ meta_at f (at.Snap s) (stand h)
     by None is = absurd (cc)
@@ -138,15 +139,16 @@ has_meta h s f a meta i is = by (server_knows h f) refl (is ∙ shown_is h s f a
     by true known is = record { known = known; meta = meta_in h f a meta is }
     by false none is = absurd (cc)
 
--- The client knows what is owed
+-- The client knows what is owed: of a file that it doesn't know all is
 
-pub owes : (p : ℕ) (h : List Entry) (v : ClientView) (s : ServerView) (f : ℕ) (a : At) (meta : FileMeta) → IsRun p h → ClientAt h v → ServerAt h s
-    → states.Meta meta ≡ shown_of s f a → option_map_or (λ r. inodes.owed (snapshot_of a) r.inode) (get nat_cmp v.files f) true ≡ owed h f a
-owes p h v s f a meta run i j is =
-    let known : client_knows h f ≡ true = (has_meta h s f a meta j is).known in
-    ap (λ o. option_map_or (λ r. inodes.owed (snapshot_of a) r.inode) o true) (i.rows f)
-    ∙ (ap (λ b. option_map_or (λ (r : ClientFile). inodes.owed (snapshot_of a) r.inode) (cond b (Some (record { inode = inode h f; home = client_home h f })) None) true) known
-    ∙ sym (owed_is p h run f a known))
+pub owes : (p : ℕ) (h : List Entry) (v : ClientView) (f : ℕ) (a : At) → IsRun p h → ClientAt h v
+    → option_map_or (λ r. inodes.owed (snapshot_of a) r.inode) (get nat_cmp v.files f) true ≡ owed h f a
+owes p h v f a run i = ap (λ o. option_map_or (λ r. inodes.owed (snapshot_of a) r.inode) o true) (i.rows f) ∙ at (client_knows h f) refl
+  where
+    at : (b : Bool) → client_knows h f ≡ b
+        → option_map_or (λ (r : ClientFile). inodes.owed (snapshot_of a) r.inode) (cond b (Some (record { inode = inode h f; home = client_home h f })) None) true ≡ owed h f a
+    at true known = sym (owed_is p h run f a known)
+    at false unknown = sym (or_left (not (client_knows h f)) _ (ap not unknown))
 
 -- What is asked of the store lies in the file
 
@@ -186,10 +188,10 @@ some_counted F off zero some = absurd cc
 some_counted F off (suc n) some = refl
 
 -- a state that isn't owed is shown
-pub shows_it : (p : ℕ) (h : List Entry) (s : ServerView) (f : ℕ) (a : At) (off len : ℕ) (meta : FileMeta) → IsRun p h → ServerAt h s → is_state a ≡ true
+pub shows_it : (p : ℕ) (h : List Entry) (s : ServerView) (f : ℕ) (a : At) (off len : ℕ) (meta : FileMeta) → IsRun p h → ServerAt h s
     → states.Meta meta ≡ shown_of s f a → owed h f a ≡ false → answer_show h f a off len ≡ shown meta (writes_at a (writes h f)) off len
-shows_it p h s f a off len meta run j state is free =
-    show_is p h s f a off len (states.Meta meta) run j state is ∙ cond-false (owed h f a) answers.Pending _ free
+shows_it p h s f a off len meta run j is free =
+    show_is p h s f a off len (states.Meta meta) run j is ∙ cond-false (owed h f a) answers.Pending _ free
 
 pub quiet_by : (p : ℕ) (h : List Entry) (f : ℕ) (a : At) (off len count : ℕ) (meta : FileMeta) → answer_show h f a off len ≡ shown meta (writes_at a (writes h f)) off len
     → count ≡ shown_count meta.size off len → calls_store (events.Show f a off len) (answer_show h f a off len) ≡ false → count ≡ 0

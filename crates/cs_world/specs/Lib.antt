@@ -1,4 +1,5 @@
 pub mod Devices
+pub mod OpenRequests
 pub mod Parts
 pub mod Seen
 pub mod Serving

@@ -19,19 +19,23 @@ use Rattle.cs_laws.specs.ClientKnows.{client_files, client_knows, client_dir, cl
 use Rattle.cs_laws.specs.Events.{begun, clock}
 use Rattle.cs_laws.specs.ServerKnows.{server_knows, server_dir, server_dirs, server_home, server_path}
 use Rattle.cs_laws.specs.History.{durable, fresh, live, realms, sent, server, to_client, to_server}
+use Rattle.cs_laws.specs.Leases.{Lease, lease}
 use Rattle.cs_laws.specs.Logged.{LogIs}
+use Rattle.cs_laws.specs.Names.{names}
+use Rattle.cs_laws.specs.Namespace.{Names}
 use Rattle.cs_laws.specs.Operations.{operations_drawn}
-use Rattle.cs_laws.specs.Tree.{directories}
 use Rattle.cs_files.specs.Rows.{inode}
+use Rattle.cs_requests.specs.RequestTable.{RequestTable}
 use Rattle.cs_client.specs.declared.file.ClientFile.{ClientFile}
+use Rattle.cs_client.specs.Requests.{lease_of}
 use Rattle.cs_client.specs.Views.{ClientView}
 use Rattle.cs_mds.specs.Views.{ServerView, caps_of}
+use Rattle.cs_world.specs.OpenRequests.{request_table}
 
--- the tree has these directories, with these paths, in this order
-pub record TreeIs (dir : ℕ → Bool) (up : ℕ → List ℕ) (listed : List ℕ) (tree : List Directory) : Type 0 where
+-- the tree has these directories, with these paths
+pub record TreeIs (dir : ℕ → Bool) (up : ℕ → List ℕ) (tree : List Directory) : Type 0 where
   pub known : (d : ℕ) → has_directory d tree ≡ dir d
   pub paths : (d : ℕ) → path_of tree d ≡ up d
-  pub order : inos tree ≡ listed
 
 -- The client
 
@@ -39,24 +43,27 @@ pub record TreeIs (dir : ℕ → Bool) (up : ℕ → List ℕ) (listed : List �
 abbrev pub client_row : List Entry → ℕ → Option ClientFile
 client_row h f = if client_knows h f then Some (record { inode = inode h f; home = client_home h f }) else None
 
--- time: the script's, told: the realms' last records, all: the files in the order in which they were made, rs: the live references,
--- count: how many a caller has begun, drawn, out: how many operations and flushes were drawn
-pub record ClientIs (time : ℕ) (dir : ℕ → Bool) (up : ℕ → List ℕ) (listed : List ℕ) (told : List RealmRecord) (row : ℕ → Option ClientFile) (all : List ℕ)
-    (rs : List Live) (count : ℕ → ℕ) (drawn out : ℕ) (v : ClientView) : Type 0 where
+-- time: the script's, told: the realms' last records, all: the files in the order in which the client was told of them, rs: the live
+-- references, count: how many a caller has begun, table: the requests, kept: the leases, drawn, out: how many operations and flushes
+-- were drawn
+pub record ClientIs (time : ℕ) (dir : ℕ → Bool) (up : ℕ → List ℕ) (told : List RealmRecord) (row : ℕ → Option ClientFile) (all : List ℕ)
+    (rs : List Live) (count : ℕ → ℕ) (table : RequestTable) (kept : ℕ → List ℕ → Option Lease) (drawn out : ℕ) (v : ClientView) : Type 0 where
   pub clock : v.clock ≡ time
-  pub tree : TreeIs dir up listed v.tree
+  pub tree : TreeIs dir up v.tree
   pub realms : v.realms ≡ told
   pub rows : (f : ℕ) → get nat_cmp v.files f ≡ row f
   pub made : v.made ≡ all
   pub live : v.refs.live ≡ rs
   pub begun : (c : ℕ) → begun_of c v.refs ≡ count c
+  pub requests : v.requests ≡ table
+  pub leases : (d : ℕ) (name : List ℕ) → lease_of v.leases d name ≡ kept d name
   pub operations : v.operations ≡ drawn
   pub flushes : v.flushes ≡ out
 
 abbrev pub ClientAt : List Entry → ClientView → Type 0
 ClientAt h v =
-    ClientIs (clock h) (λ d. client_dir h d) (λ d. client_path h d) (directories h) (realms h) (λ f. client_row h f) (reverse (client_files h)) (live h)
-    (λ c. begun h c) (operations_drawn h) (length (sent h)) v
+    ClientIs (clock h) (λ d. client_dir h d) (λ d. client_path h d) (realms h) (λ f. client_row h f) (reverse (client_files h)) (live h)
+    (λ c. begun h c) (request_table h) (λ d name. lease h d name) (operations_drawn h) (length (sent h)) v
 
 -- The server
 
@@ -64,16 +71,20 @@ ClientAt h v =
 abbrev pub server_home_of : List Entry → ℕ → Option ℕ
 server_home_of h f = if server_knows h f then Some (server_home h f) else None
 
-pub record ServerIs (dir : ℕ → Bool) (up : ℕ → List ℕ) (listed : List ℕ) (home : ℕ → Option ℕ) (end : ℕ → ServerCaps) (ds fs : List Record) (s : ServerView) : Type 0 where
-  pub tree : TreeIs dir up listed s.tree
+-- listed: the directories in their order
+pub record ServerIs (dir : ℕ → Bool) (up : ℕ → List ℕ) (listed : List ℕ) (home : ℕ → Option ℕ) (named : Names) (end : ℕ → ServerCaps) (ds fs : List Record)
+    (s : ServerView) : Type 0 where
+  pub tree : TreeIs dir up s.tree
+  pub order : inos s.tree ≡ listed
   pub homes : (f : ℕ) → get nat_cmp s.homes f ≡ home f
+  pub names : s.names ≡ named
   pub caps : (f : ℕ) → caps_of f s.caps ≡ end f
   pub durable : s.durable ≡ ds
   pub fresh : s.fresh ≡ fs
 
 abbrev pub ServerAt : List Entry → ServerView → Type 0
 ServerAt h s =
-    ServerIs (λ d. server_dir h d) (λ d. server_path h d) (server_dirs h) (λ f. server_home_of h f) (λ f. server h f) (durable h) (fresh h) s
+    ServerIs (λ d. server_dir h d) (λ d. server_path h d) (server_dirs h) (λ f. server_home_of h f) (names h) (λ f. server h f) (durable h) (fresh h) s
 
 -- The links, and the log
 

@@ -13,6 +13,7 @@ is_served (events.Grant f bits end) = true
 is_served (events.Revoke f bits) = true
 is_served (events.Snap d name) = true
 is_served (events.RmSnap s) = true
+is_served (events.Unlease d name) = true
 is_served events.Commit = true
 is_served _ = false
 

@@ -7,6 +7,7 @@ mod calls;
 mod deliveries;
 mod laws;
 mod links;
+mod names;
 mod server;
 mod setup;
 mod shows;

@@ -61,6 +61,7 @@ fn serve_by<L: MdsLog>(
         Event::Revoke { file, bits } => Ok(server.revoke(*file, *bits, out)?),
         Event::Snap { dir, name } => server.snap(*dir, name, log),
         Event::RmSnap { snap } => server.remove_snap(*snap, log),
+        Event::Unlease { dir, name } => Ok(server.unlease(*dir, name, out)?),
         Event::Commit => server.commit(true, log, out),
         _ => unreachable!(),
     }

@@ -10,6 +10,7 @@ ghost use Rattle.cs_world.specs.Tables.{IsKept, IsReady, KeepsJournal, Steps, pa
 
 use crate::calls::call;
 use crate::deliveries::{to_client, to_server};
+use crate::names::list_names;
 use crate::server::serve;
 use crate::setup::set_up;
 use crate::shows::show;
@@ -53,15 +54,19 @@ pub fn answer<O: ObjStore, L: MdsLog>(
         | Event::Chmod { .. }
         | Event::Check { .. }
         | Event::Flush { .. }
-        | Event::FlushSnaps { .. } => call(state, store, event),
+        | Event::FlushSnaps { .. }
+        | Event::Lookup { .. }
+        | Event::Req { .. } => call(state, store, event),
         Event::Grant { .. }
         | Event::Revoke { .. }
         | Event::Snap { .. }
         | Event::RmSnap { .. }
+        | Event::Unlease { .. }
         | Event::Commit => serve(state, log, event),
         Event::ToClient => Ok(to_client(state)?),
         Event::ToMds => to_server(state, log),
         Event::Show { file, at, off, len } => show(state, store, *file, at, *off, *len),
+        Event::Names { dir } => Ok(list_names(state, *dir)?),
     }
 }
 

@@ -1,4 +1,5 @@
-use Rattle.std.proofs.Common.{◌≡◌, ◌∙◌, ◌++◌, refl, ap, true, rules, arith}
+use Rattle.std.proofs.Common.{◌≡◌, ◌∙◌, ◌++◌, refl, sym, ap, true, rules, arith}
+use Rattle.std.proofs.lemmas.Bool.{true≢false}
 use Rattle.std.proofs.lemmas.List.{length-reverse}
 use Rattle.cs_laws.specs.Answers.{answer}
 use Rattle.cs_client.specs.Answers.{call_answer, head_byte}
@@ -69,7 +70,9 @@ returns-clause-ok g c =
     record {
       after = record {
         answer = is;
-        client = client_after s.pages h run s.client c.step_call.new.self t.client e a c.requires.call is done.after;
+        client =
+            client_after s.pages h run s.client c.step_call.new.self t.client e a c.requires.call is
+            (record { spelled = c.requires.fits; setup = λ line. absurd (true≢false (sym line ∙ c.requires.later)) }) done.after;
         server = server_stays e a h s.server c.requires.call c.requires.later t.server;
         links =
             called_links s.pages h s.client e a s.to_client.items s.to_server.items c.send_all.new.link.items run t.client c.requires.call is t.links

@@ -1,8 +1,9 @@
-use Rattle.std.proofs.Common.{◌≡◌, ◌∙◌, ◌∷◌, ◌++◌, refl, sym, ap}
+use Rattle.std.proofs.Common.{◌≡◌, ◌∙◌, ◌∷◌, ◌++◌, refl, sym, ap, arith}
 use Rattle.cs_laws.specs.History.{to_server}
-use Rattle.cs_mds.specs.Answers.{flush_sent}
+use Rattle.cs_mds.specs.Answers.{message_sent}
 use Rattle.cs_world.specs.Tables.{past}
-use Rattle.cs_world.proofs.Accepted.{fits_server, is_for_server}
+use Rattle.std.proofs.lemmas.List.{length-reverse}
+use Rattle.cs_world.proofs.Accepted.{fits_server, has_inodes, is_for_server, is_whole}
 use Rattle.cs_world.proofs.Delivered.{received_steps}
 use Rattle.cs_world.proofs.deliveries.to_server.Goals as goal
 
@@ -15,6 +16,15 @@ pub step_message-requires-clause-fits : goal.step_message-requires-clause-fits
 step_message-requires-clause-fits g c κs within =
     let s = c.args.state.now in
     fits_server s.pages (past s) c.in-Some.message c.pop_front.new.self.items c.requires.ready.run (sym c.requires.ready.parts.links.to_server ∙ c.in-Some.ensures.items)
+
+pub step_message-requires-clause-room : goal.step_message-requires-clause-room
+step_message-requires-clause-room g c κs within =
+    let s = c.args.state.now in
+    has_inodes s.pages (past s) s.server c.requires.ready.run c.requires.ready.parts.server (omega (arith, c.requires.ready.room, length-reverse s.entries.items))
+
+pub step_message-requires-clause-whole : goal.step_message-requires-clause-whole
+step_message-requires-clause-whole g c κs within =
+    let s = c.args.state.now in is_whole s.pages (past s) s.server c.requires.ready.run c.requires.ready.parts.server
 
 pub returns-clause-ok : goal.returns-clause-ok
 returns-clause-ok g c =
@@ -30,7 +40,7 @@ returns-clause-ok g c =
       after =
           received_steps s.pages h m a s.client s.server c.step_message.new.self s.to_client.items c.send_all.new.link.items rest first
           (is_for_server s.pages h m rest c.requires.ready.run first) t.client t.server done.answer done.after t.links.to_client
-          (c.in_ok-send_all.ensures ∙ ap (λ ms. s.to_client.items ++ ms) (done.sent ∙ ap (λ ms. ms ++ flush_sent a s.server.durable) c.new-out.ensures));
+          (c.in_ok-send_all.ensures ∙ ap (λ ms. s.to_client.items ++ ms) (done.sent ∙ ap (λ ms. ms ++ message_sent a s.server.durable) c.new-out.ensures));
       entries = refl;
       pages = refl;
     }

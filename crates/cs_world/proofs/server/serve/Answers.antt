@@ -1,13 +1,13 @@
 use Rattle.std.proofs.Common.{◌≡◌, ◌∙◌, ◌∷◌, ◌++◌, [], refl, ap, rules, arith}
 use Rattle.std.proofs.lemmas.List.{length-reverse}
 use Rattle.cs_laws.specs.Answers.{answer}
-use Rattle.cs_laws.specs.History.{fresh, to_server}
 use Rattle.cs_mds.specs.Answers.{calls_log}
 use Rattle.cs_world.specs.Serving.{event_sent}
 use Rattle.cs_world.specs.Tables.{past}
 use Rattle.cs_world.proofs.Halts.{halts_logged, logged_after}
 use Rattle.cs_world.proofs.Sent.{served_links}
-use Rattle.cs_world.proofs.Serves.{has_number, no_message, served_answer_is, server_after}
+use Rattle.cs_world.proofs.Recorded.{served_records}
+use Rattle.cs_world.proofs.Serves.{has_number, served_answer_is, served_later, server_after}
 use Rattle.cs_world.proofs.Stays.{client_stays}
 use Rattle.cs_world.proofs.Stored.{any_err}
 use Rattle.cs_world.proofs.server.serve.Goals as goal
@@ -31,7 +31,8 @@ returns-clause-ok g c =
       after = record {
         answer = is;
         client = client_stays e a h s.client c.requires.served t.client;
-        server = server_after h s.server c.serve_by.new.server e a [] (no_message e a (to_server h) (fresh h) c.requires.served) t.server done.after;
+        server =
+            server_after h s.server c.serve_by.new.server e a [] (served_later e c.requires.served) (served_records h e a c.requires.served) t.server done.after;
         links =
             served_links s.pages h s.server e a s.to_client.items s.to_server.items c.send_all.new.link.items c.requires.ready.run t.server c.requires.served is t.links
             (c.in_ok-send_all.ensures ∙ ap (λ ms. s.to_client.items ++ ms) (done.sent ∙ ap (λ ms. ms ++ event_sent e a s.server) c.new-out.ensures));
@@ -50,7 +51,7 @@ returns-in_err-send_all-clause-log g c =
     let new = c.serve_by.new.log in
     let done = c.in_ok-answer.ensures in
     let served = served_answer_is s.pages h s.server i e c.requires.served in
-    let after = server_after h s.server c.serve_by.new.server e a [] (no_message e a (to_server h) (fresh h) c.requires.served) i done.after in
+    let after = server_after h s.server c.serve_by.new.server e a [] (served_later e c.requires.served) (served_records h e a c.requires.served) i done.after in
     record {
       halted =
           any_err c.from_residual-in_err-send_all.result

@@ -28,7 +28,7 @@ returns-in_ok-step_call-in-Made-clause-ok g c =
     record {
       after =
           made_steps s.pages (past s) c.requires.ready.run s.client s.server c.setup.new.self s.to_client.items s.to_server.items e t.client t.server t.links c.requires.setup
-          c.step_call.new.self done.field-0 true (head_byte (g.O.ObjStore.ops c.args.store.now)) made done.ensures.answer served done.ensures.after;
+          (record { spelled = c.requires.fits; setup = λ is. c.requires.first }) c.step_call.new.self done.field-0 true (head_byte (g.O.ObjStore.ops c.args.store.now)) made done.ensures.answer served done.ensures.after;
       entries = refl;
       pages = refl;
     }
@@ -41,7 +41,7 @@ returns-in_default-clause-ok g c =
     record {
       after =
           refused_steps s.pages (past s) c.requires.ready.run s.client s.server c.setup.new.self s.to_client.items s.to_server.items c.args.event.now t.client t.server t.links
-          c.requires.setup a.answer a.ensures.answer c.in_default.not-Made a.ensures.after;
+          c.requires.setup (record { spelled = c.requires.fits; setup = λ is. c.requires.first }) a.answer a.ensures.answer c.in_default.not-Made a.ensures.after;
       entries = refl;
       pages = refl;
     }

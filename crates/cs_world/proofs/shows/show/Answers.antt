@@ -22,11 +22,10 @@ returns-in-Absent-clause-ok g c =
     let s = c.args.state.now in
     let a = c.args.at.now in
     let t = c.requires.ready.parts in
-    let state = (and_parts (is_state a) (is_shown c.args.off c.args.len) c.requires.fits).0 in
     let is : states.Absent ≡ shown_of s.server c.args.file a = sym c.in-Absent.is ∙ c.shown.ensures in
     record {
       after = record {
-        answer = sym (show_is s.pages (past s) s.server c.args.file a c.args.off c.args.len states.Absent c.requires.ready.run t.server state is);
+        answer = sym (show_is s.pages (past s) s.server c.args.file a c.args.off c.args.len states.Absent c.requires.ready.run t.server is);
         client = t.client;
         server = t.server;
         links = t.links;
@@ -40,11 +39,10 @@ returns-in-Gone-clause-ok g c =
     let s = c.args.state.now in
     let a = c.args.at.now in
     let t = c.requires.ready.parts in
-    let state = (and_parts (is_state a) (is_shown c.args.off c.args.len) c.requires.fits).0 in
     let is : states.Gone ≡ shown_of s.server c.args.file a = sym c.in-Gone.is ∙ c.shown.ensures in
     record {
       after = record {
-        answer = sym (show_is s.pages (past s) s.server c.args.file a c.args.off c.args.len states.Gone c.requires.ready.run t.server state is);
+        answer = sym (show_is s.pages (past s) s.server c.args.file a c.args.off c.args.len states.Gone c.requires.ready.run t.server is);
         client = t.client;
         server = t.server;
         links = t.links;
@@ -61,14 +59,13 @@ returns-then-owed-clause-ok g c =
     let a = c.args.at.now in
     let t = c.requires.ready.parts in
     let run = c.requires.ready.run in
-    let state = (and_parts (is_state a) (is_shown c.args.off c.args.len) c.requires.fits).0 in
     let is : states.Meta c.in-Meta.meta ≡ shown_of s.server f a = sym c.in-Meta.is ∙ c.shown.ensures in
     let owing : owed h f a ≡ true =
-    sym (owes s.pages h s.client s.server f a c.in-Meta.meta run t.client t.server is) ∙ (rw c.snapshot_of.ensures at (sym c.owed.ensures ∙ c.if-owed.true)) in
+    sym (owes s.pages h s.client f a run t.client) ∙ (rw c.snapshot_of.ensures at (sym c.owed.ensures ∙ c.if-owed.true)) in
     record {
       after = record {
         answer =
-            sym (show_is s.pages h s.server f a c.args.off c.args.len (states.Meta c.in-Meta.meta) run t.server state is ∙ cond-true (owed h f a) answers.Pending _ owing);
+            sym (show_is s.pages h s.server f a c.args.off c.args.len (states.Meta c.in-Meta.meta) run t.server is ∙ cond-true (owed h f a) answers.Pending _ owing);
         client = t.client;
         server = t.server;
         links = t.links;
@@ -88,7 +85,7 @@ read_file-requires-clause-within g c κs within_them =
     let fit = (and_parts (is_state a) (is_shown c.args.off c.args.len) c.requires.fits).1 in
     let is : states.Meta c.in-Meta.meta ≡ shown_of s.server f a = sym c.in-Meta.is ∙ c.shown.ensures in
     let free : owed h f a ≡ false =
-    sym (owes s.pages h s.client s.server f a c.in-Meta.meta run t.client t.server is) ∙ (rw c.snapshot_of.ensures at (sym c.owed.ensures ∙ c.if-owed.false)) in
+    sym (owes s.pages h s.client f a run t.client) ∙ (rw c.snapshot_of.ensures at (sym c.owed.ensures ∙ c.if-owed.false)) in
     rw c.shown_count-count.ensures (within s.pages h s.server f a c.args.off c.args.len c.in-Meta.meta run t.server is free fit)
 
 pub returns-in_err-bytes-in-Meta-clause-store : goal.returns-in_err-bytes-in-Meta-clause-store
@@ -99,11 +96,10 @@ returns-in_err-bytes-in-Meta-clause-store g c =
     let a = c.args.at.now in
     let t = c.requires.ready.parts in
     let run = c.requires.ready.run in
-    let state = (and_parts (is_state a) (is_shown c.args.off c.args.len) c.requires.fits).0 in
     let is : states.Meta c.in-Meta.meta ≡ shown_of s.server f a = sym c.in-Meta.is ∙ c.shown.ensures in
     let free : owed h f a ≡ false =
-    sym (owes s.pages h s.client s.server f a c.in-Meta.meta run t.client t.server is) ∙ (rw c.snapshot_of.ensures at (sym c.owed.ensures ∙ c.if-owed.false)) in
-    let shows = shows_it s.pages h s.server f a c.args.off c.args.len c.in-Meta.meta run t.server state is free in
+    sym (owes s.pages h s.client f a run t.client) ∙ (rw c.snapshot_of.ensures at (sym c.owed.ensures ∙ c.if-owed.false)) in
+    let shows = shows_it s.pages h s.server f a c.args.off c.args.len c.in-Meta.meta run t.server is free in
     let done = c.in_err-bytes-in-Meta.ensures in
     record {
       front =
@@ -128,11 +124,10 @@ returns-in_ok-bytes-in-Meta-clause-ok g c =
     let t = c.requires.ready.parts in
     let run = c.requires.ready.run in
     let m = c.in-Meta.meta in
-    let state = (and_parts (is_state a) (is_shown off c.args.len) c.requires.fits).0 in
     let is : states.Meta m ≡ shown_of s.server f a = sym c.in-Meta.is ∙ c.shown.ensures in
     let free : owed h f a ≡ false =
-    sym (owes s.pages h s.client s.server f a m run t.client t.server is) ∙ (rw c.snapshot_of.ensures at (sym c.owed.ensures ∙ c.if-owed.false)) in
-    let shows = shows_it s.pages h s.server f a off c.args.len m run t.server state is free in
+    sym (owes s.pages h s.client f a run t.client) ∙ (rw c.snapshot_of.ensures at (sym c.owed.ensures ∙ c.if-owed.false)) in
+    let shows = shows_it s.pages h s.server f a off c.args.len m run t.server is free in
     let held =
     c.in_ok-bytes-in-Meta.ensures.bytes
     ∙ (stored_bytes s.pages h f a (g.O.ObjStore.ops c.args.store.now) off c.shown_count-count.result run c.requires.listed
@@ -156,11 +151,10 @@ returns-in_ok-bytes-in-Meta-clause-store g c =
     let a = c.args.at.now in
     let t = c.requires.ready.parts in
     let run = c.requires.ready.run in
-    let state = (and_parts (is_state a) (is_shown c.args.off c.args.len) c.requires.fits).0 in
     let is : states.Meta c.in-Meta.meta ≡ shown_of s.server f a = sym c.in-Meta.is ∙ c.shown.ensures in
     let free : owed h f a ≡ false =
-    sym (owes s.pages h s.client s.server f a c.in-Meta.meta run t.client t.server is) ∙ (rw c.snapshot_of.ensures at (sym c.owed.ensures ∙ c.if-owed.false)) in
-    let shows = shows_it s.pages h s.server f a c.args.off c.args.len c.in-Meta.meta run t.server state is free in
+    sym (owes s.pages h s.client f a run t.client) ∙ (rw c.snapshot_of.ensures at (sym c.owed.ensures ∙ c.if-owed.false)) in
+    let shows = shows_it s.pages h s.server f a c.args.off c.args.len c.in-Meta.meta run t.server is free in
     let done = c.in_ok-bytes-in-Meta.ensures in
     record {
       front = tt;

@@ -1,0 +1,19 @@
+use Rattle.std.proofs.Common.{◌∙◌, refl}
+use Rattle.cs_world.specs.Tables.{past}
+use Rattle.cs_world.proofs.Serves.{names_answer_is}
+use Rattle.cs_world.proofs.names.list_names.Goals as goal
+
+pub returns : goal.returns
+returns c =
+    let s = c.args.state.now in
+    let t = c.requires.parts in
+    record {
+      after = record {
+        answer = c.names.ensures ∙ names_answer_is s.pages (past s) s.server t.server c.args.dir;
+        client = t.client;
+        server = t.server;
+        links = t.links;
+      };
+      entries = refl;
+      pages = refl;
+    }
