@@ -68,21 +68,9 @@ within-none ns d a none = within-refusal ns d a ∙ ap (λ o. unwrap_or o a) non
 pub after-unmade : (ns : Names) (d : ℕ) (name : List ℕ) (is_dir : Bool) (a : OpAnswer) → ((i : ℕ) → a ≡ replies.Made i → ⊥)
     → ns ≡ after_answer (making is_dir d name) a ns
 after-unmade ns d name true (replies.Made i) other = absurd (other i refl)
-after-unmade ns d name true (replies.Found i) other = refl
-after-unmade ns d name true replies.Gone other = refl
-after-unmade ns d name true replies.Moved other = refl
-after-unmade ns d name true replies.Exists other = refl
-after-unmade ns d name true replies.Missing other = refl
-after-unmade ns d name true replies.NotEmpty other = refl
-after-unmade ns d name true replies.NotDir other = refl
+after-unmade ns d name true _ other = refl
 after-unmade ns d name false (replies.Made i) other = absurd (other i refl)
-after-unmade ns d name false (replies.Found i) other = refl
-after-unmade ns d name false replies.Gone other = refl
-after-unmade ns d name false replies.Moved other = refl
-after-unmade ns d name false replies.Exists other = refl
-after-unmade ns d name false replies.Missing other = refl
-after-unmade ns d name false replies.NotEmpty other = refl
-after-unmade ns d name false replies.NotDir other = refl
+after-unmade ns d name false _ other = refl
 
 -- What an answer tells
 
