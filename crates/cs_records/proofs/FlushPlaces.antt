@@ -140,7 +140,7 @@ in_with f tid n d (Some x) xs = at (x.file == f)
     at true = one_or (x.tid == tid) n d (place_in tid xs)
     at false = refl
 
-both_false : (b c d : Bool) → c ≡ false → d ≡ false → cond b c d ≡ false
+pub both_false : (b c d : Bool) → c ≡ false → d ≡ false → cond b c d ≡ false
 both_false true c d p q = p
 both_false false c d p q = q
 
@@ -151,7 +151,7 @@ stands_behind f tid n d (r ∷ rs) high =
     in_with f tid n d (flush_in r.body) (places_from f (n + 1) rs)
     ∙ both_false (is_flush f tid (flush_in r.body)) (nat_lt n d) _ (le-ltb n d high) (stands_behind f tid (n + 1) d rs (omega arith))
 
-true_or : (b c d : Bool) → c ≡ true → cond b c d ≡ (b || d)
+pub true_or : (b c d : Bool) → c ≡ true → cond b c d ≡ (b || d)
 true_or true c d p = p
 true_or false c d p = refl
 

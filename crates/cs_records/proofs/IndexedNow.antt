@@ -1,15 +1,19 @@
 -- What is kept beside the records, after each step.
-use Rattle.std.proofs.Common.{◌≡◌, ℕ, ◌==◌, ◌+◌, ◌<◌, ◌||◌, ◌&&◌, Bool, true, false, cond, List, [], ◌∷◌, ◌++◌, Option, Some, None, length, take, drop, get_or, suc, add-one, refl, sym, ◌∙◌, ap, subst, arith, append-nil, max, nat_eq}
+use Rattle.std.proofs.Common.{◌≡◌, ℕ, ◌==◌, ◌+◌, ◌<◌, ◌||◌, ◌&&◌, Bool, true, false, cond, List, [], ◌∷◌, ◌++◌, Option, Some, None, length, take, drop, get_or, suc, add-one, refl, sym, ◌∙◌, ap, subst, arith, append-nil, max, nat_eq, nat_le, not}
+use Rattle.std.specs.List.{list_any}
+use Rattle.std.specs.Ordering.{nat_cmp}
+use Rattle.std.specs.BTreeMap.{get as map_get}
 use Rattle.std.specs.Str.{bytes_eq}
 use Rattle.std.proofs.lemmas.Bool.{eqb-true}
 use Rattle.std.proofs.lemmas.List.{length-append, length-drop, take-append-drop, take-append-le}
 use Rattle.std.proofs.Math.Seq.{drop-cons, take-suc}
 use Rattle.cs_laws.specs.declared.records.Record.{Record}
 use Rattle.cs_laws.specs.declared.records.RecordBody.TheVariants as bodies
-use Rattle.cs_laws.specs.Standing.{dir_in, dir_of, greatest_number, greatest_tid, is_removal, is_removed}
+use Rattle.cs_laws.specs.Covering.{passes}
+use Rattle.cs_laws.specs.Standing.{dir_in, dir_of, greatest_number, greatest_request, greatest_tid, is_removal, is_removed, request_tid}
 use Rattle.std.specs.Option.{unwrap_or}
-use Rattle.cs_laws.specs.Made.{made_of, makes_dir}
-use Rattle.cs_laws.specs.Realms.{number_of}
+use Rattle.cs_laws.specs.Made.{made_by, made_of, makes_dir}
+use Rattle.cs_laws.specs.Realms.{is_snap_of, number_of}
 use Rattle.cs_records.specs.declared.sinces.Sinces.{Sinces}
 use Rattle.cs_records.specs.Sinces.{first_of, made_by_records, made_in_table, made_then, since_in}
 use Rattle.cs_laws.specs.declared.messages.Message.{Message}
@@ -29,7 +33,13 @@ use Rattle.cs_records.specs.Flushed.{Flushed, flushed, with_flushed}
 use Rattle.cs_records.specs.Flushes.{flushed_in}
 use Rattle.cs_records.specs.Indexed.{AreSettled, IsIndexed, IsKept}
 use Rattle.cs_records.specs.Log.{IsLog, IsNext, IsNextRemoval, IsNextSnap}
-use Rattle.cs_records.specs.Names.{last_named, name_in, named_then}
+use Rattle.cs_records.specs.Names.{has_names, last_named, name_in, named_then}
+use Rattle.cs_records.specs.Requests.{answered_at, answered_from, answered_in}
+use Rattle.cs_records.specs.declared.flushes.Flushes.{Flushes}
+use Rattle.cs_records.specs.declared.names.Names.{Names}
+use Rattle.cs_records.specs.declared.requests.Answered.{Answered}
+use Rattle.cs_records.specs.declared.requests.Requests.{Requests}
+use Rattle.cs_records.proofs.RequestPlaces.{answered_append, no_request, request_append}
 use Rattle.cs_records.specs.OwnTable.{had, own_in}
 use Rattle.cs_records.specs.Places.{places_from, with_place}
 use Rattle.cs_records.specs.Recorded.{recorded, recorded_then, with_recorded}
@@ -37,7 +47,7 @@ use Rattle.cs_records.specs.Records.{Settles}
 use Rattle.cs_records.specs.NewsByTables.{IsKnown, changed_own, is_new_by, message_by}
 use Rattle.cs_records.proofs.FlushPlaces.{places_append}
 use Rattle.cs_records.proofs.RecordedSteps.{recorded_append}
-use Rattle.cs_records.proofs.Logs.{dir_append, dir_stays, either, either_none, greatest_append, log_few, made_append, since_made, log_append, log_front, log_next, named_append, or_false, removed_append}
+use Rattle.cs_records.proofs.Logs.{dir_append, dir_stays, either, either_none, first_none, greatest_append, had_one_append, log_few, made_append, since_made, log_append, log_front, log_next, named_append, or_false, removed_append}
 use Rattle.cs_records.proofs.Members.{new_dir}
 use Rattle.cs_records.proofs.Telling.{Knows, changed_had, known, message_told}
 
@@ -78,53 +88,96 @@ flushed_append f rs r =
     at (Some x) = own x (x.file == f)
 
 -- the look-ups give what the records and one more say
-pub indexed_more : (rs : List Record) (r : Record) (t new : Index) → IsIndexed rs t → IsNext rs r.body
-    → new.greatest ≡ max (greatest_number rs) (number_of r.body)
+pub indexed_more : (rs : List Record) (r : Record) (new : Index) → IsLog rs → IsNext rs r.body
+    → new.sinces.greatest ≡ max (greatest_number rs) (number_of r.body)
+    → ((d : ℕ) → made_in_table new.sinces d ≡ first_of (made_by_records d rs) (makes_dir d (made_of r.body)) (greatest_number rs))
     → ((s : ℕ) → get nat_eq new.dirs s ≡ either (dir_of s rs) (dir_in s r.body None))
     → ((s : ℕ) → contains nat_eq new.removed s ≡ (is_removed s rs || is_removal s r.body))
     → ((d : ℕ) (name : List ℕ) → name_in new.names d name ≡ named_then d name r.body (last_named d name rs))
+    → ((d : ℕ) → has_names new.names d ≡ (list_any (λ x. is_snap_of d x.body) rs || is_snap_of d r.body))
     → ((f : ℕ) → flushed_in new.flushes f ≡ flushed_then f (length rs) (flush_in r.body) (flushed f rs))
+    → new.requests.last ≡ max (greatest_request rs) (request_tid r.body)
+    → ((t : ℕ) → answered_in new.requests t ≡ either (answered_from t 0 rs) (answered_at t (length rs) r.body None))
     → IsIndexed (rs ++ r ∷ []) new
-indexed_more rs r t new i next number dirs removed names flushes = record {
-  log = log_append [] rs r i.log next;
+indexed_more rs r new log next number made dirs removed names realms flushes last requests = record {
+  log = log_append [] rs r log next;
   number = number ∙ sym (greatest_append rs r);
+  made = λ d.
+      made d
+      ∙ (ap (first_of (made_by_records d rs) (makes_dir d (made_of r.body))) (let same : greatest_number rs ≡ max 0 (greatest_number rs) = omega arith in same)
+      ∙ sym (made_append d 0 rs r));
   dirs = λ s. dirs s ∙ sym (dir_append s rs r);
   removed = λ s. removed s ∙ sym (removed_append s rs r);
   names = λ d name. names d name ∙ sym (named_append d name rs r);
+  realms = λ d. realms d ∙ sym (had_one_append d rs r);
   flushes = λ f. flushes f ∙ sym (flushed_append f rs r);
+  last = last ∙ sym (request_append rs r);
+  requests = λ t.
+      requests t
+      ∙ (ap (λ k. either (answered_from t 0 rs) (answered_at t k r.body None)) (let same : length rs ≡ 0 + length rs = omega arith in same)
+      ∙ sym (answered_append t 0 rs r));
 }
 
-pub kept_request : (rs : List Record) (tid : ℕ) (op : ReqOp) (answer : OpAnswer) (t : Index) → IsIndexed rs t
-    → IsIndexed (rs ++ record { body = bodies.Request tid op answer } ∷ []) t
-kept_request rs tid op answer t i =
-    indexed_more rs (record { body = bodies.Request tid op answer }) t t i tt (omega (arith, i.number))
+pub kept_request : (rs : List Record) (tid : ℕ) (op : ReqOp) (answer : OpAnswer) (t : Index) (requests : Requests) (sinces : Sinces) → IsIndexed rs t
+    → greatest_request rs < tid → requests.last ≡ tid
+    → ((k : ℕ) → answered_in requests k ≡ cond (tid == k) (Some (record { place = length rs; answer = answer })) (answered_in t.requests k))
+    → sinces.greatest ≡ t.sinces.greatest
+    → ((d : ℕ) → made_in_table sinces d ≡ first_of (made_in_table t.sinces d) (makes_dir d (made_by (Some op) answer)) t.sinces.greatest)
+    → IsIndexed (rs ++ record { body = bodies.Request tid op answer } ∷ []) (record t { requests = requests; sinces = sinces })
+kept_request rs tid op answer t requests sinces i next last answered greatest made =
+    indexed_more rs (record { body = bodies.Request tid op answer }) (record t { requests = requests; sinces = sinces }) i.log next
+    (omega (arith, greatest, i.number))
+    (λ d. made d ∙ (λ j. first_of (i.made d j) (makes_dir d (made_by (Some op) answer)) (i.number j)))
     (λ s. i.dirs s ∙ sym (either_none (dir_of s rs)))
     (λ s. i.removed s ∙ sym (or_false (is_removed s rs)))
-    i.names i.flushes
+    i.names
+    (λ d. i.realms d ∙ sym (or_false (list_any (λ x. is_snap_of d x.body) rs)))
+    i.flushes
+    (omega (arith, last, next))
+    (λ k. answered k ∙ (ap (λ o. cond (tid == k) (Some here) o) (i.requests k) ∙ at k (tid == k) refl (answered_from k 0 rs) refl))
+  where
+    here : Answered
+    here = record { place = length rs; answer = answer }
 
-pub kept_flush : (rs : List Record) (snap : Bool) (f tid follows : ℕ) (meta : FileMeta) (t new : Index) → IsIndexed rs t → greatest_tid f rs < tid
-    → new.greatest ≡ t.greatest → new.dirs ≡ t.dirs → new.removed ≡ t.removed → new.names ≡ t.names
-    → ((g : ℕ) → flushed_in new.flushes g ≡ cond (f == g) (with_flushed tid (length rs) follows meta (flushed_in t.flushes g)) (flushed_in t.flushes g))
-    → IsIndexed (rs ++ record { body = bodies.Flush snap f tid follows meta } ∷ []) new
-kept_flush rs snap f tid follows meta t new i next number dirs removed names flushes =
-    indexed_more rs (record { body = bodies.Flush snap f tid follows meta }) t new i next (omega (arith, number, i.number))
-    (λ s. ap (λ d. get nat_eq d s) dirs ∙ (i.dirs s ∙ sym (either_none (dir_of s rs))))
-    (λ s. ap (λ d. contains nat_eq d s) removed ∙ (i.removed s ∙ sym (or_false (is_removed s rs))))
-    (λ d name. ap (λ n. name_in n d name) names ∙ i.names d name)
-    (λ g. flushes g ∙ ap (λ s. cond (f == g) (with_flushed tid (length rs) follows meta s) s) (i.flushes g))
+    at : (k : ℕ) (c : Bool) → (tid == k) ≡ c → (o : Option Answered) → answered_from k 0 rs ≡ o → cond c (Some here) o ≡ either o (cond c (Some here) None)
+    at k true p None q = refl
+    at k true p (Some y) q = absurd (let fresh = no_request k 0 rs (let same = eqb-true tid k p in omega (arith, next)) in cc)
+    at k false p o q = sym (either_none o)
+
+pub kept_flush : (rs : List Record) (snap : Bool) (f tid follows : ℕ) (meta : FileMeta) (t : Index) (flushes : Flushes) → IsIndexed rs t
+    → greatest_tid f rs < tid
+    → ((g : ℕ) → flushed_in flushes g ≡ cond (f == g) (with_flushed tid (length rs) follows meta (flushed_in t.flushes g)) (flushed_in t.flushes g))
+    → IsIndexed (rs ++ record { body = bodies.Flush snap f tid follows meta } ∷ []) (record t { flushes = flushes })
+kept_flush rs snap f tid follows meta t flushes i next flushed =
+    indexed_more rs (record { body = bodies.Flush snap f tid follows meta }) (record t { flushes = flushes }) i.log next
+    (omega (arith, i.number))
+    (λ d. i.made d ∙ sym (first_none (made_by_records d rs) (greatest_number rs)))
+    (λ s. i.dirs s ∙ sym (either_none (dir_of s rs)))
+    (λ s. i.removed s ∙ sym (or_false (is_removed s rs)))
+    i.names
+    (λ d. i.realms d ∙ sym (or_false (list_any (λ x. is_snap_of d x.body) rs)))
+    (λ g. flushed g ∙ ap (λ s. cond (f == g) (with_flushed tid (length rs) follows meta s) s) (i.flushes g))
+    (omega (arith, i.last))
+    (λ k. i.requests k ∙ sym (either_none (answered_from k 0 rs)))
 
 pub kept_snap : (rs : List Record) (n e : ℕ) (name : List ℕ) (t new : Index) → IsIndexed rs t → IsNextSnap rs n e name
-    → new.greatest ≡ n → ((s : ℕ) → get nat_eq new.dirs s ≡ cond (n == s) (Some e) (get nat_eq t.dirs s)) → new.removed ≡ t.removed
+    → new.sinces.greatest ≡ max t.sinces.greatest n → new.sinces.made ≡ t.sinces.made
+    → ((s : ℕ) → get nat_eq new.dirs s ≡ cond (n == s) (Some e) (get nat_eq t.dirs s))
     → ((d : ℕ) (other : List ℕ) → name_in new.names d other ≡ cond ((e == d) && bytes_eq other name) (Some n) (name_in t.names d other))
-    → new.flushes ≡ t.flushes
+    → ((d : ℕ) → has_names new.names d ≡ (has_names t.names d || (e == d)))
+    → new.removed ≡ t.removed → new.flushes ≡ t.flushes → new.requests ≡ t.requests
     → IsIndexed (rs ++ record { body = bodies.Snap n e name } ∷ []) new
-kept_snap rs n e name t new i next number dirs removed names flushes =
-    let drawn = next.next in
-    indexed_more rs (record { body = bodies.Snap n e name }) t new i next (omega (arith, number))
-    (λ s. dirs s ∙ (ap (λ o. cond (n == s) (Some e) o) (i.dirs s) ∙ at s (n == s) refl (dir_of s rs) refl))
-    (λ s. ap (λ d. contains nat_eq d s) removed ∙ (i.removed s ∙ sym (or_false (is_removed s rs))))
-    (λ d other. names d other ∙ ap (λ o. cond ((e == d) && bytes_eq other name) (Some n) o) (i.names d other))
+kept_snap rs n e name t new i next greatest made entered named realms removed flushes requests =
+    indexed_more rs (record { body = bodies.Snap n e name }) new i.log next
+    (omega (arith, greatest, i.number))
+    (λ d. ap (λ m. map_get nat_cmp m d) made ∙ (i.made d ∙ sym (first_none (made_by_records d rs) (greatest_number rs))))
+    (λ s. entered s ∙ (ap (λ o. cond (n == s) (Some e) o) (i.dirs s) ∙ at s (n == s) refl (dir_of s rs) refl))
+    (λ s. ap (λ x. contains nat_eq x s) removed ∙ (i.removed s ∙ sym (or_false (is_removed s rs))))
+    (λ d other. named d other ∙ ap (λ o. cond ((e == d) && bytes_eq other name) (Some n) o) (i.names d other))
+    (λ d. realms d ∙ ap (λ b. b || (e == d)) (i.realms d))
     (λ f. ap (λ x. flushed_in x f) flushes ∙ i.flushes f)
+    (ap (λ (x : Requests). x.last) requests ∙ (i.last ∙ omega arith))
+    (λ k. ap (λ x. answered_in x k) requests ∙ (i.requests k ∙ sym (either_none (answered_from k 0 rs))))
   where
     at : (s : ℕ) (c : Bool) → (n == s) ≡ c → (o : Option ℕ) → dir_of s rs ≡ o → cond c (Some e) o ≡ either o (cond c (Some e) None)
     at s true p None q = refl
@@ -132,21 +185,33 @@ kept_snap rs n e name t new i next number dirs removed names flushes =
     at s false p o q = sym (either_none o)
 
 pub kept_removal : (rs : List Record) (u n : ℕ) (t new : Index) → IsIndexed rs t → IsNextRemoval rs u n
-    → new.greatest ≡ n → new.dirs ≡ t.dirs → ((s : ℕ) → contains nat_eq new.removed s ≡ cond (u == s) true (contains nat_eq t.removed s))
-    → new.names ≡ t.names → new.flushes ≡ t.flushes
+    → new.sinces.greatest ≡ max t.sinces.greatest n → new.sinces.made ≡ t.sinces.made
+    → ((s : ℕ) → contains nat_eq new.removed s ≡ cond (u == s) true (contains nat_eq t.removed s))
+    → new.dirs ≡ t.dirs → new.names ≡ t.names → new.flushes ≡ t.flushes → new.requests ≡ t.requests
     → IsIndexed (rs ++ record { body = bodies.Removal u n } ∷ []) new
-kept_removal rs u n t new i next number dirs removed names flushes =
-    let drawn = next.next in
-    indexed_more rs (record { body = bodies.Removal u n }) t new i next (omega (arith, number))
-    (λ s. ap (λ d. get nat_eq d s) dirs ∙ (i.dirs s ∙ sym (either_none (dir_of s rs))))
-    (λ s. removed s ∙ (ap (λ b. cond (u == s) true b) (i.removed s) ∙ at (u == s) (is_removed s rs)))
+kept_removal rs u n t new i next greatest made entered dirs names flushes requests =
+    indexed_more rs (record { body = bodies.Removal u n }) new i.log next
+    (omega (arith, greatest, i.number))
+    (λ d. ap (λ m. map_get nat_cmp m d) made ∙ (i.made d ∙ sym (first_none (made_by_records d rs) (greatest_number rs))))
+    (λ s. ap (λ x. get nat_eq x s) dirs ∙ (i.dirs s ∙ sym (either_none (dir_of s rs))))
+    (λ s. entered s ∙ (ap (λ b. cond (u == s) true b) (i.removed s) ∙ at (u == s) (is_removed s rs)))
     (λ d name. ap (λ x. name_in x d name) names ∙ i.names d name)
+    (λ d. ap (λ x. has_names x d) names ∙ (i.realms d ∙ sym (or_false (list_any (λ x. is_snap_of d x.body) rs))))
     (λ f. ap (λ x. flushed_in x f) flushes ∙ i.flushes f)
+    (ap (λ (x : Requests). x.last) requests ∙ (i.last ∙ omega arith))
+    (λ k. ap (λ x. answered_in x k) requests ∙ (i.requests k ∙ sym (either_none (answered_from k 0 rs))))
   where
     at : (c b : Bool) → cond c true b ≡ (b || c)
     at true true = refl
     at true false = refl
     at false b = sym (or_false b)
+
+-- what keeps a snapshot from what lies below a directory
+pub passes_now : (rs : List Record) (t : Index) (s d : ℕ) → IsIndexed rs t
+    → (not ((d == 1) || has_names t.names d) || nat_le (since_in t.sinces d) s) ≡ passes s rs d
+passes_now rs t s d i =
+    let since = ap (λ o. unwrap_or o 1) (i.made d) ∙ sym (since_made d 0 rs) in
+    (λ j. not ((d == 1) || i.realms d j) || nat_le (since j) s)
 
 -- those that are durable stay so
 pub settled_more : (rs : List Record) (r : Record) (d : ℕ) (t : OwnTable) (sinces : Sinces) → AreSettled rs d t sinces → AreSettled (rs ++ r ∷ []) d t sinces

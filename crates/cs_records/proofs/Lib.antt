@@ -8,6 +8,7 @@ pub mod Named
 pub mod RecordedAt
 pub mod RecordedPlaces
 pub mod RecordedSteps
+pub mod RequestPlaces
 pub mod Settling
 pub mod Tables
 pub mod Telling

@@ -35,7 +35,7 @@ pub either_none : {X : Type 0} (o : Option X) → either o None ≡ o
 either_none (Some x) = refl
 either_none None = refl
 
-either_cond : {X : Type 0} (c : Bool) (x : X) (o z : Option X) → cond c (Some x) (either o z) ≡ either (cond c (Some x) o) z
+pub either_cond : {X : Type 0} (c : Bool) (x : X) (o z : Option X) → cond c (Some x) (either o z) ≡ either (cond c (Some x) o) z
 either_cond true x o z = refl
 either_cond false x o z = refl
 
@@ -139,6 +139,11 @@ made_append d n (x ∷ rs) r = at (makes_dir d (made_of x.body)) (made_append d 
     at false rest =
         rest ∙ ap (first_of (made_from d (max n (number_of x.body)) rs) (makes_dir d (made_of r.body)))
         (let same : max (max n (number_of x.body)) (greatest_number rs) ≡ max n (max (number_of x.body) (greatest_number rs)) = omega arith in same)
+
+-- a record that makes nothing
+pub first_none : (o : Option ℕ) (n : ℕ) → first_of o false n ≡ o
+first_none (Some s) n = refl
+first_none None n = refl
 
 pub since_made : (d n : ℕ) (rs : List Record) → since_from d n rs ≡ unwrap_or (made_from d n rs) 1
 since_made d n [] = refl

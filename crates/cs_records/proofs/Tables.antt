@@ -1,5 +1,5 @@
 -- Tables in which one entry was put.
-use Rattle.std.proofs.Common.{◌≡◌, ℕ, ◌==◌, ◌&&◌, Bool, true, false, cond, List, [], ◌∷◌, Option, Some, refl, sym, ◌∙◌, ap, arith, Vec}
+use Rattle.std.proofs.Common.{◌≡◌, ℕ, ◌==◌, ◌&&◌, ◌||◌, Bool, true, false, cond, List, [], ◌∷◌, Option, Some, None, is_le, is_some, nat_le, refl, sym, ◌∙◌, ap, arith, Vec}
 use Rattle.std.proofs.lemmas.Bool.{eqb-true}
 use Rattle.std.proofs.lemmas.Bool.Decides.{nat_tests}
 use Rattle.std.proofs.lemmas.Slice.Eq.{bytes_eq-Decides}
@@ -14,9 +14,13 @@ use Rattle.cs_records.specs.Flushed.{Flushed, none_flushed}
 use Rattle.cs_records.specs.declared.names.NameTable.{NameTable}
 use Rattle.cs_records.specs.Names.{last_in}
 use Rattle.cs_records.proofs.Lists.{by_cond, exchange}
+use Rattle.cs_records.proofs.Logs.{or_false}
 
 same_test : (a b : ℕ) → is_eq (nat_cmp a b) ≡ (a == b)
 same_test a b = grind (arith, nat_tests)
+
+pub low_test : (a b : ℕ) → is_le (nat_cmp a b) ≡ nat_le a b
+low_test a b = grind (arith, nat_tests)
 
 pub put : {X : Type 0} (m n : BTreeMap ℕ X) (k : ℕ) (w : X) → UpdatesBy nat_cmp (nat_cmp k) m n (Some w) → (d : ℕ)
     → get nat_cmp n d ≡ cond (k == d) (Some w) (get nat_cmp m d)
@@ -29,6 +33,26 @@ put_same m n k v w is same h d =
     put m n k w h d
     ∙ by_cond (λ (o : Option _). o ≡ get nat_cmp m d) (k == d) (Some w) (get nat_cmp m d) (λ e. ap Some same
     ∙ (is ∙ ap (λ q. get nat_cmp m q) (eqb-true k d e))) (λ e. refl)
+
+-- what has an entry
+pub stands_with : {X : Type 0} (m n : BTreeMap ℕ X) (k : ℕ) (w : X) → UpdatesBy nat_cmp (nat_cmp k) m n (Some w) → (d : ℕ)
+    → is_some (get nat_cmp n d) ≡ (is_some (get nat_cmp m d) || (k == d))
+stands_with m n k w h d = ap is_some (put m n k w h d) ∙ at (k == d) (get nat_cmp m d)
+  where
+    at : (c : Bool) (o : Option _) → is_some (cond c (Some w) o) ≡ (is_some o || c)
+    at true (Some x) = refl
+    at true None = refl
+    at false o = sym (or_false (is_some o))
+
+pub stands_same : {X : Type 0} (m n : BTreeMap ℕ X) (k : ℕ) (v w : X) → Some v ≡ get nat_cmp m k → UpdatesBy nat_cmp (nat_cmp k) m n (Some w) → (d : ℕ)
+    → is_some (get nat_cmp n d) ≡ is_some (get nat_cmp m d)
+stands_same m n k v w is h d = stands_with m n k w h d ∙ at (k == d) refl
+  where
+    at : (c : Bool) → (k == d) ≡ c → (is_some (get nat_cmp m d) || c) ≡ is_some (get nat_cmp m d)
+    at true e =
+        let there : is_some (get nat_cmp m d) ≡ true = ap (λ q. is_some (get nat_cmp m q)) (sym (eqb-true k d e)) ∙ ap is_some (sym is) in
+        ap (λ b. b || true) there ∙ sym there
+    at false e = or_false (is_some (get nat_cmp m d))
 
 -- the flushes of one file are put
 pub put_flushed : (m n : BTreeMap ℕ Flushed) (k : ℕ) (w : Flushed) (g : Flushed → Flushed) → UpdatesBy nat_cmp (nat_cmp k) m n (Some w)

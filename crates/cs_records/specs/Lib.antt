@@ -11,4 +11,5 @@ pub mod OwnTable
 pub mod Places
 pub mod Recorded
 pub mod Records
+pub mod Requests
 pub mod Sinces

@@ -3,7 +3,7 @@ use Rattle.std.specs.Prelude.{◌≡◌, ℕ, ◌+◌, ◌<◌, true, false, Lis
 use Rattle.cs_laws.specs.declared.records.Record.{Record}
 use Rattle.cs_laws.specs.declared.records.RecordBody.{RecordBody}
 use Rattle.cs_laws.specs.declared.records.RecordBody.TheVariants as bodies
-use Rattle.cs_laws.specs.Standing.{greatest_number, greatest_tid, has_snap, has_snap_named, is_removed}
+use Rattle.cs_laws.specs.Standing.{greatest_number, greatest_request, greatest_tid, has_snap, has_snap_named, is_removed}
 
 -- it draws the next number, and no unremoved snapshot of the directory has the name
 pub record IsNextSnap (before : List Record) (number d : ℕ) (name : List ℕ) : Type 0 where
@@ -18,9 +18,9 @@ pub record IsNextRemoval (before : List Record) (s number : ℕ) : Type 0 where
   pub stands : has_snap s before ≡ true
   pub unremoved : is_removed s before ≡ false
 
--- a flush has a greater number than each one of its file before it
+-- a request has a greater number than each one before it, and a flush than each one of its file
 abbrev pub IsNext : List Record → RecordBody → Type 0
-IsNext before (bodies.Request tid op answer) = Unit {0}
+IsNext before (bodies.Request tid op answer) = greatest_request before < tid
 IsNext before (bodies.Flush snap f tid follows meta) = greatest_tid f before < tid
 IsNext before (bodies.Snap number d name) = IsNextSnap before number d name
 IsNext before (bodies.Removal s number) = IsNextRemoval before s number

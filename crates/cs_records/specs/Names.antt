@@ -1,5 +1,5 @@
 -- Which snapshot has a name.
-use Rattle.std.specs.Prelude.{ℕ, ◌==◌, ◌&&◌, List, [], ◌∷◌, Option, Some, None, if◌then◌else◌}
+use Rattle.std.specs.Prelude.{ℕ, ◌==◌, ◌&&◌, Bool, List, [], ◌∷◌, Option, Some, None, is_some, if◌then◌else◌}
 use Rattle.std.specs.Option.{option_and_then}
 use Rattle.std.specs.Str.{bytes_eq}
 use Rattle.std.specs.BTreeMap.{get}
@@ -17,6 +17,10 @@ last_in table name = get_by (λ k. bytes_eq name k.items) table.last
 -- the number of the last snapshot of a directory that has the name
 abbrev pub name_in : Names → ℕ → List ℕ → Option ℕ
 name_in names d name = option_and_then (λ table. last_in table name) (get nat_cmp names.tables d)
+
+-- a snapshot of the directory was taken
+abbrev pub has_names : Names → ℕ → Bool
+has_names names d = is_some (get nat_cmp names.tables d)
 
 abbrev pub named_then : ℕ → List ℕ → RecordBody → Option ℕ → Option ℕ
 named_then d name (bodies.Snap number e other) was = if (e == d) && bytes_eq name other then Some number else was

@@ -10,6 +10,7 @@ mod own_snaps;
 mod own_table;
 mod recorded;
 mod records;
+mod requests;
 mod sinces;
 
 pub use laws::{

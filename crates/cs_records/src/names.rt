@@ -1,7 +1,7 @@
 // The names of snapshots.
-ghost use Rattle.std.specs.Prelude.{◌≡◌, ◌==◌, ◌&&◌, ℕ, List, None, Some, if◌then◌else◌, OnOk, OnErr};
+ghost use Rattle.std.specs.Prelude.{◌≡◌, ◌==◌, ◌&&◌, ◌||◌, ℕ, List, None, Some, false, if◌then◌else◌, OnOk, OnErr};
 ghost use Rattle.std.specs.Str.{bytes_eq};
-ghost use Rattle.cs_records.specs.Names.{last_in, name_in};
+ghost use Rattle.cs_records.specs.Names.{has_names, last_in, name_in};
 
 use cs_ids::{Ino, Memory, Name, Snap};
 use indexmap::IndexMap;
@@ -53,7 +53,8 @@ pub struct Names {
 impl Names {
     // No names. It takes no memory.
     pub fn new(alloc: Global) -> Self
-        ensures { (d : ℕ) (name : List ℕ) → name_in result d name ≡ None }
+        ensures names { (d : ℕ) (name : List ℕ) → name_in result d name ≡ None }
+        ensures dirs { (d : ℕ) → has_names result d ≡ false }
     {
         Names {
             alloc,
@@ -68,10 +69,19 @@ impl Names {
         self.tables.get(&dir)?.last(name)
     }
 
+    // Whether a snapshot of a directory was taken.
+    pub fn has(&self, dir: Ino) -> bool
+        ensures { result ≡ has_names self.now dir }
+    {
+        self.tables.contains_key(&dir)
+    }
+
     // Takes a snapshot as the last one of its name. After `Memory` all names are as before.
     pub fn add(&mut self, dir: Ino, name: &Name, number: Snap) -> Result<(), Memory>
         ensures ok { OnOk result ((d : ℕ) (other : List ℕ) → name_in self.new d other ≡ (if (dir == d) && bytes_eq other name.now then Some number else name_in self.old d other)) }
         ensures err { OnErr result ((d : ℕ) (other : List ℕ) → name_in self.new d other ≡ name_in self.old d other) }
+        ensures dirs { OnOk result ((d : ℕ) → has_names self.new d ≡ (has_names self.old d || (dir == d))) }
+        ensures kept_dirs { OnErr result ((d : ℕ) → has_names self.new d ≡ has_names self.old d) }
     {
         let key = Vec::from_slice(self.alloc, name.as_slice())?;
         match self.tables.get_mut(&dir) {

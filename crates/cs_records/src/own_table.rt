@@ -15,7 +15,7 @@ use std::alloc::Global;
 use std::collections::BTreeMap;
 
 // The inode of the root directory, which is a realm from the start.
-const ROOT: u64 = 1;
+pub const ROOT: u64 = 1;
 
 // The realms that have had a snapshot of their own.
 #[derive(Drop)]

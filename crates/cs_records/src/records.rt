@@ -1,7 +1,8 @@
 // The records of the server's log, after the CephFS documentation of the metadata server's journal.
 ghost use Rattle.std.specs.Prelude.{max, ◌≡◌, ◌++◌, ◌∷◌, ◌+◌, ◌<◌, if◌then◌else◌, [], ℕ, nat_eq, nat_lt, length, take, drop, true, false, OnOk, OnErr, IfOk};
+ghost use Rattle.cs_laws.specs.Covering.{covers_along, passes};
 ghost use Rattle.cs_laws.specs.Metadata.{meta_at};
-ghost use Rattle.cs_laws.specs.Standing.{dir_of, greatest_number, greatest_tid, has_flush, has_snap, has_snap_named, is_removed};
+ghost use Rattle.cs_laws.specs.Standing.{answer_kept, dir_of, greatest_number, greatest_request, greatest_tid, has_flush, has_request, has_snap, has_snap_named, is_removed};
 ghost use Rattle.cs_tree.specs.Directories.{inos, path_of};
 ghost use Rattle.cs_records.specs.CommitNews.{commit_news};
 ghost use Rattle.cs_records.specs.Log.{IsLog, IsNext};
@@ -16,7 +17,7 @@ use crate::index::Index;
 use crate::own_table::OwnTable;
 use crate::sinces::Sinces;
 use cs_ids::{FileMeta, Ino, Memory, Name, Snap, Tid};
-use cs_laws::{At, Message, MessageList, OpAnswer, Record, RecordBody, ReqOp};
+use cs_laws::{At, Message, MessageList, OpAnswer, Record, RecordBody};
 use cs_tree::{Directories, Directory};
 use indexmap::IndexMap;
 use std::alloc::Global;
@@ -120,7 +121,7 @@ impl Records {
     pub fn has_room(&self) -> bool
         ensures { result ≡ nat_lt (greatest_number (all self.now)) 99998 }
     {
-        self.index.greatest < MOST_NUMBERS
+        self.index.sinces.greatest < MOST_NUMBERS
     }
 
     /// The number that the next snapshot or removal draws: one more than the greatest so far. It takes
@@ -129,7 +130,7 @@ impl Records {
         requires { greatest_number (all self.now) < 99998 }
         ensures { result ≡ greatest_number (all self.now) + 1 }
     {
-        Snap::after(self.index.greatest)
+        Snap::after(self.index.sinces.greatest)
     }
 
     /// The number of a file's last flush, which is the greatest, or 0 where there is none. It takes no
@@ -157,6 +158,57 @@ impl Records {
         ensures { result ≡ meta_at file at (all self.now) }
     {
         self.index.flushes.meta(file, at)
+    }
+
+    /// The number of the last request, which is the greatest, or 0 where there is none. It takes no
+    /// memory.
+    pub fn last_request(&self) -> u64
+        ensures { result ≡ greatest_request (all self.now) }
+    {
+        self.index.requests.last
+    }
+
+    /// The answer to the request of this number, or None exactly where none was recorded. It takes no
+    /// memory.
+    pub fn request_answer(&self, tid: Tid) -> Option<OpAnswer>
+        ensures { result ≡ answer_kept tid (all self.now) }
+    {
+        self.index.requests.answer(tid)
+    }
+
+    /// Whether the request of this number is durable. It takes no memory.
+    pub fn is_request_durable(&self, tid: Tid) -> bool
+        ensures { result ≡ has_request tid self.now.durable }
+    {
+        match self.index.requests.place(tid) {
+            Some(at) => at < self.durable,
+            None => false,
+        }
+    }
+
+    /// Whether a snapshot of a directory covers the files in a directory with this path, which is that
+    /// directory itself and those above it, the nearest first. By all records, be they durable or not:
+    /// a realm on the way that was made behind the snapshot keeps it from what lies below. It takes no
+    /// memory.
+    pub fn covers(&self, snap: Snap, dir: Ino, path: &[Ino]) -> bool
+        ensures { result ≡ covers_along snap dir (all self.now) path.now }
+    {
+        for above in path {
+            if *above == dir {
+                return true;
+            }
+            if !self.passes(snap, *above) {
+                return false;
+            }
+        }
+        false
+    }
+
+    // Whether a directory lets a snapshot of one above it cover what lies below.
+    fn passes(&self, snap: Snap, dir: Ino) -> bool
+        ensures { result ≡ passes snap (all self.now) dir }
+    {
+        !self.index.is_realm(dir) || self.index.sinces.of(dir) <= snap
     }
 
     /// Records one more record, which may follow those before it. It isn't durable yet. After `Memory`
@@ -272,12 +324,8 @@ fn change_realm(
     ensures err { OnErr result ((d : ℕ) → own_in realms.new d ≡ own_in realms.old d) }
 {
     match body {
-        RecordBody::Request {
-            op: ReqOp::Mkdir { .. },
-            answer: OpAnswer::Made(dir),
-            ..
-        } => sinces.make(*dir),
-        RecordBody::Request { .. } | RecordBody::Flush { .. } => Ok(()),
+        RecordBody::Request { op, answer, .. } => sinces.answer(op, answer),
+        RecordBody::Flush { .. } => Ok(()),
         RecordBody::Snap { number, dir, .. } => {
             realms.add(*dir, *number)?;
             sinces.draw(*number);

@@ -1,8 +1,10 @@
 // From which number on the snapshots of realms above cover a directory.
-ghost use Rattle.std.specs.Prelude.{◌≡◌, ◌+◌, ◌<◌, ℕ, None, max, OnOk, OnErr};
-ghost use Rattle.cs_records.specs.Sinces.{made_in_table, since_in, with_directory};
+ghost use Rattle.std.specs.Prelude.{◌≡◌, ◌+◌, ◌<◌, ℕ, None, Some, max, OnOk, OnErr};
+ghost use Rattle.cs_laws.specs.Made.{made_by, makes_dir};
+ghost use Rattle.cs_records.specs.Sinces.{first_of, made_in_table, since_in, with_directory};
 
 use cs_ids::{Ino, Memory, Snap};
+use cs_laws::{OpAnswer, ReqOp};
 use std::alloc::Global;
 use std::collections::BTreeMap;
 
@@ -56,5 +58,18 @@ impl Sinces {
             self.made.insert(dir, Snap::after(self.greatest))?;
         }
         Ok(())
+    }
+
+    // A request was answered, which may have made a directory. After `Memory` all is as before.
+    pub fn answer(&mut self, op: &ReqOp, answer: &OpAnswer) -> Result<(), Memory>
+        requires { self.old.greatest < 99999 }
+        ensures greatest { self.new.greatest ≡ self.old.greatest }
+        ensures ok { OnOk result ((d : ℕ) → made_in_table self.new d ≡ first_of (made_in_table self.old d) (makes_dir d (made_by (Some op.now) answer.now)) self.old.greatest) }
+        ensures err { OnErr result ((d : ℕ) → made_in_table self.new d ≡ made_in_table self.old d) }
+    {
+        match (op, answer) {
+            (ReqOp::Mkdir { .. }, OpAnswer::Made(dir)) => self.make(*dir),
+            _ => Ok(()),
+        }
     }
 }

@@ -1,11 +1,11 @@
-use Rattle.std.proofs.Common.{◌==◌, ◌&&◌, ◌∙◌, Some, cond, sym, ap, rules}
+use Rattle.std.proofs.Common.{◌==◌, ◌&&◌, ◌||◌, ◌∙◌, Some, is_some, cond, sym, ap, rules}
 use Rattle.std.specs.BTreeMap.{get}
 use Rattle.std.specs.Option.{option_and_then}
 use Rattle.std.specs.Ordering.{nat_cmp}
 use Rattle.std.specs.Str.{bytes_eq}
 use Rattle.cs_records.specs.Names.{last_in}
 use Rattle.cs_records.proofs.Lists.{any_err}
-use Rattle.cs_records.proofs.Tables.{named, named_same}
+use Rattle.cs_records.proofs.Tables.{named, named_same, stands_same, stands_with}
 use Rattle.cs_records.proofs.names.Names.add.Goals as goal
 
 pub returns-in_err-put-in-Some-clause-err : goal.returns-in_err-put-in-Some-clause-err
@@ -13,6 +13,17 @@ returns-in_err-put-in-Some-clause-err c =
     any_err c.from_residual-in_err-put-in-Some.result
     (named_same c.args.self.now.tables (c.get_mut.follows.lender c.put.new.self) c.args.dir c.in-Some.table.now c.put.new.self c.in-Some.ensures.value
     ((c.get_mut.follows.holds c.put.new.self).3 (search rules)) c.in_err-put-in-Some.ensures.err)
+
+pub returns-in_err-put-in-Some-clause-kept_dirs : goal.returns-in_err-put-in-Some-clause-kept_dirs
+returns-in_err-put-in-Some-clause-kept_dirs c =
+    any_err c.from_residual-in_err-put-in-Some.result
+    (stands_same c.args.self.now.tables (c.get_mut.follows.lender c.put.new.self) c.args.dir c.in-Some.table.now c.put.new.self c.in-Some.ensures.value
+    ((c.get_mut.follows.holds c.put.new.self).3 (search rules)))
+
+pub returns-in_ok-insert-in-None-clause-dirs : goal.returns-in_ok-insert-in-None-clause-dirs
+returns-in_ok-insert-in-None-clause-dirs c = λ d.
+    stands_with c.get_mut.follows.lender-at-none c.insert.new.self c.args.dir c.put-in-None.new.self c.in_ok-insert-in-None.ensures.updates d
+    ∙ (λ i. is_some (get nat_cmp (c.get_mut.follows.holds-at-none i) d) || (c.args.dir == d))
 
 pub returns-in_ok-insert-in-None-clause-ok : goal.returns-in_ok-insert-in-None-clause-ok
 returns-in_ok-insert-in-None-clause-ok c =
