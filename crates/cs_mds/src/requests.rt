@@ -70,7 +70,7 @@ pub fn request_in<L: MdsLog>(
     ensures quiet { calls_log events.ToMds (answer_requested (all records.old) names.old tid op.now) ≡ false → log.new ≡ log.old }
     ensures unstored { IsErrOf result StepFault.Store → ⊥ }
 {
-    if tid.get() <= records.len() as u64 {
+    if tid.get() <= records.last_request() {
         return Ok(answer_again(records, tid, out)?);
     }
     Ok(do_request(
@@ -174,7 +174,7 @@ fn perform(
 {
     enter_made(tree, homes, op, &answer)?;
     names.apply(op, carried)?;
-    out.push(unsafe_message(tid, &answer))?;
+    out.push(unsafe_message(tid, &answer, lease_given(&answer)))?;
     Ok(Answer::Req { tid, answer })
 }
 
@@ -213,26 +213,22 @@ fn answer_again(records: &Records, tid: Tid, out: &mut MessageList) -> Result<An
     ensures answer { IfOk result (λ a. a ≡ answers.ReqDup tid (unwrap_or (answer_kept tid (all records.now)) replies.Missing)) }
     ensures sent { OnOk result (out.new ≡ out.old ++ answered_again tid (unwrap_or (answer_kept tid (all records.now)) replies.Missing) records.now.durable) }
 {
-    let answer = OpAnswer::Missing;
-    out.push(Message::Unsafe {
-        tid,
-        answer,
-        ttl: 0,
-    })?;
-    if records.len() == 0 {
+    let answer = records.request_answer(tid).unwrap_or(OpAnswer::Missing);
+    out.push(unsafe_message(tid, &answer, 0))?;
+    if records.is_request_durable(tid) {
         out.push(Message::Safe { tid })?;
     }
     Ok(Answer::ReqDup { tid, answer })
 }
 
-// The first answer to a request, with a lease on the entry that it tells of.
-fn unsafe_message(tid: Tid, answer: &OpAnswer) -> Message
-    ensures { result ≡ unsafe_message tid answer.now }
+// The answer to a request, with a lease of so many seconds.
+fn unsafe_message(tid: Tid, answer: &OpAnswer, ttl: u32) -> Message
+    ensures { result ≡ messages.Unsafe tid answer.now ttl }
 {
     Message::Unsafe {
         tid,
         answer: *answer,
-        ttl: lease_given(answer),
+        ttl,
     }
 }
 

@@ -49,7 +49,7 @@ fn is_covered(records: &Records, tree: &Directories, snap: Snap, dir: Ino, home:
     ensures { result ≡ covers_along snap dir (all records.now) (path_of tree.now home) }
 {
     match tree.path(home) {
-        Some(path) => path.contains(&dir) && records.has_snap(snap),
+        Some(path) => records.covers(snap, dir, path),
         None => unreachable!(),
     }
 }
