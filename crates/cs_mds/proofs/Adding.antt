@@ -4,7 +4,7 @@ use Rattle.std.proofs.lemmas.List.Elements.{All-append}
 use Rattle.cs_laws.specs.declared.records.Record.{Record}
 use Rattle.cs_laws.specs.Spellings.{record_spelled}
 use Rattle.cs_records.specs.Log.{IsLogAfter, IsNext}
-use Rattle.cs_mds.specs.Views.{AreRecords}
+use Rattle.cs_mds.specs.Views.{AreRecords, KeepsRecords}
 
 pub log_add : (before xs : List Record) (r : Record) → IsLogAfter before xs → IsNext (before ++ xs) r.body → IsLogAfter before (xs ++ r ∷ [])
 log_add before [] r is next = (subst (λ rs. IsNext rs r.body) (append-nil before) next, tt)
@@ -17,7 +17,17 @@ added rs r next spelled are = record {
   spelled = All-append (λ x. record_spelled x ≡ true) rs (r ∷ []) are.spelled (search (rules, spelled));
 }
 
+not_none : (ds fs : List Record) (r : Record) → ds ++ (fs ++ r ∷ []) ≡ [] → ⊥
+not_none (d ∷ ds) fs r is = cc
+not_none [] (f ∷ fs) r is = cc
+not_none [] [] r is = cc
+
 pub records_added : (ds fs es gs : List Record) (r : Record) → IsNext (ds ++ fs) r.body → record_spelled r ≡ true → es ≡ ds → gs ≡ fs ++ r ∷ []
-    → AreRecords (ds ++ fs) → AreRecords (es ++ gs)
-records_added ds fs es gs r next spelled durable fresh are =
-    subst AreRecords (append_assoc ds fs (r ∷ []) ∙ sym (rw (durable, fresh) refl)) (added (ds ++ fs) r next spelled are)
+    → KeepsRecords (ds ++ fs) (es ++ gs)
+records_added ds fs es gs r next spelled durable fresh = record {
+  formed = λ are. subst AreRecords (append_assoc ds fs (r ∷ []) ∙ sym grown) (added (ds ++ fs) r next spelled are);
+  some = λ none. absurd (not_none ds fs r (sym grown ∙ none));
+}
+  where
+    grown : es ++ gs ≡ ds ++ (fs ++ r ∷ [])
+    grown = rw (durable, fresh) refl

@@ -1,7 +1,6 @@
 -- What the server answers and sends.
-use Rattle.std.specs.Prelude.{ℕ, ◌+◌, ◌||◌, ◌==◌, nat_lt, Bool, true, false, List, [], ◌∷◌, ◌++◌, Option, Some, None, is_some, length, if◌then◌else◌}
+use Rattle.std.specs.Prelude.{ℕ, ◌+◌, nat_lt, Bool, true, false, List, [], ◌∷◌, Option, Some, None, length, if◌then◌else◌}
 use Rattle.std.specs.BTreeMap.{get}
-use Rattle.std.specs.List.{list_any}
 use Rattle.std.specs.Ordering.{nat_cmp}
 use Rattle.cs_bits.specs.declared.Caps.{Caps as Bits}
 use Rattle.cs_parts.specs.Capabilities.{granted, revoked}
@@ -16,21 +15,18 @@ use Rattle.cs_laws.specs.declared.messages.Message.TheVariants as messages
 use Rattle.cs_laws.specs.declared.objects.At.{At}
 use Rattle.cs_laws.specs.declared.objects.At.TheVariants as at
 use Rattle.cs_laws.specs.declared.records.Record.{Record}
-use Rattle.cs_laws.specs.Answers.{answer_flushed, held_after, sent_cap}
-use Rattle.cs_laws.specs.Flight.{acked_again, cap_message}
+use Rattle.cs_laws.specs.Answers.{answer_flushed, answer_requested, held_after, sent_cap}
+use Rattle.cs_laws.specs.Covering.{covers_along}
+use Rattle.cs_laws.specs.Flight.{acked_again, answered_again, cap_message, unsafe_message}
 use Rattle.cs_laws.specs.Metadata.{meta_at}
+use Rattle.cs_laws.specs.Names.{listed}
+use Rattle.cs_laws.specs.Namespace.{Names, has_dir}
 use Rattle.cs_laws.specs.Standing.{dir_of, greatest_number, has_snap, has_snap_named, is_removed}
 use Rattle.cs_records.specs.CommitNews.{commit_news}
 use Rattle.cs_mds.specs.declared.shown.Shown.{Shown}
 use Rattle.cs_mds.specs.declared.shown.Shown.TheVariants as states
+pub use Rattle.cs_mds.specs.Views.{is_in_use, is_known}
 use Rattle.cs_mds.specs.Views.{Caps, Homes, ServerView, caps_of, stand}
-
-abbrev pub is_known : ℕ → Homes → Bool
-is_known f homes = is_some (get nat_cmp homes f)
-
--- a directory or a file has the inode
-abbrev pub is_in_use : ℕ → List Directory → Homes → Bool
-is_in_use i tree homes = has_directory i tree || is_known i homes
 
 -- the answer to a line that makes a directory or a file, i, in another
 abbrev pub made_answer : List Directory → Homes → ℕ → ℕ → Answer
@@ -44,9 +40,9 @@ abbrev pub revoke_answer : Homes → Caps → ℕ → Bits → Answer
 revoke_answer homes caps f bits = if is_known f homes then sent_cap (revoked (caps_of f caps) bits) else answers.Unknown
 
 -- rs: all records
-abbrev pub snap_answer : List Directory → List Record → ℕ → List ℕ → Answer
-snap_answer tree rs d name =
-    if has_directory d tree
+abbrev pub snap_answer : Names → List Record → ℕ → List ℕ → Answer
+snap_answer ns rs d name =
+    if has_dir ns d
     then (if has_snap_named d name rs then answers.Exists else answers.Snap (greatest_number rs + 1))
     else answers.Unknown
 
@@ -54,42 +50,59 @@ abbrev pub remove_answer : List Record → ℕ → Answer
 remove_answer rs s =
     if has_snap s rs then (if is_removed s rs then answers.Gone else answers.Removed s (greatest_number rs + 1)) else answers.NoSnap
 
+abbrev pub unlease_answer : Names → ℕ → Answer
+unlease_answer ns d = if has_dir ns d then answers.SentUnlease else answers.Unknown
+
+abbrev pub names_answer : Names → ℕ → Answer
+names_answer ns d = if has_dir ns d then answers.Names (listed d ns) else answers.Unknown
+
 abbrev pub served_answer : ServerView → Event → Answer
 served_answer v (events.Dir d p) = made_answer v.tree v.homes d p
 served_answer v (events.File f p) = made_answer v.tree v.homes f p
 served_answer v (events.Grant f bits end) = grant_answer v.homes v.caps f bits end
 served_answer v (events.Revoke f bits) = revoke_answer v.homes v.caps f bits
-served_answer v (events.Snap d name) = snap_answer v.tree (stand v) d name
+served_answer v (events.Snap d name) = snap_answer v.names (stand v) d name
 served_answer v (events.RmSnap s) = remove_answer (stand v) s
+served_answer v (events.Unlease d name) = unlease_answer v.names d
 served_answer v events.Commit = answers.Commit (length v.fresh)
+served_answer v (events.Names d) = names_answer v.names d
 served_answer v _ = answers.Unknown
 
 abbrev pub message_answer : ServerView → Message → Answer
 message_answer v (messages.CapAck f seq bits) = answers.CapAck f seq (held_after (caps_of f v.caps) seq bits)
 message_answer v (messages.Flush f tid follows meta) = answer_flushed (stand v) f tid
 message_answer v (messages.FlushSnap f tid follows meta) = answer_flushed (stand v) f tid
+message_answer v (messages.Req tid ino op) = answer_requested (stand v) v.names tid op
 message_answer v _ = answers.Idle
 
 -- an event that is answered so calls the log
 abbrev pub calls_log : Event → Answer → Bool
 calls_log (events.Snap d name) (answers.Snap number) = true
 calls_log (events.RmSnap s) (answers.Removed t number) = true
+calls_log events.ToMds (answers.Req tid a) = true
 calls_log events.ToMds (answers.Flushed f tid) = true
 calls_log events.Commit (answers.Commit count) = nat_lt 0 count
 calls_log _ _ = false
 
 -- What the client is sent
 
--- on a flush that is answered so
-abbrev pub flush_sent : Answer → List Record → List Message
-flush_sent (answers.FlushDup f tid) ds = acked_again f tid ds
-flush_sent _ ds = []
+-- on a message that is answered so; ds: the durable records
+abbrev pub message_sent : Answer → List Record → List Message
+message_sent (answers.Req tid a) ds = unsafe_message tid a ∷ []
+message_sent (answers.ReqDup tid a) ds = answered_again tid a ds
+message_sent (answers.FlushDup f tid) ds = acked_again f tid ds
+message_sent _ ds = []
 
--- caps: before the event; ds: the durable records
+abbrev pub unlease_sent : ℕ → List ℕ → Answer → List Message
+unlease_sent d name answers.SentUnlease = messages.Unlease d name ∷ []
+unlease_sent d name _ = []
+
+-- caps: before the event
 abbrev pub served_sent : Event → Answer → Caps → List Record → List Message
 served_sent (events.Grant f bits end) (answers.SentCap seq held) caps ds = cap_message f (granted (caps_of f caps) bits end) ∷ []
 served_sent (events.Revoke f bits) (answers.SentCap seq held) caps ds = cap_message f (revoked (caps_of f caps) bits) ∷ []
-served_sent events.ToMds a caps ds = flush_sent a ds
+served_sent events.ToMds a caps ds = message_sent a ds
+served_sent (events.Unlease d name) a caps ds = unlease_sent d name a
 served_sent _ _ caps ds = []
 
 -- the news of each record that a commit makes durable, where messages are sent
@@ -105,7 +118,7 @@ shown_in f rs up s None = states.Absent
 shown_in f rs up s (Some dir) =
     if is_removed s rs
     then states.Gone
-    else if list_any (λ d. d == dir) up then states.Meta (meta_at f (at.Snap s) rs) else states.Absent
+    else if covers_along s dir rs up then states.Meta (meta_at f (at.Snap s) rs) else states.Absent
 
 abbrev pub shown_at : ℕ → List Record → List ℕ → At → Shown
 shown_at f rs up at.Head = states.Meta (meta_at f at.Head rs)

@@ -1,5 +1,5 @@
 -- What a call leaves of the server, and of the log that it is lent.
-use Rattle.std.specs.Prelude.{◌≡◌, ℕ, ◌==◌, Bool, List, [], ◌∷◌, Option, Some, if◌then◌else◌}
+use Rattle.std.specs.Prelude.{◌≡◌, ℕ, ◌==◌, ◌||◌, Bool, true, false, List, [], ◌∷◌, Option, Some, if◌then◌else◌}
 use Rattle.std.specs.BTreeMap.{get}
 use Rattle.std.specs.Ordering.{nat_cmp}
 use Rattle.cs_tree.specs.declared.directories.Directory.{Directory}
@@ -9,26 +9,54 @@ use Rattle.cs_laws.specs.declared.answers.Answer.TheVariants as answers
 use Rattle.cs_laws.specs.declared.events.Event.{Event}
 use Rattle.cs_laws.specs.declared.events.Event.TheVariants as events
 use Rattle.cs_laws.specs.declared.messages.Message.{Message}
+use Rattle.cs_laws.specs.declared.messages.Message.TheVariants as messages
 use Rattle.cs_laws.specs.Capabilities.{server_then}
 use Rattle.cs_laws.specs.Logged.{LogHalts, LogIs}
+use Rattle.cs_laws.specs.Made.{Made, dirs_with, home_with, made_by, makes_dir, makes_file, path_with}
+use Rattle.cs_laws.specs.Namespace.{Names, after}
 use Rattle.cs_laws.specs.Standing.{durable_then, fresh_then}
 use Rattle.cs_laws.specs.Tree.{directories_then, path_then, setup_dir_then}
+use Rattle.cs_names.specs.Setup.{after_setup}
 use Rattle.cs_records.specs.Records.{RecordLog}
 use Rattle.cs_mds.specs.Answers.{calls_log, message_answer, served_answer}
-use Rattle.cs_mds.specs.Views.{Caps, Homes, ServerView, caps_of}
+use Rattle.cs_mds.specs.Views.{Caps, Homes, ServerView, caps_of, is_in_use}
 
--- which directories there are, their paths, and their order
-pub record TreeAfter (e : Event) (a : Answer) (old new : List Directory) : Type 0 where
-  pub known : (d : ℕ) → has_directory d new ≡ setup_dir_then e a d (has_directory d old)
-  pub paths : (d : ℕ) → path_of new d ≡ path_then e a (λ c. path_of old c) d
-  pub order : inos new ≡ directories_then e a (λ d. depth_of new d) (inos old)
+-- q: the message that is delivered to the server, if one is
+
+-- what a request that is delivered makes
+abbrev pub made_on : Event → List Message → Answer → List Made
+made_on events.ToMds (messages.Req t ino op ∷ q) (answers.Req tid a) = made_by (Some op) a
+made_on _ _ _ = []
+
+abbrev pub made_then : Event → Answer → List Message → List Made
+made_then e a q = made_on e q a
+
+-- and the names that it leaves, or a setup line
+abbrev pub names_on : Event → List Message → Answer → Names → Names
+names_on (events.Dir d p) q answers.Made ns = after_setup true d p ns
+names_on (events.File f p) q answers.Made ns = after_setup false f p ns
+names_on events.ToMds (messages.Req t ino op ∷ q) (answers.Req tid a) ns = after ns op
+names_on _ _ _ ns = ns
+
+abbrev pub names_then : Event → Answer → List Message → Names → Names
+names_then e a q ns = names_on e q a ns
+
+-- which directories there are, their paths, and their order; ms: what a request made
+pub record TreeAfter (e : Event) (a : Answer) (ms : List Made) (old new : List Directory) : Type 0 where
+  pub known : (d : ℕ) → has_directory d new ≡ (setup_dir_then e a d (has_directory d old) || makes_dir d ms)
+  pub paths : (d : ℕ) → path_of new d ≡ path_with ms (path_then e a (λ c. path_of old c)) d
+  pub order : inos new ≡ dirs_with ms (path_then e a (λ c. path_of old c)) (directories_then e a (λ d. depth_of new d) (inos old))
 
 abbrev pub home_after : Event → Answer → ℕ → Option ℕ → Option ℕ
 home_after (events.File g p) answers.Made f was = if g == f then Some p else was
 home_after _ _ f was = was
 
-abbrev pub HomesAfter : Event → Answer → Homes → Homes → Type 0
-HomesAfter e a old new = (f : ℕ) → get nat_cmp new f ≡ home_after e a f (get nat_cmp old f)
+-- the directory of a file that is among these, or else that of before
+abbrev pub home_among : List Made → ℕ → Option ℕ → Option ℕ
+home_among ms f was = if makes_file f ms then Some (home_with ms f 1) else was
+
+abbrev pub HomesAfter : Event → Answer → List Made → Homes → Homes → Type 0
+HomesAfter e a ms old new = (f : ℕ) → get nat_cmp new f ≡ home_among ms f (home_after e a f (get nat_cmp old f))
 
 abbrev pub CapsAfter : Event → Answer → Caps → Caps → Type 0
 CapsAfter e a old new = (f : ℕ) → caps_of f new ≡ server_then e a f (caps_of f old)
@@ -41,13 +69,18 @@ SameHomes old new = (f : ℕ) → get nat_cmp new f ≡ get nat_cmp old f
 abbrev pub SameCaps : Caps → Caps → Type 0
 SameCaps old new = (f : ℕ) → caps_of f new ≡ caps_of f old
 
--- q: the message that is delivered to the server, if one is
 pub record Served (q : List Message) (old new : ServerView) (e : Event) (a : Answer) : Type 0 where
-  pub tree : TreeAfter e a old.tree new.tree
-  pub homes : HomesAfter e a old.homes new.homes
+  pub tree : TreeAfter e a (made_then e a q) old.tree new.tree
+  pub homes : HomesAfter e a (made_then e a q) old.homes new.homes
+  pub names : new.names ≡ names_then e a q old.names
   pub caps : CapsAfter e a old.caps new.caps
   pub durable : new.durable ≡ durable_then e a old.fresh old.durable
   pub fresh : new.fresh ≡ fresh_then e a q old.fresh
+
+-- What a request makes can be entered: its directory is known, and its inode unused.
+pub record HasPlace (tree : List Directory) (homes : Homes) (m : Made) : Type 0 where
+  pub parent : has_directory m.dir tree ≡ true
+  pub unused : is_in_use m.ino tree homes ≡ false
 
 -- The log: rs, n: its records, and how many of them are durable; s, v: the server's before the event
 

@@ -9,9 +9,9 @@ ghost use Rattle.cs_laws.specs.Flushes.{flush_message};
 ghost use Rattle.cs_laws.specs.Spellings.{meta_fits};
 ghost use Rattle.cs_laws.specs.Standing.{fresh_then};
 ghost use Rattle.cs_records.specs.Records.{all};
-ghost use Rattle.cs_mds.specs.Answers.{calls_log, flush_sent};
+ghost use Rattle.cs_mds.specs.Answers.{calls_log, message_sent};
 ghost use Rattle.cs_mds.specs.Served.{HaltsIn, LogHas};
-ghost use Rattle.cs_mds.specs.Views.{AreRecords};
+ghost use Rattle.cs_mds.specs.Views.{KeepsRecords};
 
 use crate::logged::log_record;
 use cs_ids::{FileMeta, Ino, Memory, Seq, Tid};
@@ -38,9 +38,9 @@ pub fn flush_in<L: MdsLog>(
     ensures answer { IfOk result (λ a. a ≡ answer_flushed (all records.old) file tid) }
     ensures durable { records.new.durable ≡ records.old.durable }
     ensures fresh { IfOk result (λ a. records.new.fresh ≡ fresh_then events.ToMds a (flush_message (record { tid = tid; file = file; follows = follows; meta = meta; snap = snap }) ∷ []) records.old.fresh) }
-    ensures sent { IfOk result (λ a. out.new ≡ out.old ++ flush_sent a records.old.durable) }
+    ensures sent { IfOk result (λ a. out.new ≡ out.old ++ message_sent a records.old.durable) }
     ensures err { OnErr result (records.new.fresh ≡ records.old.fresh) }
-    ensures kept { AreRecords (all records.old) → AreRecords (all records.new) }
+    ensures kept { KeepsRecords (all records.old) (all records.new) }
     ensures log { OnOk result (LogHas (L.records log.new) (L.durable log.new) records.new) }
     ensures halted { OnErr result (HaltsIn (L.records log.new) (L.durable log.new) records.old (flush_message (record { tid = tid; file = file; follows = follows; meta = meta; snap = snap }) ∷ []) events.ToMds (answer_flushed (all records.old) file tid)) }
     ensures faults { FaultsOf StepFault.Log (calls_log events.ToMds (answer_flushed (all records.old) file tid)) (L.faults log.old) (L.faults log.new) result }

@@ -1,5 +1,6 @@
-//! The metadata server: the directories and files that it knows, its end of each file's capabilities, and
-//! the records of its log, which each call that appends or syncs is lent. Contracts see these values alone.
+//! The metadata server: the directories and files that it knows, the names that stand, its end of each
+//! file's capabilities, and the records of its log, which each call that appends or syncs is lent. Contracts
+//! see these values alone.
 #![tactic(auto)]
 
 mod caps;
@@ -8,6 +9,8 @@ mod deliver;
 mod laws;
 mod logged;
 mod mds;
+mod names;
+mod requests;
 mod setup;
 mod shown;
 mod snapshots;

@@ -6,7 +6,7 @@ ghost use Rattle.cs_laws.specs.Spellings.{record_fits};
 ghost use Rattle.cs_records.specs.Log.{IsNext};
 ghost use Rattle.cs_records.specs.Records.{all};
 ghost use Rattle.cs_mds.specs.Served.{LogHas};
-ghost use Rattle.cs_mds.specs.Views.{AreRecords};
+ghost use Rattle.cs_mds.specs.Views.{KeepsRecords};
 
 use cs_ids::{Bytes, Failed};
 use cs_laws::{Record, StepFault};
@@ -27,7 +27,7 @@ pub fn log_record<L: MdsLog>(
     ensures durable { records.new.durable ≡ records.old.durable }
     ensures fresh { OnOk result (records.new.fresh ≡ records.old.fresh ++ «record» ∷ []) }
     ensures err { OnErr result (records.new.fresh ≡ records.old.fresh) }
-    ensures kept { AreRecords (all records.old) → AreRecords (all records.new) }
+    ensures kept { KeepsRecords (all records.old) (all records.new) }
     ensures log { OnOk result (LogHas (L.records log.new) (L.durable log.new) records.new) }
     ensures halted { OnErr result (LogHalts (L.records log.new) (L.durable log.new) records.old.durable records.old.fresh records.old.durable (records.old.fresh ++ «record» ∷ [])) }
     ensures faults { FaultsOf StepFault.Log true (L.faults log.old) (L.faults log.new) result }

@@ -1,11 +1,11 @@
 // What the server has of a file at a state.
-ghost use Rattle.std.specs.Prelude.{◌≡◌, ◌==◌, true};
-ghost use Rattle.std.specs.List.{list_any};
+ghost use Rattle.std.specs.Prelude.{◌≡◌, true};
+ghost use Rattle.cs_laws.specs.Covering.{covers_along};
 ghost use Rattle.cs_tree.specs.Directories.{has_directory, path_of};
 ghost use Rattle.cs_records.specs.Records.{all};
 ghost use Rattle.cs_mds.specs.Answers.{shown_at};
 
-use cs_ids::{FileMeta, Ino};
+use cs_ids::{FileMeta, Ino, Snap};
 use cs_laws::At;
 use cs_records::Records;
 use cs_tree::Directories;
@@ -36,20 +36,20 @@ pub fn shown_at(records: &Records, tree: &Directories, file: Ino, home: Ino, at:
     };
     if records.is_removed(snap) {
         Shown::Gone
-    } else if is_below(tree, home, dir) {
+    } else if is_covered(records, tree, snap, dir, home) {
         Shown::Meta(records.meta(file, at))
     } else {
         Shown::Absent
     }
 }
 
-// Whether a directory is another one or below it.
-fn is_below(tree: &Directories, home: Ino, dir: Ino) -> bool
+// Whether a snapshot of one directory covers the files in another.
+fn is_covered(records: &Records, tree: &Directories, snap: Snap, dir: Ino, home: Ino) -> bool
     requires { has_directory home tree.now ≡ true }
-    ensures { result ≡ list_any (λ d. d == dir) (path_of tree.now home) }
+    ensures { result ≡ covers_along snap dir (all records.now) (path_of tree.now home) }
 {
     match tree.path(home) {
-        Some(path) => path.contains(&dir),
+        Some(path) => records.covers(snap, dir, path),
         None => unreachable!(),
     }
 }

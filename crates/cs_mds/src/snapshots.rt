@@ -7,20 +7,21 @@ ghost use Rattle.cs_laws.specs.Standing.{fresh_then, greatest_number};
 ghost use Rattle.cs_records.specs.Records.{all};
 ghost use Rattle.cs_mds.specs.Answers.{calls_log, remove_answer, snap_answer};
 ghost use Rattle.cs_mds.specs.Served.{HaltsIn, LogHas};
-ghost use Rattle.cs_mds.specs.Views.{AreRecords};
+ghost use Rattle.cs_mds.specs.Views.{KeepsRecords};
 
 use crate::logged::log_record;
-use cs_ids::{Ino, Memory, Name, Snap};
+use crate::names::copy_name;
+use cs_ids::{Ino, Name, Snap};
 use cs_laws::{Answer, Record, RecordBody, StepFault};
 use cs_mdslog::MdsLog;
+use cs_names::Names;
 use cs_records::Records;
-use cs_tree::Directories;
 use std::alloc::Global;
 
-// Takes a snapshot of a directory that is known.
+// Takes a snapshot of a directory that stands.
 pub fn snap_in<L: MdsLog>(
     alloc: Global,
-    tree: &Directories,
+    names: &Names,
     records: &mut Records,
     dir: Ino,
     name: &Name,
@@ -28,18 +29,18 @@ pub fn snap_in<L: MdsLog>(
 ) -> Result<Answer, StepFault>
     requires numbers { greatest_number (all records.old) < 99998 }
     requires log { LogHas (L.records log.old) (L.durable log.old) records.old }
-    ensures answer { IfOk result (λ a. a ≡ snap_answer tree.now (all records.old) dir name.now) }
+    ensures answer { IfOk result (λ a. a ≡ snap_answer names.now (all records.old) dir name.now) }
     ensures durable { records.new.durable ≡ records.old.durable }
     ensures fresh { IfOk result (λ a. records.new.fresh ≡ fresh_then (events.Snap dir name.now) a [] records.old.fresh) }
     ensures err { OnErr result (records.new.fresh ≡ records.old.fresh) }
-    ensures kept { AreRecords (all records.old) → AreRecords (all records.new) }
+    ensures kept { KeepsRecords (all records.old) (all records.new) }
     ensures log { OnOk result (LogHas (L.records log.new) (L.durable log.new) records.new) }
-    ensures halted { OnErr result (HaltsIn (L.records log.new) (L.durable log.new) records.old [] (events.Snap dir name.now) (snap_answer tree.now (all records.old) dir name.now)) }
-    ensures faults { FaultsOf StepFault.Log (calls_log (events.Snap dir name.now) (snap_answer tree.now (all records.old) dir name.now)) (L.faults log.old) (L.faults log.new) result }
-    ensures quiet { calls_log (events.Snap dir name.now) (snap_answer tree.now (all records.old) dir name.now) ≡ false → log.new ≡ log.old }
+    ensures halted { OnErr result (HaltsIn (L.records log.new) (L.durable log.new) records.old [] (events.Snap dir name.now) (snap_answer names.now (all records.old) dir name.now)) }
+    ensures faults { FaultsOf StepFault.Log (calls_log (events.Snap dir name.now) (snap_answer names.now (all records.old) dir name.now)) (L.faults log.old) (L.faults log.new) result }
+    ensures quiet { calls_log (events.Snap dir name.now) (snap_answer names.now (all records.old) dir name.now) ≡ false → log.new ≡ log.old }
     ensures unstored { IsErrOf result StepFault.Store → ⊥ }
 {
-    if !tree.contains(dir) {
+    if !names.has_dir(dir) {
         return Ok(Answer::Unknown);
     }
     if records.has_snap_named(dir, name) {
@@ -66,7 +67,7 @@ pub fn remove_in<L: MdsLog>(
     ensures durable { records.new.durable ≡ records.old.durable }
     ensures fresh { IfOk result (λ a. records.new.fresh ≡ fresh_then (events.RmSnap snap) a [] records.old.fresh) }
     ensures err { OnErr result (records.new.fresh ≡ records.old.fresh) }
-    ensures kept { AreRecords (all records.old) → AreRecords (all records.new) }
+    ensures kept { KeepsRecords (all records.old) (all records.new) }
     ensures log { OnOk result (LogHas (L.records log.new) (L.durable log.new) records.new) }
     ensures halted { OnErr result (HaltsIn (L.records log.new) (L.durable log.new) records.old [] (events.RmSnap snap) (remove_answer (all records.old) snap)) }
     ensures faults { FaultsOf StepFault.Log (calls_log (events.RmSnap snap) (remove_answer (all records.old) snap)) (L.faults log.old) (L.faults log.new) result }
@@ -83,11 +84,4 @@ pub fn remove_in<L: MdsLog>(
     let body = RecordBody::Removal { snap, number };
     log_record(alloc, Record { body }, records, log)?;
     Ok(Answer::Removed { snap, number })
-}
-
-// The same name once more.
-fn copy_name(alloc: Global, name: &Name) -> Result<Name, Memory>
-    ensures { IfOk result (λ n. n ≡ name.now) }
-{
-    Name::from_slice(alloc, name.as_slice())
 }

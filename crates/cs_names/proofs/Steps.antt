@@ -1,5 +1,5 @@
 -- What each operation answers and leaves, by the tables.
-use Rattle.std.proofs.Common.{◌≡◌, ℕ, ◌+◌, ◌==◌, ◌&&◌, Bool, true, false, cond, List, [], ◌∷◌, ◌++◌, Option, Some, None, is_some, unwrap_or, refl, sym, ap, ◌∙◌}
+use Rattle.std.proofs.Common.{◌≡◌, ℕ, ◌+◌, ◌==◌, ◌&&◌, Bool, true, false, cond, List, [], ◌∷◌, ◌++◌, Option, Some, None, is_some, unwrap_or, refl, sym, ap, true≢false, ◌∙◌}
 use Rattle.std.specs.BTreeMap.{insert_entry, is_at}
 use Rattle.std.specs.Cmp.{Equal-is}
 use Rattle.std.specs.declared.cmp.Ordering.TheVariants.{Equal}
@@ -10,6 +10,7 @@ use Rattle.cs_laws.specs.declared.requests.OpAnswer.{OpAnswer}
 use Rattle.cs_laws.specs.declared.requests.OpAnswer.TheVariants as replies
 use Rattle.cs_laws.specs.declared.requests.ReqOp.TheVariants as ops
 use Rattle.cs_laws.specs.Namespace.{
+  Named,
   Names,
   after_answer,
   entry_at,
@@ -63,9 +64,50 @@ within-refusal ns d a = by (has_dir ns d) (has_file ns d)
 pub within-none : (ns : Names) (d : ℕ) (a : OpAnswer) → refusal ns d ≡ None → within ns d a ≡ a
 within-none ns d a none = within-refusal ns d a ∙ ap (λ o. unwrap_or o a) none
 
-pub after-exists : (ns : Names) (d : ℕ) (name : List ℕ) (is_dir : Bool) → ns ≡ after_answer (making is_dir d name) replies.Exists ns
-after-exists ns d name true = refl
-after-exists ns d name false = refl
+-- an answer that refuses changes nothing
+pub after-unmade : (ns : Names) (d : ℕ) (name : List ℕ) (is_dir : Bool) (a : OpAnswer) → ((i : ℕ) → a ≡ replies.Made i → ⊥)
+    → ns ≡ after_answer (making is_dir d name) a ns
+after-unmade ns d name true (replies.Made i) other = absurd (other i refl)
+after-unmade ns d name true _ other = refl
+after-unmade ns d name false (replies.Made i) other = absurd (other i refl)
+after-unmade ns d name false _ other = refl
+
+-- What an answer tells
+
+pub made-is : (ns : Names) (d : ℕ) (name : List ℕ) (i : ℕ) → within ns d (made_at ns d name) ≡ replies.Made i
+    → (has_entry ns d name ≡ false) × (i ≡ next_ino ns)
+made-is ns d name i is = by (has_dir ns d) (has_file ns d) (has_entry ns d name) is
+  where
+    by : (stands is_file taken : Bool)
+        → cond stands (cond taken replies.Exists (replies.Made (next_ino ns))) (cond is_file replies.NotDir replies.Missing) ≡ replies.Made i
+        → (taken ≡ false) × (i ≡ next_ino ns)
+    by true is_file true is = absurd cc
+    by true is_file false is = (refl, cc)
+    by false true taken is = absurd cc
+    by false false taken is = absurd cc
+
+pub gone-is : (ns : Names) (d : ℕ) (o : Option Named) → within ns d (unlinked ns o) ≡ replies.Gone → is_some o ≡ true
+gone-is ns d (Some e) is = refl
+gone-is ns d None is = by (has_dir ns d) (has_file ns d) is
+  where
+    by : (stands is_file : Bool) → cond stands replies.Missing (cond is_file replies.NotDir replies.Missing) ≡ replies.Gone → false ≡ true
+    by true is_file is = absurd cc
+    by false true is = absurd cc
+    by false false is = absurd cc
+
+pub moved-is : (ns : Names) (d : ℕ) (name new : List ℕ) → within ns d (renamed ns d name new) ≡ replies.Moved
+    → (has_entry ns d name ≡ true) × (has_entry ns d new ≡ false)
+moved-is ns d name new is = by (has_dir ns d) (has_file ns d) (has_entry ns d name) (has_entry ns d new) is
+  where
+    by : (stands is_file there taken : Bool)
+        → cond stands (cond there (cond taken replies.Exists replies.Moved) replies.Missing) (cond is_file replies.NotDir replies.Missing)
+        ≡ replies.Moved
+        → (there ≡ true) × (taken ≡ false)
+    by true is_file true true is = absurd cc
+    by true is_file true false is = (refl, refl)
+    by true is_file false taken is = absurd cc
+    by false true there taken is = absurd cc
+    by false false there taken is = absurd cc
 
 -- what is found by one key stays where another key gets the same
 pub still_there : (b : Bool) (v : Entry) (was : Option Entry) {now : Option Entry} → was ≡ Some v → now ≡ cond b (Some v) was
@@ -136,6 +178,13 @@ module _ (es : List (EntryKey × Entry)) (files : List ℕ) (made : ℕ) (ns : N
       sym (within-none ns d (renamed ns d name new) stands
       ∙ ap (λ c. cond c (cond (has_entry ns d new) replies.Exists replies.Moved) replies.Missing) (has_entry-lookup ∙ ap is_some some)
       ∙ ap (λ c. cond c replies.Exists replies.Moved) is)
+
+  pub gone-there : within ns d (unlinked ns (entry_at ns d name)) ≡ replies.Gone → lookup (is_at (key_cmp k)) es ≡ None → ⊥
+  gone-there gone none =
+      true≢false (sym (gone-is ns d (entry_at ns d name) gone) ∙ ap is_some (entry_at-lookup ∙ ap (option_map (named_at k)) none))
+
+  pub moved-there : (new : List ℕ) → within ns d (renamed ns d name new) ≡ replies.Moved → lookup (is_at (key_cmp k)) es ≡ None → ⊥
+  moved-there new moves none = true≢false (sym (moved-is ns d name new moves).0 ∙ has_entry-lookup ∙ ap is_some none)
 
   -- What is left
 

@@ -64,6 +64,25 @@ impl Names {
         })
     }
 
+    /// What an operation would be answered with: what `apply` answers to it. It changes nothing.
+    pub fn answer(&self, op: &ReqOp) -> Result<OpAnswer, Memory>
+        requires { self.now.made < 89999 }
+        ensures { IfOk result (λ a. a ≡ answer_on self.now op.now) }
+    {
+        match op {
+            ReqOp::Mkdir { dir, name } | ReqOp::Create { dir, name } => {
+                self.answer_made(*dir, name)
+            }
+            ReqOp::Unlink { dir, name } => self.answer_unlinked(*dir, name),
+            ReqOp::Rename {
+                dir,
+                name,
+                new_name,
+            } => self.answer_renamed(*dir, name, new_name),
+            ReqOp::Lookup { dir, name } => self.look_up(*dir, name),
+        }
+    }
+
     /// Does an operation, and tells its answer. A directory or a file that it makes has inode 10,000
     /// plus the number of those that operations made before. A request that is sent again may carry the
     /// inode of an earlier answer to it, which doesn't change the answer. After `Memory` the names are
@@ -160,16 +179,11 @@ impl Names {
         ensures names { IfOk result (λ a. self.new ≡ after_answer (making is_dir dir name.now) a self.old) }
         ensures err { OnErr result (self.new ≡ self.old) }
     {
-        if let Some(refusal) = self.refusal(dir) {
-            return Ok(refusal);
-        }
-        let key = EntryKey::new(self.alloc, dir, name)?;
-        if self.entries.contains_key(&key) {
-            return Ok(OpAnswer::Exists);
-        }
-        let Some(ino) = Ino::new(FIRST_MADE + self.made) else {
-            unreachable!()
+        let answer = self.answer_made(dir, name)?;
+        let OpAnswer::Made(ino) = answer else {
+            return Ok(answer);
         };
+        let key = EntryKey::new(self.alloc, dir, name)?;
         enter(
             &mut self.entries,
             &mut self.dirs,
@@ -181,11 +195,45 @@ impl Names {
         Ok(OpAnswer::Made(ino))
     }
 
+    // What is answered where a directory or a file is to be made under a name.
+    fn answer_made(&self, dir: Ino, name: &Name) -> Result<OpAnswer, Memory>
+        requires { self.now.made < 89999 }
+        ensures { IfOk result (λ a. a ≡ within self.now dir (made_at self.now dir name.now)) }
+    {
+        if let Some(refusal) = self.refusal(dir) {
+            return Ok(refusal);
+        }
+        let key = EntryKey::new(self.alloc, dir, name)?;
+        if self.entries.contains_key(&key) {
+            return Ok(OpAnswer::Exists);
+        }
+        let Some(ino) = Ino::new(FIRST_MADE + self.made) else {
+            unreachable!()
+        };
+        Ok(OpAnswer::Made(ino))
+    }
+
     // Takes the entry of a name out.
     fn unlink(&mut self, dir: Ino, name: &Name) -> Result<OpAnswer, Memory>
         ensures answer { IfOk result (λ a. a ≡ within self.old dir (unlinked self.old (entry_at self.old dir name.now))) }
         ensures names { IfOk result (λ a. self.new ≡ after_answer (ops.Unlink dir name.now) a self.old) }
         ensures err { OnErr result (self.new ≡ self.old) }
+    {
+        let answer = self.answer_unlinked(dir, name)?;
+        let OpAnswer::Gone = answer else {
+            return Ok(answer);
+        };
+        let key = EntryKey::new(self.alloc, dir, name)?;
+        let Some(entry) = self.entries.get(&key).copied() else {
+            unreachable!()
+        };
+        leave(&mut self.entries, &mut self.dirs, &key, entry);
+        Ok(OpAnswer::Gone)
+    }
+
+    // What is answered where the entry of a name is to be taken out.
+    fn answer_unlinked(&self, dir: Ino, name: &Name) -> Result<OpAnswer, Memory>
+        ensures { IfOk result (λ a. a ≡ within self.now dir (unlinked self.now (entry_at self.now dir name.now))) }
     {
         if let Some(refusal) = self.refusal(dir) {
             return Ok(refusal);
@@ -197,7 +245,6 @@ impl Names {
         if is_filled(&self.entries, self.alloc, &entry) {
             return Ok(OpAnswer::NotEmpty);
         }
-        leave(&mut self.entries, &mut self.dirs, &key, entry);
         Ok(OpAnswer::Gone)
     }
 
@@ -206,6 +253,24 @@ impl Names {
         ensures answer { IfOk result (λ a. a ≡ within self.old dir (renamed self.old dir name.now new_name.now)) }
         ensures names { IfOk result (λ a. self.new ≡ after_answer (ops.Rename dir name.now new_name.now) a self.old) }
         ensures err { OnErr result (self.new ≡ self.old) }
+    {
+        let answer = self.answer_renamed(dir, name, new_name)?;
+        let OpAnswer::Moved = answer else {
+            return Ok(answer);
+        };
+        let key = EntryKey::new(self.alloc, dir, name)?;
+        let new_key = EntryKey::new(self.alloc, dir, new_name)?;
+        let Some(entry) = self.entries.get(&key).copied() else {
+            unreachable!()
+        };
+        self.entries.insert(new_key, entry)?;
+        self.entries.remove(&key);
+        Ok(OpAnswer::Moved)
+    }
+
+    // What is answered where the entry of a name is to have another name.
+    fn answer_renamed(&self, dir: Ino, name: &Name, new_name: &Name) -> Result<OpAnswer, Memory>
+        ensures { IfOk result (λ a. a ≡ within self.now dir (renamed self.now dir name.now new_name.now)) }
     {
         if let Some(refusal) = self.refusal(dir) {
             return Ok(refusal);
@@ -218,8 +283,6 @@ impl Names {
         if self.entries.contains_key(&new_key) {
             return Ok(OpAnswer::Exists);
         }
-        self.entries.insert(new_key, entry)?;
-        self.entries.remove(&key);
         Ok(OpAnswer::Moved)
     }
 
