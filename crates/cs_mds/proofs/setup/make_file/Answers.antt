@@ -1,6 +1,4 @@
-use Rattle.std.proofs.Common.{rules, ◌≡◌, ◌==◌, Some, cond, ℕ}
-use Rattle.std.specs.BTreeMap.{get}
-use Rattle.std.specs.Ordering.{nat_cmp}
+use Rattle.std.proofs.Common.{rules}
 use Rattle.cs_mds.proofs.Rows.{put_in}
 use Rattle.cs_mds.proofs.Whole.{whole_file}
 use Rattle.cs_mds.proofs.setup.make_file.Goals as goal
