@@ -1,5 +1,11 @@
-//! Tests of the client over a store that is lent to it: each call that takes memory, once with ample memory.
+//! Tests of the client over a store that is lent to it: each call and delivery that takes memory, once with ample memory.
 #![tactic(auto)]
 
 #[cfg(test)]
-mod client;
+mod files;
+#[cfg(test)]
+mod requests;
+#[cfg(test)]
+mod snapshots;
+#[cfg(test)]
+mod steps;
