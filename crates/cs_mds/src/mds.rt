@@ -1,5 +1,5 @@
 // The server and its calls.
-ghost use Rattle.std.specs.Prelude.{◌≡◌, ℕ, ◌<◌, ◌≤◌, ◌++◌, ◌∷◌, [], true, false, None, length, nat_lt, IfOk, OnOk, OnErr, IsErrOf};
+ghost use Rattle.std.specs.Prelude.{◌≡◌, ℕ, ◌+◌, ◌<◌, ◌≤◌, ◌++◌, ◌∷◌, [], true, false, None, length, nat_lt, IfOk, OnOk, OnErr, IsErrOf};
 ghost use Rattle.std.specs.BTreeMap.{get};
 ghost use Rattle.std.specs.Ordering.{nat_cmp};
 ghost use Rattle.cs_laws.specs.declared.events.Event.TheVariants as events;
@@ -153,6 +153,7 @@ impl Mds {
         requires { (caps_of file self.old.caps).seq < 99998 }
         ensures answer { IfOk result (λ a. a ≡ served_answer self.old (events.Grant file bits max)) }
         ensures after { IfOk result (λ a. Served [] self.old self.new (events.Grant file bits max) a) }
+        ensures whole { IsWhole self.old → IsWhole self.new }
         ensures sent { IfOk result (λ a. out.new ≡ out.old ++ served_sent (events.Grant file bits max) a self.old.caps self.old.durable) }
     {
         grant_in(&self.homes, &mut self.caps, file, bits, max, out)
@@ -165,6 +166,7 @@ impl Mds {
         requires { (caps_of file self.old.caps).seq < 99998 }
         ensures answer { IfOk result (λ a. a ≡ served_answer self.old (events.Revoke file bits)) }
         ensures after { IfOk result (λ a. Served [] self.old self.new (events.Revoke file bits) a) }
+        ensures whole { IsWhole self.old → IsWhole self.new }
         ensures sent { IfOk result (λ a. out.new ≡ out.old ++ served_sent (events.Revoke file bits) a self.old.caps self.old.durable) }
     {
         revoke_in(&self.homes, &mut self.caps, file, bits, out)
@@ -192,6 +194,7 @@ impl Mds {
         requires log { LogHolds (L.records log.old) (L.durable log.old) self.old }
         ensures answer { IfOk result (λ a. a ≡ served_answer self.old (events.Snap dir name.now)) }
         ensures after { IfOk result (λ a. Served [] self.old self.new (events.Snap dir name.now) a) }
+        ensures whole { IsWhole self.old → IsWhole self.new }
         ensures same { OnErr result (self.new ≡ self.old) }
         ensures log { OnOk result (LogHolds (L.records log.new) (L.durable log.new) self.new) }
         ensures halted { OnErr result (Halts (L.records log.new) (L.durable log.new) self.old (events.Snap dir name.now)) }
@@ -212,6 +215,7 @@ impl Mds {
         requires log { LogHolds (L.records log.old) (L.durable log.old) self.old }
         ensures answer { IfOk result (λ a. a ≡ served_answer self.old (events.RmSnap snap)) }
         ensures after { IfOk result (λ a. Served [] self.old self.new (events.RmSnap snap) a) }
+        ensures whole { IsWhole self.old → IsWhole self.new }
         ensures same { OnErr result (self.new ≡ self.old) }
         ensures log { OnOk result (LogHolds (L.records log.new) (L.durable log.new) self.new) }
         ensures halted { OnErr result (Halts (L.records log.new) (L.durable log.new) self.old (events.RmSnap snap)) }
@@ -251,9 +255,9 @@ impl Mds {
     /// sent once more, and with it that the record is durable, where it is. Requests may draw inodes up
     /// to 99,998.
     ///
-    /// After `Memory` the durable records and the names of the log's records are those at entry or those
-    /// that the message leaves; what a request makes may be known, and its operation done, with nothing
-    /// sent.
+    /// After `Memory` no more records are durable than before. The message's record may stand; of a
+    /// request, what it makes may be known, its operation may be done, and the client may be sent a
+    /// part of the messages.
     pub fn step_message<L: MdsLog>(
         &mut self,
         message: &Message,
@@ -268,7 +272,9 @@ impl Mds {
         ensures answer { IfOk result (λ a. a ≡ message_answer self.old message.now) }
         ensures after { IfOk result (λ a. Served (message.now ∷ []) self.old self.new events.ToMds a) }
         ensures whole { OnOk result (IsWhole self.new) }
+        ensures made { self.new.names.made ≤ self.old.names.made + 1 }
         ensures sent { IfOk result (λ a. out.new ≡ out.old ++ served_sent events.ToMds a self.old.caps self.old.durable) }
+        ensures err { OnErr result (self.new.durable ≡ self.old.durable) }
         ensures same { IsErrOf result StepFault.Log → self.new ≡ self.old }
         ensures log { OnOk result (LogHolds (L.records log.new) (L.durable log.new) self.new) }
         ensures halted { OnErr result (MessageHalts (L.records log.new) (L.durable log.new) self.old message.now) }
@@ -326,7 +332,9 @@ impl Mds {
     }
 
     /// Makes all records durable by one sync of the log, and none where all are. Where messages are
-    /// sent, it tells the client of each that wasn't durable. These are fewer than 10,000.
+    /// sent, it tells the client of each that wasn't durable. These are fewer than 10,000. All records
+    /// stand as before. After `Memory` the log is synced, and the server takes a front of them for
+    /// durable, of each of which the client may be told.
     pub fn commit<L: MdsLog>(
         &mut self,
         sending: bool,
@@ -337,7 +345,9 @@ impl Mds {
         requires log { LogHolds (L.records log.old) (L.durable log.old) self.old }
         ensures answer { IfOk result (λ a. a ≡ served_answer self.old events.Commit) }
         ensures after { IfOk result (λ a. Served [] self.old self.new events.Commit a) }
+        ensures whole { IsWhole self.old → IsWhole self.new }
         ensures sent { OnOk result (out.new ≡ out.old ++ committed_sent sending self.old) }
+        ensures records { stand self.new ≡ stand self.old }
         ensures same { IsErrOf result StepFault.Log → self.new ≡ self.old }
         ensures log { OnOk result (LogHolds (L.records log.new) (L.durable log.new) self.new) }
         ensures halted { OnErr result (Halts (L.records log.new) (L.durable log.new) self.old events.Commit) }

@@ -1,5 +1,5 @@
 // Requests that are delivered to the server.
-ghost use Rattle.std.specs.Prelude.{◌≡◌, ◌+◌, ◌<◌, ◌++◌, ◌∷◌, [], true, false, ℕ, ◌||◌, Some, unwrap_or, IfOk, OnOk, OnErr, IsErrOf};
+ghost use Rattle.std.specs.Prelude.{◌≡◌, ◌+◌, ◌<◌, ◌≤◌, ◌++◌, ◌∷◌, [], true, false, ℕ, ◌||◌, Some, unwrap_or, IfOk, OnOk, OnErr, IsErrOf};
 ghost use Rattle.std.specs.BTreeMap.{get};
 ghost use Rattle.std.specs.List.{AllByRecursion};
 ghost use Rattle.std.specs.Ordering.{nat_cmp};
@@ -56,6 +56,7 @@ pub fn request_in<L: MdsLog>(
     ensures homes { IfOk result (λ a. HomesAfter events.ToMds a (made_then events.ToMds a (messages.Req tid carried op.now ∷ [])) homes.old homes.new) }
     ensures names { IfOk result (λ a. names.new ≡ names_then events.ToMds a (messages.Req tid carried op.now ∷ []) names.old) }
     ensures whole { OnOk result (AreWhole tree.new homes.new names.new) }
+    ensures made { names.new.made ≤ names.old.made + 1 }
     ensures durable { records.new.durable ≡ records.old.durable }
     ensures fresh { IfOk result (λ a. records.new.fresh ≡ fresh_then events.ToMds a (messages.Req tid carried op.now ∷ []) records.old.fresh) }
     ensures sent { IfOk result (λ a. out.new ≡ out.old ++ message_sent a records.old.durable) }
@@ -100,6 +101,7 @@ fn do_request<L: MdsLog>(
     ensures homes { IfOk result (λ a. HomesAfter events.ToMds a (made_then events.ToMds a (messages.Req tid carried op.now ∷ [])) homes.old homes.new) }
     ensures names { IfOk result (λ a. names.new ≡ names_then events.ToMds a (messages.Req tid carried op.now ∷ []) names.old) }
     ensures whole { OnOk result (AreWhole tree.new homes.new names.new) }
+    ensures made { names.new.made ≤ names.old.made + 1 }
     ensures durable { records.new.durable ≡ records.old.durable }
     ensures fresh { IfOk result (λ a. records.new.fresh ≡ fresh_then events.ToMds a (messages.Req tid carried op.now ∷ []) records.old.fresh) }
     ensures sent { IfOk result (λ a. out.new ≡ out.old ++ message_sent a records.old.durable) }
@@ -169,6 +171,7 @@ fn perform(
     ensures homes { IfOk result (λ a. HomesAfter events.ToMds a (made_then events.ToMds a (messages.Req tid carried op.now ∷ [])) homes.old homes.new) }
     ensures names { IfOk result (λ a. names.new ≡ names_then events.ToMds a (messages.Req tid carried op.now ∷ []) names.old) }
     ensures whole { OnOk result (AreWhole tree.new homes.new names.new) }
+    ensures made { names.new.made ≤ names.old.made + 1 }
     ensures inside { AreIn tree.old homes.old → AreIn tree.new homes.new }
     ensures sent { OnOk result (out.new ≡ out.old ++ unsafe_message tid answer ∷ []) }
 {

@@ -130,6 +130,17 @@ fn with_directory(rt: &impl Abort, alloc: Global) -> Result<Names, Fail>
     Ok(names)
 }
 
+// Nothing is done where an answer is told alone.
+#[test]
+fn an_answer_is_told(rt: HostRuntime) -> Result<(), Fail> {
+    let alloc = rt.alloc();
+    let names = with_directory(&rt, alloc)?;
+    let op = create(&rt, alloc, 10_000, b"x")?;
+    assert!(rt; names.answer(&op)? == OpAnswer::Made(ino(10_001)?));
+    assert!(rt; names.answer(&op)? == OpAnswer::Made(ino(10_001)?));
+    Ok(())
+}
+
 #[test]
 fn a_file_has_another_name(rt: HostRuntime) -> Result<(), Fail> {
     let alloc = rt.alloc();

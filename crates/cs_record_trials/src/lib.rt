@@ -1,5 +1,11 @@
-//! Tests of the records of the server's log: each call that takes memory, once with ample memory.
+//! Tests of the records of the server's log: each call, with ample memory.
 #![tactic(auto)]
 
 #[cfg(test)]
+mod covering;
+#[cfg(test)]
 mod records;
+#[cfg(test)]
+mod requests;
+#[cfg(test)]
+mod steps;

@@ -1,39 +1,16 @@
 // A record of each kind, and what is told of it once it is durable.
-use cs_ids::{FileMeta, Ino, Name, Seq, Snap, Tid};
-use cs_laws::{Message, MessageList, OpAnswer, Record, RecordBody, ReqOp};
+use crate::steps::{add_request, add_snap, commit, ino, tid};
+use cs_ids::{FileMeta, Seq, Snap};
+use cs_laws::{Message, MessageList, OpAnswer, Record, RecordBody};
 use cs_records::Records;
-use cs_tree::Directories;
 use std::alloc::Global;
 use std::process::Abort;
 use std::test::Fail;
 
-fn root() -> Result<Ino, Fail> {
-    Ok(Ino::new(1).ok_or("no directory's number")?)
-}
-
-fn tid() -> Result<Tid, Fail> {
-    Ok(Tid::new(1).ok_or("no number")?)
-}
-
-// Adds a request that made nothing.
-fn add_request(alloc: Global, records: &mut Records) -> Result<(), Fail> {
-    let op = ReqOp::Mkdir {
-        dir: root()?,
-        name: Name::from_slice(alloc, b"monday")?,
-    };
-    let body = RecordBody::Request {
-        tid: tid()?,
-        op,
-        answer: OpAnswer::Exists,
-    };
-    records.add(Record { body })?;
-    Ok(())
-}
-
 // Adds the first flush of file 100.
 fn add_flush(rt: &impl Abort, records: &mut Records) -> Result<(), Fail> {
-    let file = Ino::new(100).ok_or("no file's number")?;
-    let tid = tid()?;
+    let file = ino(100)?;
+    let tid = tid(1)?;
     let meta = FileMeta {
         size: 5,
         mtime: 7,
@@ -51,18 +28,6 @@ fn add_flush(rt: &impl Abort, records: &mut Records) -> Result<(), Fail> {
     Ok(())
 }
 
-// Adds a snapshot of the root.
-fn add_snap(rt: &impl Abort, alloc: Global, records: &mut Records) -> Result<Snap, Fail> {
-    let dir = root()?;
-    let name = Name::from_slice(alloc, b"monday")?;
-    assert!(rt; !records.has_snap_named(dir, &name));
-    assert!(rt; records.has_room());
-    let number = records.next_number();
-    let body = RecordBody::Snap { number, dir, name };
-    records.add(Record { body })?;
-    Ok(number)
-}
-
 // Adds the removal of a snapshot.
 fn add_removal(rt: &impl Abort, records: &mut Records, snap: Snap) -> Result<(), Fail> {
     assert!(rt; records.has_snap(snap));
@@ -76,38 +41,17 @@ fn add_removal(rt: &impl Abort, records: &mut Records, snap: Snap) -> Result<(),
 
 // Adds a record of each kind.
 fn add_each(rt: &impl Abort, alloc: Global, records: &mut Records) -> Result<(), Fail> {
-    add_request(alloc, records)?;
+    add_request(rt, alloc, records, 1, OpAnswer::Exists)?;
     add_flush(rt, records)?;
-    let number = add_snap(rt, alloc, records)?;
+    let number = add_snap(rt, alloc, records, ino(1)?)?;
     add_removal(rt, records, number)
-}
-
-// Makes all of the records durable. How many weren't.
-fn commit(
-    rt: &impl Abort,
-    alloc: Global,
-    records: &mut Records,
-    told: &mut MessageList,
-) -> Result<u32, Fail> {
-    let tree = Directories::new(alloc)?;
-    assert!(rt; records.len() < 10_000);
-    Ok(records.commit(&tree, true, told)?)
-}
-
-fn add_and_commit(
-    rt: &impl Abort,
-    alloc: Global,
-    records: &mut Records,
-    told: &mut MessageList,
-) -> Result<u32, Fail> {
-    add_each(rt, alloc, records)?;
-    commit(rt, alloc, records, told)
 }
 
 // How many of the first records became durable.
 fn first_commit(rt: &impl Abort, alloc: Global, told: &mut MessageList) -> Result<u32, Fail> {
     let mut records = Records::new(alloc);
-    add_and_commit(rt, alloc, &mut records, told)
+    add_each(rt, alloc, &mut records)?;
+    commit(rt, alloc, &mut records, told)
 }
 
 #[test]

@@ -36,7 +36,6 @@ use Rattle.cs_records.specs.Log.{IsLog, IsNext, IsNextRemoval, IsNextSnap}
 use Rattle.cs_records.specs.Names.{has_names, last_named, name_in, named_then}
 use Rattle.cs_records.specs.Requests.{answered_at, answered_from, answered_in}
 use Rattle.cs_records.specs.declared.flushes.Flushes.{Flushes}
-use Rattle.cs_records.specs.declared.names.Names.{Names}
 use Rattle.cs_records.specs.declared.requests.Answered.{Answered}
 use Rattle.cs_records.specs.declared.requests.Requests.{Requests}
 use Rattle.cs_records.proofs.RequestPlaces.{answered_append, no_request, request_append}

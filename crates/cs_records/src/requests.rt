@@ -11,10 +11,10 @@ use std::alloc::Global;
 
 // A request that was answered.
 #[derive(Clone, Copy)]
-pub struct Answered {
+struct Answered {
     // The place of its record in the log.
-    pub place: usize,
-    pub answer: OpAnswer,
+    place: usize,
+    answer: OpAnswer,
 }
 
 // The requests that were answered.
@@ -22,7 +22,7 @@ pub struct Answered {
 pub struct Requests {
     // The number of the last one, or 0 where there is none.
     pub last: u64,
-    pub answered: IndexMap<Tid, Answered>,
+    answered: IndexMap<Tid, Answered>,
 }
 
 impl Requests {
@@ -51,7 +51,7 @@ impl Requests {
         Some(self.answered.get(&tid)?.answer)
     }
 
-    // Makes room for one more request.
+    // Makes room for one more request. All requests are as before.
     pub fn reserve(&mut self) -> Result<(), Memory>
         ensures last { self.new.last ≡ self.old.last }
         ensures answered { (t : ℕ) → answered_in self.new t ≡ answered_in self.old t }

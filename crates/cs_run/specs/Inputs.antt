@@ -4,6 +4,7 @@ use Rattle.std.specs.Io.KnownBytes.{IsAtEnd}
 use Rattle.cs_laws.specs.declared.events.Event.{Event}
 use Rattle.cs_laws.specs.declared.events.Event.TheVariants as events
 use Rattle.cs_laws.specs.declared.faults.ScriptFault.{ScriptFault}
+use Rattle.cs_laws.specs.declared.requests.ReqOp.TheVariants as ops
 use Rattle.cs_laws.specs.Grammar.{script_of}
 use Rattle.cs_laws.specs.Journal.{journal, text}
 use Rattle.cs_laws.specs.Laws.{Laws}
@@ -13,12 +14,16 @@ use Rattle.cs_status.specs.declared.refusal.Refusal.TheVariants as refusals
 use Rattle.cs_run.specs.Held.{Held, AgreesAt, IsBlank}
 use Rattle.cs_status.specs.Refusals.{refusal_line, refusal_status}
 
+-- a line or a request that makes a file, or may
 abbrev pub is_file : Event → Bool
 is_file (events.File f p) = true
+is_file (events.Req caller (ops.Create d name)) = true
 is_file _ = false
 
+-- the same of a directory
 abbrev pub is_dir : Event → Bool
 is_dir (events.Dir d p) = true
+is_dir (events.Req caller (ops.Mkdir d name)) = true
 is_dir _ = false
 
 -- an input that isn't too long: it is in the grammar, and then it has so many events, and makes so many files and directories,

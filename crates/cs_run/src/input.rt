@@ -5,15 +5,15 @@ ghost use Rattle.cs_run.specs.Inputs.{JudgesWhole, JudgesScript, IsWithinLimit, 
 
 use cs_ids::Memory;
 use cs_io::{ReadAll, ReadFault, Source, read_all};
-use cs_laws::Event;
+use cs_laws::{Event, ReqOp};
 use cs_script::{ParseFault, Script, parse};
 use cs_status::{MOST_BYTES, MOST_EVENTS, Refusal};
 use std::alloc::Global;
 
-/// The most `file` lines of a script.
+/// The most `file` lines and requests for `create` of a script.
 const MOST_FILES: usize = 64;
 
-/// The most `dir` lines of a script.
+/// The most `dir` lines and requests for `mkdir` of a script.
 const MOST_DIRS: usize = 64;
 
 /// What the input of a run is.
@@ -60,22 +60,36 @@ fn judge(alloc: Global, bytes: &[u8]) -> Result<Input, Memory>
     }
 }
 
-// How many `file` lines a script has.
+// How many lines and requests of a script make a file, or may.
 fn count_files(events: &[Event]) -> usize
     ensures { result ≡ count_by is_file events.now }
 {
-    events
-        .iter()
-        .filter(|event| matches!(event, Event::File { .. }))
-        .count()
+    events.iter().filter(|event| is_file(event)).count()
 }
 
-// How many `dir` lines a script has.
+// How many of them make a directory, or may.
 fn count_dirs(events: &[Event]) -> usize
     ensures { result ≡ count_by is_dir events.now }
 {
-    events
-        .iter()
-        .filter(|event| matches!(event, Event::Dir { .. }))
-        .count()
+    events.iter().filter(|event| is_dir(event)).count()
+}
+
+fn is_file(event: &Event) -> bool
+    ensures { result ≡ is_file event.now }
+{
+    match event {
+        Event::File { .. } => true,
+        Event::Req { op, .. } => matches!(op, ReqOp::Create { .. }),
+        _ => false,
+    }
+}
+
+fn is_dir(event: &Event) -> bool
+    ensures { result ≡ is_dir event.now }
+{
+    match event {
+        Event::Dir { .. } => true,
+        Event::Req { op, .. } => matches!(op, ReqOp::Mkdir { .. }),
+        _ => false,
+    }
 }

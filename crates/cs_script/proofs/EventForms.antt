@@ -61,10 +61,10 @@ lookup_form = record { word = codes "lookup"; fields = caller ∷ inode ∷ entr
 -- a request has its word behind its caller
 abbrev pub request_form : (w : List ℕ) → (list_all (λ b. nat_lt 32 b) w && nat_le (length w) 20) ≡ true → (ℕ → List ℕ → ReqOp) → Form
 request_form w plain op = record {
-    word = codes "req";
-    fields = caller ∷ keyword w plain ∷ inode ∷ entry_name ∷ [];
-    make = λ v. events.Req v.0 (op v.1.1.0 v.1.1.1.0);
-  }
+  word = codes "req";
+  fields = caller ∷ keyword w plain ∷ inode ∷ entry_name ∷ [];
+  make = λ v. events.Req v.0 (op v.1.1.0 v.1.1.1.0);
+}
 
 abbrev pub mkdir_req_form : Form
 mkdir_req_form = request_form (codes "mkdir") refl ops.Mkdir
@@ -80,10 +80,10 @@ lookup_req_form = request_form (codes "lookup") refl ops.Lookup
 
 abbrev pub rename_req_form : Form
 rename_req_form = record {
-    word = codes "req";
-    fields = caller ∷ keyword (codes "rename") refl ∷ inode ∷ entry_name ∷ entry_name ∷ [];
-    make = λ v. events.Req v.0 (ops.Rename v.1.1.0 v.1.1.1.0 v.1.1.1.1.0);
-  }
+  word = codes "req";
+  fields = caller ∷ keyword (codes "rename") refl ∷ inode ∷ entry_name ∷ entry_name ∷ [];
+  make = λ v. events.Req v.0 (ops.Rename v.1.1.0 v.1.1.1.0 v.1.1.1.1.0);
+}
 
 abbrev pub to_client_form : Form
 to_client_form = record { word = codes "toclient"; fields = []; make = λ v. events.ToClient }

@@ -234,9 +234,7 @@ fn is_later_client_word(word: &[u8]) -> bool
 fn is_later_server_word(word: &[u8]) -> bool
     ensures { result ≡ is_later_server_word word.now }
 {
-    word == b"drop".as_slice()
-        || word == b"reconnect".as_slice()
-        || word == b"failover".as_slice()
+    word == b"drop".as_slice() || word == b"reconnect".as_slice() || word == b"failover".as_slice()
 }
 
 fn is_later_word(word: &[u8]) -> bool

@@ -8,6 +8,10 @@ mod messages;
 #[cfg(test)]
 mod numbers;
 #[cfg(test)]
+mod operations;
+#[cfg(test)]
+mod requests;
+#[cfg(test)]
 mod setup;
 #[cfg(test)]
 mod snapshots;

@@ -1,7 +1,8 @@
 // Messages of the client, and records that become durable.
-ghost use Rattle.std.specs.Prelude.{◌≡◌, OnOk, false};
+ghost use Rattle.std.specs.Prelude.{◌≡◌, ◌+◌, ◌<◌, ◌≤◌, OnOk, false};
 ghost use Rattle.cs_laws.specs.Carried.{is_for_client};
 ghost use Rattle.cs_mds.specs.Served.{LogHolds};
+ghost use Rattle.cs_mds.specs.Views.{IsWhole};
 
 use crate::numbers::{ino, tid};
 use cs_bits::Caps;
@@ -19,17 +20,23 @@ const META: FileMeta = FileMeta {
     mode: 0o600,
 };
 
-// The answer to a message.
-fn delivered(
+// The answer to a message, before which requests made at most so many inodes.
+pub fn delivered(
     rt: &impl Abort,
     mds: &mut Mds,
     log: &mut MemLog,
+    made: u64,
     message: &Message,
     out: &mut MessageList,
 ) -> Result<Answer, Fail>
     requires kind { is_for_client message.now ≡ false }
+    requires whole { IsWhole mds.old }
+    requires few { mds.old.names.made ≤ made }
+    requires room { made < 1000 }
     requires log { LogHolds log.old.records log.old.durable mds.old }
-    ensures { OnOk result (LogHolds log.new.records log.new.durable mds.new) }
+    ensures whole { OnOk result (IsWhole mds.new) }
+    ensures few { OnOk result (mds.new.names.made ≤ made + 1) }
+    ensures log { OnOk result (LogHolds log.new.records log.new.durable mds.new) }
 {
     assert!(rt; message.fits());
     Ok(mds.step_message(message, log, out)?)
@@ -42,7 +49,7 @@ fn first_answer(rt: &impl Abort, alloc: Global, message: &Message) -> Result<Ans
     let mut log = MemLog::new(alloc);
     let mut out = MessageList::new(alloc);
     let mut mds = Mds::new(alloc)?;
-    delivered(rt, &mut mds, &mut log, message, &mut out)
+    delivered(rt, &mut mds, &mut log, 0, message, &mut out)
 }
 
 #[test]
@@ -75,10 +82,16 @@ fn flushed(
     rt: &impl Abort,
     mds: &mut Mds,
     log: &mut MemLog,
+    made: u64,
     out: &mut MessageList,
 ) -> Result<Answer, Fail>
-    requires { LogHolds log.old.records log.old.durable mds.old }
-    ensures { OnOk result (LogHolds log.new.records log.new.durable mds.new) }
+    requires whole { IsWhole mds.old }
+    requires few { mds.old.names.made ≤ made }
+    requires room { made < 1000 }
+    requires log { LogHolds log.old.records log.old.durable mds.old }
+    ensures whole { OnOk result (IsWhole mds.new) }
+    ensures few { OnOk result (mds.new.names.made ≤ made + 1) }
+    ensures log { OnOk result (LogHolds log.new.records log.new.durable mds.new) }
 {
     let message = Message::Flush {
         file: ino(100)?,
@@ -86,18 +99,21 @@ fn flushed(
         follows: Seq::zero(),
         meta: META,
     };
-    delivered(rt, mds, log, &message, out)
+    delivered(rt, mds, log, made, &message, out)
 }
 
 // The answer to a commit.
-fn committed(
+pub fn committed(
     rt: &impl Abort,
     mds: &mut Mds,
     log: &mut MemLog,
     out: &mut MessageList,
 ) -> Result<Answer, Fail>
-    requires { LogHolds log.old.records log.old.durable mds.old }
-    ensures { OnOk result (LogHolds log.new.records log.new.durable mds.new) }
+    requires whole { IsWhole mds.old }
+    requires log { LogHolds log.old.records log.old.durable mds.old }
+    ensures whole { OnOk result (IsWhole mds.new) }
+    ensures names { OnOk result (mds.new.names ≡ mds.old.names) }
+    ensures log { OnOk result (LogHolds log.new.records log.new.durable mds.new) }
 {
     assert!(rt; log.len() < 10_000);
     Ok(mds.commit(true, log, out)?)
@@ -110,11 +126,13 @@ fn flushed_twice(
     log: &mut MemLog,
     out: &mut MessageList,
 ) -> Result<(Answer, Answer, Answer), Fail>
-    requires { LogHolds log.old.records log.old.durable mds.old }
+    requires whole { IsWhole mds.old }
+    requires few { mds.old.names.made ≤ 0 }
+    requires log { LogHolds log.old.records log.old.durable mds.old }
 {
-    let first = flushed(rt, mds, log, out)?;
+    let first = flushed(rt, mds, log, 0, out)?;
     let commit = committed(rt, mds, log, out)?;
-    let again = flushed(rt, mds, log, out)?;
+    let again = flushed(rt, mds, log, 1, out)?;
     Ok((first, commit, again))
 }
 

@@ -17,5 +17,5 @@ pub fn snap(number: u64) -> Result<Snap, Fail>
 }
 
 pub fn tid(number: u64) -> Result<Tid, Fail> {
-    Ok(Tid::new(number).ok_or("no flush's number")?)
+    Ok(Tid::new(number).ok_or("no number of a flush or a request")?)
 }

@@ -341,8 +341,11 @@ next_unanswered p h run =
     let there : Member (length (requests h) + 1) (asked_tids (asked h))
     = subst (λ ts. Member (length (requests h) + 1) ts) i.client
     (member_left _ (reply_tids (replies h)) _ (reply_member (length (requests h) + 1) (replies h) had)) in
-    omega (arith, asked_next h (asked_alike p h run) (asked_settles p h run),
-    member_upto (λ t. t) 0 (length (requests h) + 1) (asked_tids (asked h)) (plain_rises 0 (asked_tids (asked h)) (asked_rise p h run)) there))
+    omega (
+      arith,
+      asked_next h (asked_alike p h run) (asked_settles p h run),
+      member_upto (λ t. t) 0 (length (requests h) + 1) (asked_tids (asked h)) (plain_rises 0 (asked_tids (asked h)) (asked_rise p h run)) there,
+    ))
   where
     same : (ts : List ℕ) → map (λ t. t) ts ≡ ts
     same [] = refl

@@ -150,7 +150,7 @@ module _ (p : ℕ) (h : List Entry) (run : IsRun p h) (v : ClientView) (i : Clie
   accepted (messages.FlushSnap f tid follows meta) first told = absurd (true≢false (sym told.0))
 
 pub client_accepts : (p : ℕ) (h : List Entry) (v : ClientView) (m : Message) (rest : List Message) → IsRun p h → ClientAt h v → to_client h ≡ m ∷ rest → Accepts v m
-client_accepts p h v m rest run i first = accepted p h run v i rest m first (told_known p h run m rest first)
+client_accepts p h v m rest run i first = accepted p h run v i rest m first (told_known p h m rest run first)
 
 -- The server
 

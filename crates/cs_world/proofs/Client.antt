@@ -93,6 +93,8 @@ table_then p h run _ _ call is = refl
 -- the leases on the entries that it names end
 leases_then : (e : Event) (a : Answer) (h : List Entry) (d : ℕ) (name : List ℕ) → is_call e ≡ true
     → lease_after e a d name (lease h d name) ≡ lease (record { event = e; answer = a } ∷ h) d name
+leases_then (events.Req c op) (answers.Sent tid) h d name call = refl
+leases_then (events.Req c op) _ h d name call = refl
 leases_then events.ToClient a h d name call = absurd (cc)
 leases_then _ _ h d name call = refl
 

@@ -14,7 +14,7 @@ use Rattle.cs_laws.specs.Made.{makes_dir, makes_file}
 use Rattle.cs_laws.specs.Runs.{CanFollow, IsRun, all_setup}
 use Rattle.cs_laws.specs.Tree.{is_directory}
 use Rattle.cs_client.specs.Answers.{call_answer}
-use Rattle.cs_client.specs.Calls.{Called, IsNewInode, IsNewTo, is_call}
+use Rattle.cs_client.specs.Calls.{Called, IsNewInode, IsNewTo, calls_store, is_call}
 use Rattle.cs_client.specs.Views.{ClientView}
 use Rattle.cs_mds.specs.Answers.{made_answer, served_answer}
 use Rattle.cs_mds.specs.Served.{Served}
@@ -76,6 +76,12 @@ pub made_new : (h : List Entry) (v : ClientView) (s : ServerView) (e : Event) �
 made_new h v s (events.Dir d q) all i t is made = new_inode_is h v s d q all i t made
 made_new h v s (events.File f q) all i t is made = new_inode_is h v s f q all i t made
 made_new h v s _ all i t is made = absurd (cc)
+
+-- it calls no store
+pub made_quiet : (e : Event) (a : Answer) → is_setup e ≡ true → calls_store e a ≡ false
+made_quiet (events.Dir d q) a is = refl
+made_quiet (events.File f q) a is = refl
+made_quiet _ a is = absurd (cc)
 
 made_says : (e : Event) (v : ClientView) (active : Bool) (head : ℕ → ℕ → ℕ) → is_setup e ≡ true → call_answer v active head e ≡ answers.Made
 made_says (events.Dir d q) v active head is = refl

@@ -121,7 +121,7 @@ module _ (p : ℕ) (h : List Entry) (run : IsRun p h) (v : ClientView) (i : Clie
       ∙ (at made (made_few (op_of t (requests h)) o)
       ∙ sym (λ k. row_is (knows k) (kept k) (homed k)))
     where
-      abbrev home_by : List Made → ℕ
+      home_by : List Made → ℕ
       home_by ms = home_with ms f (client_home h f)
 
       knows : client_knows later f ≡ (client_knows h f || makes_file f made)
@@ -144,7 +144,7 @@ module _ (p : ℕ) (h : List Entry) (run : IsRun p h) (v : ClientView) (i : Clie
           (λ k. Some (let r : ClientFile = record { inode = new_inode (same k) (path_context (i.tree.paths m.dir k) (i.realms k)); home = m.dir } in r))
           ∙ true_known (client_knows h f)
         where
-          abbrev made_row : ClientFile
+          made_row : ClientFile
           made_row = record { inode = new_inode f (path_context (client_path h m.dir) (realms h)); home = m.dir }
 
           true_known : (k : Bool) → Some made_row ≡ row_is (k || true) (new_inode f (path_context (client_path h m.dir) (realms h))) m.dir

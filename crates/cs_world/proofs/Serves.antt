@@ -5,7 +5,7 @@ use Rattle.std.proofs.lemmas.List.Folds.{list_any-append}
 use Rattle.std.specs.BTreeMap.{get}
 use Rattle.std.specs.Ordering.{nat_cmp}
 use Rattle.cs_parts.specs.Capabilities.{granted, revoked}
-use Rattle.cs_tree.specs.Directories.{path_of}
+use Rattle.cs_tree.specs.Directories.{depth_of, has_directory, inos, path_of}
 use Rattle.cs_laws.specs.declared.events.Event.{Event}
 use Rattle.cs_laws.specs.declared.events.Event.TheVariants as events
 use Rattle.cs_laws.specs.declared.answers.Answer.{Answer}
@@ -127,19 +127,19 @@ module _ (p : ℕ) (h : List Entry) (s t : ServerView) (e : Event) (a : Answer) 
     tree = record {
       known = λ d.
           c.tree.known d
-          ∙ (ap (λ ms. setup_dir_then e a d _ || makes_dir d ms) (line_makes e a is)
-          ∙ (or_none _
+          ∙ (ap (λ ms. setup_dir_then e a d (has_directory d s.tree) || makes_dir d ms) (line_makes e a is)
+          ∙ (or_none (setup_dir_then e a d (has_directory d s.tree))
           ∙ (ap (λ b. setup_dir_then e a d b) (i.tree.known d ∙ early_dir h all d)
           ∙ (dirs_then e a d (setup_dir h d) ∙ sym (early_dir later still d)))));
       paths = λ d. line_paths d ∙ sym (early_path later still d);
     };
     order =
         c.tree.order
-        ∙ (ap (λ ms. dirs_with ms (path_then e a (λ b. path_of s.tree b)) _) (line_makes e a is)
+        ∙ (ap (λ ms. dirs_with ms (path_then e a (λ b. path_of s.tree b)) (directories_then e a (λ d. depth_of t.tree d) (inos s.tree))) (line_makes e a is)
         ∙ ((λ k. directories_then e a (λ d. length (line_paths d k)) ((i.order ∙ early_dirs h all) k)) ∙ sym (early_dirs later still)));
     homes = λ f.
         c.homes f
-        ∙ (ap (λ ms. home_among ms f _) (line_makes e a is)
+        ∙ (ap (λ ms. home_among ms f (home_after e a f (get nat_cmp s.homes f))) (line_makes e a is)
         ∙ (ap (λ o. home_after e a f o) (i.homes f ∙ (λ k. cond (early_file h all f k) (Some (early_home h all f k)) None))
         ∙ (homes_then e a f (setup_file h f) (home h f)
         ∙ sym (λ k. cond (early_file later still f k) (Some (early_home later still f k)) None))));
@@ -233,7 +233,7 @@ module _ (h : List Entry) (s t : ServerView) (e : Event) (a : Answer) (q : List 
     tree = record {
       known = λ d.
           c.tree.known d
-          ∙ (ap (λ b. b || makes_dir d new) (no_dir e a d _ other ∙ i.tree.known d)
+          ∙ (ap (λ b. b || makes_dir d new) (no_dir e a d (has_directory d s.tree) other ∙ i.tree.known d)
           ∙ (or_assoc (is_directory h d) (makes_dir d (server_made h)) (makes_dir d new)
           ∙ (ap (λ b. is_directory h d || b) (sym (list_any-append (is_made_dir d) (server_made h) new))
           ∙ sym (λ k. ((d == 1) || added.dirs_stay h e a other d k) || makes_dir d (grown k)))));
@@ -241,12 +241,12 @@ module _ (h : List Entry) (s t : ServerView) (e : Event) (a : Answer) (q : List 
     };
     order =
         c.tree.order
-        ∙ ((λ k. dirs_with new (λ b. (no_path e a (λ j. path_of s.tree j) b other ∙ i.tree.paths b) k) ((no_order e a _ _ other ∙ i.order) k))
+        ∙ ((λ k. dirs_with new (λ b. (no_path e a (λ j. path_of s.tree j) b other ∙ i.tree.paths b) k) ((no_order e a (λ d. depth_of t.tree d) (inos s.tree) other ∙ i.order) k))
         ∙ (sym (dirs_append (server_made h) new (λ b. path h b) (directories h))
         ∙ sym (λ k. dirs_with (grown k) (λ b. added.paths_stay h e a other b k) (added.order_stays h e a other k))));
     homes = λ f.
         c.homes f
-        ∙ (ap (λ o. home_among new f o) (no_home e a f _ other ∙ i.homes f)
+        ∙ (ap (λ o. home_among new f o) (no_home e a f (get nat_cmp s.homes f) other ∙ i.homes f)
         ∙ (home_more new f (server_knows h f) (server_home h f) (makes_file f new) refl ∙ sym (known_now f)));
     names = c.names ∙ (ap (λ ns. names_then e a q ns) i.names ∙ (r.names (names h) ∙ sym (added.names_then h e a other)));
     caps = λ f. c.caps f ∙ ap (λ x. server_then e a f x) (i.caps f);

@@ -17,7 +17,7 @@ use Rattle.cs_laws.specs.Runs.{all_setup}
 use Rattle.cs_laws.specs.ServerKnows.{server_dir, server_dirs, server_home, server_knows, server_made, server_path}
 use Rattle.cs_laws.specs.Tree.{directories, home, is_directory, path, setup_dir}
 use Rattle.cs_mds.specs.Served.{names_on}
-use Rattle.cs_names.specs.declared.steps.TheVariants as steps
+use Rattle.cs_names.specs.declared.setup.SetupStep.TheVariants as steps
 use Rattle.cs_names.specs.Setup.{after_step, setup_step}
 use Rattle.cs_theorems.proofs.AsksRun.{quiet}
 

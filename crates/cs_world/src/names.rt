@@ -12,5 +12,6 @@ pub fn list_names(state: &State, dir: Ino) -> Result<Answer, Memory>
     requires { IsReady state.now }
     ensures { IfOk result (λ a. Steps state.now state.now (events.Names dir) a) }
 {
-    state.server.names(dir)
+    let answer = state.server.names(dir)?;
+    Ok(answer)
 }

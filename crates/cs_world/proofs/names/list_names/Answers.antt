@@ -9,7 +9,7 @@ returns c =
     let t = c.requires.parts in
     record {
       after = record {
-        answer = c.names.ensures ∙ names_answer_is s.pages (past s) s.server t.server c.args.dir;
+        answer = c.in_ok-answer.ensures ∙ names_answer_is s.pages (past s) s.server t.server c.args.dir;
         client = t.client;
         server = t.server;
         links = t.links;

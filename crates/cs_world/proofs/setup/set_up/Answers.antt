@@ -5,7 +5,7 @@ use Rattle.cs_client.specs.Answers.{head_byte}
 use Rattle.cs_mds.specs.Answers.{served_answer}
 use Rattle.cs_mds.specs.Served.{Served}
 use Rattle.cs_world.specs.Tables.{past}
-use Rattle.cs_world.proofs.Made.{made_steps, refused_steps, stands_none}
+use Rattle.cs_world.proofs.Made.{made_new, made_quiet, made_steps, refused_steps, stands_none}
 use Rattle.cs_world.proofs.Numbers.{has_numbers}
 use Rattle.cs_world.proofs.setup.set_up.Goals as goal
 
@@ -45,3 +45,13 @@ returns-in_default-clause-ok g c =
       entries = refl;
       pages = refl;
     }
+
+pub step_call-requires-clause-setup : goal.step_call-requires-clause-setup
+step_call-requires-clause-setup g c κs within =
+    let s = c.args.state.now in
+    let t = c.requires.ready.parts in
+    let made : answers.Made ≡ served_answer s.server c.args.event.now = rw c.in-Made.is at c.in_ok-answer.ensures.answer in
+    made_new (past s) s.client s.server c.args.event.now c.requires.first t.client t.server c.requires.setup made
+
+pub returns-in_ok-step_call-in-Made-clause-store : goal.returns-in_ok-step_call-in-Made-clause-store
+returns-in_ok-step_call-in-Made-clause-store g c = c.in_ok-step_call-in-Made.ensures.quiet (made_quiet c.args.event.now _ c.requires.setup)

@@ -1,6 +1,6 @@
 use Rattle.std.proofs.Common.{◌≡◌, ◌∙◌, ◌==◌, ◌<◌, Some, cond, length, nat_eq, [], ◌∷◌, ◌++◌, refl, sym, ap, subst, arith}
 use Rattle.std.specs.Map.{lookup}
-use Rattle.cs_laws.specs.Standing.{greatest_number, greatest_request, greatest_tid}
+use Rattle.cs_laws.specs.Standing.{greatest_request, greatest_tid}
 use Rattle.cs_records.specs.declared.index.Index.{Index}
 use Rattle.cs_records.specs.Flushed.{Flushed}
 use Rattle.cs_records.specs.Flushes.{flushed_in}
