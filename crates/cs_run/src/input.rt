@@ -64,36 +64,44 @@ fn judge(alloc: Global, bytes: &[u8]) -> Result<Input, Memory>
 fn count_files(events: &[Event]) -> usize
     ensures { result ≡ count_by is_file events.now }
 {
-    events
-        .iter()
-        .filter(|event| {
-            matches!(
-                event,
-                Event::File { .. }
-                    | Event::Req {
-                        op: ReqOp::Create { .. },
-                        ..
-                    }
-            )
-        })
-        .count()
+    let mut count = 0;
+    for event in events {
+        if is_file(event) {
+            count += 1;
+        }
+    }
+    count
 }
 
 // How many of them make a directory, or may.
 fn count_dirs(events: &[Event]) -> usize
     ensures { result ≡ count_by is_dir events.now }
 {
-    events
-        .iter()
-        .filter(|event| {
-            matches!(
-                event,
-                Event::Dir { .. }
-                    | Event::Req {
-                        op: ReqOp::Mkdir { .. },
-                        ..
-                    }
-            )
-        })
-        .count()
+    let mut count = 0;
+    for event in events {
+        if is_dir(event) {
+            count += 1;
+        }
+    }
+    count
+}
+
+fn is_file(event: &Event) -> bool
+    ensures { result ≡ is_file event.now }
+{
+    match event {
+        Event::File { .. } => true,
+        Event::Req { op, .. } => matches!(op, ReqOp::Create { .. }),
+        _ => false,
+    }
+}
+
+fn is_dir(event: &Event) -> bool
+    ensures { result ≡ is_dir event.now }
+{
+    match event {
+        Event::Dir { .. } => true,
+        Event::Req { op, .. } => matches!(op, ReqOp::Mkdir { .. }),
+        _ => false,
+    }
 }

@@ -1,0 +1,7 @@
+use Rattle.std.proofs.Common.{◌≡◌, count_by, take}
+use Rattle.cs_run.specs.Inputs.{is_file}
+use Rattle.cs_run.proofs.input.count_files.Given as goal
+
+-- so many of those so far
+abbrev pub invariant-loop-event : goal.invariant-loop-event
+invariant-loop-event l = l.count ≡ count_by is_file (take l.event-index l.fn.events)
