@@ -240,8 +240,13 @@
       for (const { bar } of this.seen(lane)) {
         const told = Math.min(open(bar.told), open(bar.to));
         const { tid, op } = bar.request;
-        this.labelled(bar.from, told, row.middle, 'asked', [`${tid} ${op.kind} ${op.name}`, `${tid} ${op.kind}`, String(tid)]);
-        if (told < Infinity && open(bar.to) > told) this.labelled(told, open(bar.to), row.middle, 'answered', bar.answer ? [answerText(bar.answer), bar.answer.word] : []);
+        const marks = [bar.recorded, bar.durable].filter((entry) => entry !== null).map((entry) => ({ entry }));
+        const asked = this.bar(bar.from, told, row.middle, BAR - 2, 'asked');
+        this.textBetween(asked, row.middle, [`${tid} ${op.kind} ${op.name}`, `${tid} ${op.kind}`, String(tid)], marks, this.palette.ink);
+        if (bar.told !== null && open(bar.to) > told) {
+          const answered = this.bar(told, open(bar.to), row.middle, BAR - 2, 'answered');
+          this.textBetween(answered, row.middle, [answerText(bar.answer), bar.answer.word], marks, this.palette.ink);
+        }
         if (this.cell < 12) continue;
         if (bar.recorded !== null) this.diamond(this.x(bar.recorded), row.middle, false, 'requests');
         if (bar.durable !== null) this.diamond(this.x(bar.durable), row.middle, true, 'requests');

@@ -13,6 +13,7 @@
   window.journalView = {
     counts: null, refused: null, errors: [], rowsDrawn: 0,
     get cursor() { return page.cursor; },
+    get drawn() { return page.picture ? [...page.picture.drawn] : []; },
     get differences() { return page.run ? page.run.differences : []; },
     load, go, drawNow, setCell,
   };

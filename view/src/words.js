@@ -12,7 +12,6 @@
     ['F', [['s', 256], ['x', 512], ['c', 1024], ['r', 2048], ['w', 4096], ['b', 8192], ['a', 16384], ['l', 32768]]],
   ];
   const AUTH_EXCL = 8;
-  const FILE_READ = 2048;
   const FILE_WRITE = 4096;
 
   function capsText(bits) {
@@ -127,7 +126,7 @@
     return values;
   }
 
-  const words = { Misread, FIELDS, formOf, fits, readForm, quoted, capsText, capsOf, covers, modeText, hexText, AUTH_EXCL, FILE_READ, FILE_WRITE };
+  const words = { Misread, FIELDS, formOf, fits, readForm, quoted, capsText, capsOf, covers, modeText, hexText, AUTH_EXCL, FILE_WRITE };
   root.JournalWords = words;
   if (typeof module !== 'undefined' && module.exports) module.exports = words;
 })(typeof globalThis !== 'undefined' ? globalThis : this);
