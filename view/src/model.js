@@ -373,12 +373,16 @@
   function whyTold(s, e, a) {
     const request = s.requests.get(a.tid);
     const lease = request && leaseBy(s, request, replyOf(a));
-    const more = lease ? ` The client has a lease on ${request.op.name} in directory ${request.op.directory} until ${lease.until} s.` : '';
+    const isAsked = request && OPERATIONS[request.op.kind].asks && a.ino !== undefined;
+    const more = lease ? ` It has a lease on ${leaseWords(s, request.op)} until ${lease.until} s.`
+      : isAsked ? ' It gets no lease, since a request that it sent later names the entry.' : '';
     const file = request && a.ino && request.op.kind === 'create' ? ` From now on the client knows file ${a.ino}.` : '';
     return `The client is told the answer to request ${a.tid}, whose record need not be durable yet. ${replyWords(s, a)}${file}${more}`;
   }
   // the forms of an answer that has that of a request at its end
   const replies = (prefix, answer) => Object.fromEntries(Object.keys(ANSWERS).map((form) => [`${prefix} ${form}`, answer]));
+  const whyUncovered = (s, e) => pathOf(s, fileOf(s, e.file).home).includes(s.snapshots.get(e.at).directory)
+    ? ', though its directory lies below: a directory on the way was made behind the snapshot, and a snapshot of that one was taken since' : '';
   const leaseWords = (s, e) => `the name ${e.name} in directory ${e.directory}`;
   const noReference = (s, e) => e.reference.kept
     ? `Caller 0 has no live reference ${e.reference.number}.`
@@ -601,7 +605,7 @@
       what: (e) => `What is recorded and stored of file ${e.file} ${stateName(e.at)}, with ${plural(e.length, 'byte')} from ${e.offset} on?`,
       answers: {
         unknown: { why: noFile },
-        nosnap: { why: (s, e) => s.snapshots.has(e.at) ? `Snapshot ${e.at} does not cover the file.` : `There is no snapshot ${e.at}.` },
+        nosnap: { why: (s, e) => s.snapshots.has(e.at) ? `Snapshot ${e.at} does not cover the file${whyUncovered(s, e)}.` : `There is no snapshot ${e.at}.` },
         gone: { why: (s, e) => `Snapshot ${e.at} is removed.` },
         pending: { why: whyShown },
         'size SIZE mtime T mode MODE bytes BYTES': { why: whyShown },

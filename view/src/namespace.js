@@ -17,7 +17,7 @@
 
   // the forms of ANSWER, and why it came
   const ANSWERS = {
-    missing: (op) => `There is no directory ${op.directory} any more or yet, or it has no entry ${op.name}.`,
+    missing: (op) => `Directory ${op.directory} does not stand, or has no entry ${op.name}.`,
     notdir: (op) => `${op.directory} is a file.`,
     exists: (op) => `Directory ${op.directory} has an entry ${op.newName || op.name} already.`,
     'made I': (op, answer) => `The name is free. The new ${op.kind === 'mkdir' ? 'directory' : 'file'} is inode ${answer.ino}.`,
