@@ -2,11 +2,14 @@
 // A further kind of row costs one method that draws it and one line in `layOut`.
 (function (root) {
   'use strict';
-  const { EVENTS, capsText, messageShort, recordShort } = root.JournalModel;
+  const { EVENTS, capsText, messageShort, recordShort, answerText } = root.JournalModel;
 
   const LABEL_WIDTH = 148;
   const FONT = '"Segoe UI", "Noto Sans", "DejaVu Sans", Arial, sans-serif';
-  const FAMILY = { cap: 'caps', capack: 'caps', snap: 'snaps', flush: 'flushes', flushack: 'flushes' };
+  const FAMILY = {
+    cap: 'caps', capack: 'caps', snap: 'snaps', flush: 'flushes', flushack: 'flushes', req: 'requests', unsafe: 'requests', safe: 'requests', unlease: 'requests',
+  };
+  const RECORD_FAMILY = { request: 'requests', flush: 'flushes', snapshot: 'snaps', removal: 'snaps' };
   const BAR = 18;
   const CLIENT = 40;  // where the client's and the server's lines are in the link's row
   const SERVER = 122;
@@ -54,6 +57,7 @@
       this.index();
       for (const caller of this.callers()) this.addCaller(caller);
       this.addRow(162, (row) => this.drawLink(row), '', { labels: [['client', CLIENT, 600], ['link', (CLIENT + SERVER) / 2, 400], ['server', SERVER, 600]] });
+      this.addLanes(this.run.tracks.leases.map((bar) => ({ from: bar.from, to: open(bar.to), bar })), 'leases', (row, lane) => this.drawLeases(row, lane));
       this.addRow(50, (row) => this.drawLog(row), 'server’s log');
       this.addRow(28, (row) => this.drawStore(row), 'object store');
       for (const track of this.run.tracks.files.values()) this.addFile(track);
@@ -86,20 +90,23 @@
       this.run.entries.forEach((entry, i) => {
         const { caller } = entry.event;
         if (caller === undefined) return;
-        if (!callers.has(caller)) callers.set(caller, { caller, bars: [], refused: [] });
+        if (!callers.has(caller)) callers.set(caller, { caller, bars: [], requests: [], hits: [], refused: [] });
         if (!EVENTS[entry.event.kind].answers[entry.answer.form].effect) callers.get(caller).refused.push({ entry: i + 1 });
       });
       for (const bar of this.run.tracks.references) callers.get(bar.reference.caller).bars.push(bar);
+      for (const bar of this.run.tracks.requests) callers.get(bar.request.caller).requests.push(bar);
+      for (const hit of this.run.tracks.hits) callers.get(hit.caller).hits.push(hit);
       return [...callers.values()].sort((a, b) => a.caller - b.caller);
     }
 
-    addCaller({ caller, bars, refused }) {
+    addCaller({ caller, bars, requests, hits, refused }) {
       const lanes = pack(bars.map((bar) => ({ from: bar.from, to: open(bar.to), bar })));
       const name = caller === 0 ? 'caller 0 (shared)' : `caller ${caller}`;
       const rows = Math.max(1, lanes.length);
       for (let i = 0; i < rows; i++) {
-        this.addRow(24, (row) => this.drawReferences(row, lanes[i] || [], i === 0 ? refused : []), i === 0 ? name : '');
+        this.addRow(24, (row) => this.drawReferences(row, lanes[i] || [], i === 0 ? refused : [], i === 0 ? hits : []), i === 0 ? name : '');
       }
+      this.addLanes(requests.map((bar) => ({ from: bar.from, to: open(bar.to), bar })), 'requests', (row, lane) => this.drawRequests(row, lane));
       this.height += 2;
     }
 
@@ -196,7 +203,7 @@
       if (n % step === 0 || step === 1) this.text(String(n), x, this.axisHeight - 11, { align: 'center', size: 11, colour: this.differsAt.has(n) ? this.palette.wrong : n === this.view.cursor ? this.palette.ink : this.palette.soft, weight: n === this.view.cursor || this.differsAt.has(n) ? 700 : 400 });
       if (this.cell < 16) return;
       const did = this.effectOf(entry);
-      const style = { size: 11.5, colour: did || entry.event.kind === 'show' ? this.palette.ink : this.palette.soft };
+      const style = { size: 11.5, colour: did || EVENTS[entry.event.kind].lane === 'store' ? this.palette.ink : this.palette.soft };
       if (this.cell >= 60) { this.text(entry.event.kind, x, 12, { ...style, align: 'center' }); return; }
       const { context } = this;
       context.save();
@@ -215,7 +222,7 @@
       return lane.slice(from, to);
     }
 
-    drawReferences(row, lane, refused) {
+    drawReferences(row, lane, refused, hits) {
       for (const { bar, from, to } of this.seen(lane)) {
         const writer = bar.reference.bits & 4096;
         const box = this.bar(from, to, row.middle, BAR, writer ? 'writer' : 'reader');
@@ -225,6 +232,29 @@
         for (const mark of marks) this.drawMark(mark, row.middle);
       }
       for (const { entry } of this.seenMarks(refused)) this.drawRefused(this.x(entry), row.middle);
+      for (const { entry } of this.seenMarks(hits)) this.drawMark({ entry, how: 'hit' }, row.middle);
+    }
+
+    // from its sending to its Safe: hatched till its answer is delivered, and with the entries of its record
+    drawRequests(row, lane) {
+      for (const { bar } of this.seen(lane)) {
+        const told = Math.min(open(bar.told), open(bar.to));
+        const { tid, op } = bar.request;
+        const marks = [bar.recorded, bar.durable].filter((entry) => entry !== null).map((entry) => ({ entry }));
+        const asked = this.bar(bar.from, told, row.middle, BAR - 2, 'asked');
+        this.textBetween(asked, row.middle, [`${tid} ${op.kind} ${op.name}`, `${tid} ${op.kind}`, String(tid)], marks, this.palette.ink);
+        if (bar.told !== null && open(bar.to) > told) {
+          const answered = this.bar(told, open(bar.to), row.middle, BAR - 2, 'answered');
+          this.textBetween(answered, row.middle, [answerText(bar.answer), bar.answer.word], marks, this.palette.ink);
+        }
+        if (this.cell < 12) continue;
+        if (bar.recorded !== null) this.diamond(this.x(bar.recorded), row.middle, false, 'requests');
+        if (bar.durable !== null) this.diamond(this.x(bar.durable), row.middle, true, 'requests');
+      }
+    }
+
+    drawLeases(row, lane) {
+      for (const { bar } of this.seen(lane)) this.labelled(bar.from, open(bar.to), row.middle, 'lease', [`${bar.key} is ${bar.lease.ino}`, bar.key, '…']);
     }
 
     seenMarks(marks) {
@@ -232,7 +262,7 @@
     }
 
     drawMark({ entry, how }, y) {
-      const letter = { write: 'W', read: 'R', mode: 'M' }[how];
+      const letter = { write: 'W', read: 'R', mode: 'M', hit: 'L' }[how];
       this.drawn.add('marks');
       const x = this.x(entry);
       if (this.cell < 16) { this.fill(x - 1, y - 6, 2, 12, this.palette.paper); return; }
@@ -342,7 +372,7 @@
       }
       for (const { record } of this.seen(this.logLane)) {
         const x = this.x(record.from);
-        const colour = record.body.kind === 'flush' ? palette.flushes : palette.snaps;
+        const colour = palette[RECORD_FAMILY[record.body.kind]];
         const text = this.cell < 26 ? '' : this.labelThatFits([recordShort(record.body).join(' '), recordShort(record.body)[0][0] + recordShort(record.body)[1]], this.cell - 4, 10.5);
         const half = text ? this.measure(text, 10.5) / 2 + 4 : 4;
         this.fill(x - half, upper - 9, half * 2, 18, palette.paper);
@@ -362,7 +392,7 @@
     }
 
     drawStore(row) {
-      if (!this.run.tracks.operations.length && !this.run.shows.length) this.text('no operations', LABEL_WIDTH + 8, row.middle, { size: 11, colour: this.palette.soft });
+      if (!this.run.tracks.operations.length && !this.run.shows.length && !this.run.lists.length) this.text('no operations', LABEL_WIDTH + 8, row.middle, { size: 11, colour: this.palette.soft });
       for (const op of this.seenMarks(this.run.tracks.operations)) {
         const x = this.x(op.entry);
         if (this.cell < 26) { this.fill(x - 1.5, row.middle - 6, 3, 12, this.palette.caps); continue; }
@@ -371,13 +401,14 @@
         this.text(text, x, row.middle, { align: 'center', size: 10.5, colour: this.palette.caps, most: 30 });
       }
       for (const show of this.seenMarks(this.run.shows)) this.drawShow(show, row.middle);
+      for (const list of this.seenMarks(this.run.lists)) this.drawShow(list, row.middle);
     }
 
     drawShow(show, y) {
       const x = this.x(show.entry);
       const colour = show.agrees ? this.palette.agrees : this.palette.wrong;
       this.drawn.add(show.agrees ? 'agrees' : 'wrong');
-        if (this.cell < 19) { this.fill(x - 1.5, y - 7, 3, 14, colour); return; }
+      if (this.cell < 19) { this.fill(x - 1.5, y - 7, 3, 14, colour); return; }
       this.disc(x, y, 8, this.palette.paper);
       this.ring(x, y, 8, colour);
       this.text(show.agrees ? '✓' : '≠', x, y + 0.5, { align: 'center', size: 11, weight: 700, colour });
@@ -419,7 +450,7 @@
         const short = span.label.replace(/ mtime.*/, '');
         this.textBetween(box, row.middle, [span.label, short, pending ? '…' : short.replace('size ', '')], this.seenMarks(state.shows), this.palette.ink);
       }
-      if (state.gone) this.text('removed', this.x(state.gone) + 5, row.middle, { size: 11, colour: this.palette.soft });
+      if (state.gone) this.text(state.why, this.x(state.gone) + 5, row.middle, { size: 11, colour: this.palette.soft });
       for (const show of this.seenMarks(state.shows)) this.drawShow(show, row.middle);
     }
 
@@ -475,7 +506,7 @@
       context.stroke();
     }
 
-    diamond(x, y, filled) {
+    diamond(x, y, filled, family = 'flushes') {
       const { context, palette } = this;
       this.drawn.add(filled ? 'isdurable' : 'recorded');
       context.beginPath();
@@ -484,9 +515,9 @@
       context.lineTo(x, y + 5);
       context.lineTo(x - 5, y);
       context.closePath();
-      context.fillStyle = filled ? palette.flushes : palette.paper;
+      context.fillStyle = filled ? palette[family] : palette.paper;
       context.fill();
-      context.strokeStyle = palette.flushes;
+      context.strokeStyle = palette[family];
       context.lineWidth = 1.3;
       context.stroke();
     }

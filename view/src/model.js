@@ -2,333 +2,18 @@
 // (crates/cs_laws/specs) say of each. No drawing, no browser: node loads it too.
 //
 // A further event costs a clause in EVENTS: its form, its answers, and for each answer its effect and why it came. A field of a
-// new kind costs one in FIELDS, a new kind of message one in MESSAGES.
+// new kind costs one in FIELDS, a new kind of message one in MESSAGES, an
+// operation that a request may ask for one in OPERATIONS, and an event whose answer is compared one in COMPUTED.
 (function (root) {
   'use strict';
 
-  // ---- sets of capabilities: bits as in Ceph's ceph_fs.h
-
-  const GROUPS = [
-    ['', [['p', 1]]],
-    ['A', [['s', 4], ['x', 8]]],
-    ['L', [['s', 16], ['x', 32]]],
-    ['X', [['s', 64], ['x', 128]]],
-    ['F', [['s', 256], ['x', 512], ['c', 1024], ['r', 2048], ['w', 4096], ['b', 8192], ['a', 16384], ['l', 32768]]],
-  ];
-  const AUTH_EXCL = 8;
-  const FILE_READ = 2048;
-  const FILE_WRITE = 4096;
-  const FIRST_MODE = 0o644;
+  const { Misread, formOf, fits, readForm, quoted, capsText, capsOf, modeText, hexText, AUTH_EXCL, FILE_WRITE } = root.JournalWords || require('./words.js');
+  const { OPERATIONS, ANSWERS, keyOf, keysNamed, answerText, namespaceAfter, listing, leaseOn } = root.JournalNames || require('./namespace.js');
+  const {
+    newState, copyState, fileOf, stands, pathOf, named, writersOf, usedOf, heldBack, isOpen, isWriting, metaOf, lastFlush, metaAt,
+    isSame, isSameRecord, withRealms, pathContext, standingContext, settledUpTo, headReasons, reasonsOf, refText, answerNow, COMPUTED,
+  } = root.JournalStates || require('./states.js');
   const OBJECT = 65536;
-
-  function capsText(bits) {
-    let text = '';
-    for (const [capital, letters] of GROUPS) {
-      const held = letters.filter(([, bit]) => bits & bit).map(([letter]) => letter).join('');
-      if (held) text += capital + held;
-    }
-    return text || '-';
-  }
-
-  function capsOf(text) {
-    let bits = 0;
-    let letters = GROUPS[0][1];
-    for (const character of text) {
-      const group = GROUPS.find(([capital]) => capital === character);
-      if (group) { letters = group[1]; continue; }
-      const letter = letters.find(([name]) => name === character);
-      if (letter) bits |= letter[1];
-    }
-    return capsText(bits) === text ? bits : null;
-  }
-
-  const covers = (bits, wanted) => (bits & wanted) === wanted;
-  const modeText = (mode) => mode.toString(8).padStart(4, '0');
-  const hexText = (bytes) => bytes.length ? Array.from(bytes, (b) => b.toString(16).padStart(2, '0')).join('') : '-';
-
-  // ---- fields: the words in capitals of a form
-
-  class Misread extends Error {}
-
-  const quoted = (word) => `‘${word.length > 40 ? word.slice(0, 40) + '…' : word}’`;
-
-  function number(name, least, most) {
-    return { name, read(word) {
-      if (!/^(0|[1-9][0-9]*)$/.test(word)) throw new Misread(`${quoted(word)} is no number (${name})`);
-      const value = Number(word);
-      if (value < least || value > most) throw new Misread(`${word} is outside ${least} to ${most} (${name})`);
-      return value;
-    } };
-  }
-
-  function spelled(name, what, pattern, value) {
-    return { name, read(word) {
-      if (!pattern.test(word)) throw new Misread(`${quoted(word)} is no ${what} (${name})`);
-      return value(word);
-    } };
-  }
-
-  const bytesOf = (word) => Uint8Array.from(word.match(/../g) || [], (pair) => parseInt(pair, 16));
-  const reference = number('reference', 0, 99999);
-  const MANY = Number.MAX_SAFE_INTEGER;
-
-  const FIELDS = {
-    C: number('caller', 0, 32),
-    F: number('file', 1, 99999),
-    D: number('directory', 1, 99999),
-    P: number('parent', 1, 99999),
-    T: number('time', 0, 4294967295),
-    R: { name: 'reference', read: (word) => word.startsWith('g') ? { kept: true, number: reference.read(word.slice(1)) } : { kept: false, number: reference.read(word) } },
-    S: number('snapshot', 1, 99999),
-    AT: { name: 'at', read: (word) => word === 'head' ? 'head' : FIELDS.S.read(word) },
-    END: number('end', 0, 1048576),
-    MAX: number('max', 0, 1048576),
-    OFF: number('offset', 0, 1048575),
-    LEN: number('length', 1, 4096),
-    SEQ: number('seq', 0, MANY),
-    TID: number('tid', 0, MANY),
-    FOLLOWS: number('follows', 0, MANY),
-    NUMBER: number('number', 0, MANY),
-    MADE: number('made', 0, MANY),
-    COUNT: number('count', 0, MANY),
-    SIZE: number('size', 0, MANY),
-    BITS: { name: 'bits', read(word) {
-      const bits = capsOf(word);
-      if (bits === null) throw new Misread(`${quoted(word)} is no set of capabilities (bits)`);
-      return bits;
-    } },
-    MODE: spelled('mode', 'mode of four octal digits', /^[0-7]{4}$/, (word) => parseInt(word, 8)),
-    NAME: spelled('name', 'name of a snapshot', /^[a-z0-9][a-z0-9_.-]{0,31}$/, (word) => word),
-    HEX: spelled('bytes', 'text of bytes', /^([0-9a-f]{2}){1,1024}$/, bytesOf),
-    BYTES: spelled('bytes', 'text of bytes', /^(-|([0-9a-f]{2})+)$/, (word) => word === '-' ? new Uint8Array(0) : bytesOf(word)),
-  };
-
-  const compiled = new Map();
-  function formOf(text) {
-    if (!compiled.has(text)) {
-      compiled.set(text, text.split(' ').map((word) => /^[A-Z]+$/.test(word) ? { field: FIELDS[word], word } : { literal: word }));
-    }
-    return compiled.get(text);
-  }
-
-  const fits = (form, words) => form.length === words.length && form.every((part, i) => !part.literal || part.literal === words[i]);
-
-  function readForm(form, words) {
-    const values = {};
-    form.forEach((part, i) => { if (part.field) values[part.field.name] = part.field.read(words[i]); });
-    return values;
-  }
-
-  // ---- states
-
-  const newFile = (f) => ({
-    number: f, home: 1, known: false,
-    server: { given: 0, held: 0, seq: 0, max: 0 },
-    client: { issued: 0, implemented: 0, seq: 0, acked: 0, max: 0 },
-    context: { seq: 0, snaps: [] },
-    writes: [], mode: FIRST_MODE, dirty: 0,
-    queued: [],       // cap snaps that aren't sent, the oldest first
-    unacked: [],      // flushes that were sent and aren't acknowledged
-    acked: new Set(), // their numbers, once they are
-    recorded: [],     // standing records of flushes
-  });
-
-  const rootRecord = () => ({ realm: 1, parent: null, seq: 0, own: [] });
-
-  const newState = () => ({
-    index: 0, clock: 0,
-    paths: new Map([[1, [1]]]), order: [1], files: new Map(),
-    begun: new Map(), live: [],
-    toClient: [], toServer: [], messages: 0,
-    records: [], durable: 0, snapshots: new Map(), names: new Map(), greatest: 0,
-    standing: new Map([[1, rootRecord()]]), atCommit: new Map([[1, rootRecord()]]),
-    lastSent: new Map([[1, rootRecord()]]), realms: new Map([[1, rootRecord()]]),
-    flushes: 0, operations: 0, capSnaps: 0,
-  });
-
-  function copyState(state) {
-    const copy = { ...state };
-    for (const key of Object.keys(copy)) {
-      if (Array.isArray(copy[key])) copy[key] = copy[key].slice();
-      else if (copy[key] instanceof Map) copy[key] = new Map(copy[key]);
-    }
-    for (const [f, file] of copy.files) {
-      copy.files.set(f, { ...file, writes: file.writes.slice(), queued: file.queued.slice(), unacked: file.unacked.slice(), acked: new Set(file.acked), recorded: file.recorded.slice() });
-    }
-    return copy;
-  }
-
-  function fileOf(state, f) {
-    if (!state.files.has(f)) state.files.set(f, newFile(f));
-    return state.files.get(f);
-  }
-
-  const knows = (state, f) => state.files.has(f) && state.files.get(f).known;
-  const pathOf = (state, d) => state.paths.get(d) || [1];
-  const isOf = (r, caller, number) => r.caller === caller && r.number === number;
-  const named = (state, caller, name) => state.live.find((r) => isOf(r, name.kept ? 0 : caller, name.number));
-  const isWriter = (r, f) => r.file === f && covers(r.bits, FILE_WRITE);
-  const writersOf = (state, f) => state.live.filter((r) => isWriter(r, f));
-  const usedOf = (state, f) => state.live.reduce((bits, r) => r.file === f ? bits | r.bits : bits, 0) | fileOf(state, f).dirty;
-  const heldBack = (state, f) => fileOf(state, f).client.implemented & ~fileOf(state, f).client.issued & usedOf(state, f);
-  const isOpen = (state, snap) => snap.writers.some((w) => state.live.some((r) => isOf(r, w.caller, w.number)));
-  const isWriting = (state, f) => fileOf(state, f).queued.some((snap) => isOpen(state, snap));
-
-  // ---- writes and metadata
-
-  function metaOf(writes, mode) {
-    let size = 0;
-    for (const w of writes) size = Math.max(size, w.offset + w.bytes.length);
-    return { size, mtime: writes.length ? writes[writes.length - 1].time : 0, mode };
-  }
-
-  // the bytes from a place on that these writes left, up to a size; the newest write stands last
-  function bytesWithin(size, writes, offset, length) {
-    const count = Math.max(0, Math.min(length, size - offset));
-    const bytes = new Uint8Array(count);
-    const filled = new Uint8Array(count);
-    let left = count;
-    for (let i = writes.length - 1; i >= 0 && left > 0; i--) {
-      const w = writes[i];
-      const from = Math.max(w.offset, offset);
-      const to = Math.min(w.offset + w.bytes.length, offset + count);
-      for (let place = from; place < to; place++) {
-        if (filled[place - offset]) continue;
-        filled[place - offset] = 1;
-        bytes[place - offset] = w.bytes[place - w.offset];
-        left--;
-      }
-    }
-    return bytes;
-  }
-
-  const isBefore = (at, seq) => at === 'head' || seq < at;
-
-  // of the file's recorded flushes from before the state, the one that follows the greatest number, and of those the last
-  function lastFlush(state, f, at) {
-    let best = null;
-    for (const x of fileOf(state, f).recorded) {
-      if (!isBefore(at, x.follows)) continue;
-      if (!best || x.follows > best.follows || (x.follows === best.follows && x.tid > best.tid)) best = x;
-    }
-    return best;
-  }
-
-  function metaAt(state, f, at) {
-    const flush = lastFlush(state, f, at);
-    return flush ? flush.meta : { size: 0, mtime: 0, mode: FIRST_MODE };
-  }
-
-  // ---- realms and contexts
-
-  const isSame = (a, b) => a.length === b.length && a.every((x, i) => x === b[i]);
-  const isSameRecord = (a, b) => a && a.parent === b.parent && a.seq === b.seq && (a.own === b.own || isSame(a.own, b.own));
-
-  // the records of all realms, once this record of the log stands too; each realm's own snapshots stand the newest first
-  function withRealms(state, table, body) {
-    const own = new Map([...table].map(([d, r]) => [d, r]));
-    if (body.kind === 'snapshot') {
-      const was = own.get(body.directory) || { own: [] };
-      own.set(body.directory, { realm: body.directory, parent: null, seq: body.number, own: [body.number, ...was.own] });
-    } else if (body.kind === 'removal') {
-      for (const [d, r] of own) {
-        if (r.own.includes(body.snapshot)) own.set(d, { ...r, seq: body.number, own: r.own.filter((s) => s !== body.snapshot) });
-      }
-    }
-    for (const [d, r] of own) {
-      const parent = pathOf(state, d).slice(1).find((e) => own.has(e)) ?? null;
-      if (parent !== r.parent) own.set(d, { ...r, parent });
-    }
-    return own;
-  }
-
-  // the numbers of both lists, the greatest first, each once
-  function descending(own, others) {
-    if (!others.length && own.every((s, i) => i === 0 || s < own[i - 1])) return own;
-    return [...new Set([...own, ...others])].sort((a, b) => b - a);
-  }
-
-  function contextOf(table, d, known = new Map()) {
-    if (known.has(d)) return known.get(d);
-    const r = table.get(d);
-    const above = r.parent !== null && table.has(r.parent) && r.parent !== d ? contextOf(table, r.parent, known) : { seq: 0, snaps: [] };
-    const context = { seq: Math.max(r.seq, above.seq), snaps: descending(r.own, above.snaps) };
-    known.set(d, context);
-    return context;
-  }
-
-  function pathContext(path, table, known) {
-    const d = path.find((e) => table.has(e));
-    return d === undefined ? { seq: 0, snaps: [] } : contextOf(table, d, known);
-  }
-
-  // the contexts that were computed of a table of realms, which is never changed in place
-  const contextsOf = new WeakMap();
-
-  function standingContext(state, f) {
-    if (!contextsOf.has(state.standing)) contextsOf.set(state.standing, new Map());
-    return pathContext(pathOf(state, fileOf(state, f).home), state.standing, contextsOf.get(state.standing));
-  }
-
-  const coversFile = (state, f, s) => standingContext(state, f).snaps.includes(s);
-
-  // ---- what is owed (Owed): each of its reasons has the shape "a number below the snapshot's", so a snapshot is owed exactly
-  // where it is above the least of these numbers
-
-  function settledUpTo(state, f) {
-    const file = fileOf(state, f);
-    if (!file.known) return -1;
-    let least = file.context.seq;
-    for (const r of state.live) if (isWriter(r, f)) least = Math.min(least, r.tag);
-    for (const x of file.queued) least = Math.min(least, x.follows);
-    for (const x of file.unacked) least = Math.min(least, x.follows);
-    return least;
-  }
-
-  function headReasons(state, f) {
-    const file = fileOf(state, f);
-    const reasons = [];
-    if (!file.known) reasons.push('the client does not know the file');
-    const writers = writersOf(state, f);
-    if (writers.length) reasons.push(`${writers.map(refText).join(' and ')} may still write`);
-    if (file.dirty) reasons.push(`changed metadata (${capsText(file.dirty)}) is not sent`);
-    if (file.queued.length) reasons.push('a cap snap is not sent');
-    if (file.unacked.length) reasons.push(`flush ${file.unacked.map((x) => x.tid).join(', ')} is not acknowledged`);
-    return reasons;
-  }
-
-  function snapReasons(state, f, s) {
-    const file = fileOf(state, f);
-    const reasons = [];
-    if (!file.known) reasons.push('the client does not know the file');
-    if (file.context.seq < s) reasons.push(`the client was not told of snapshot ${s}`);
-    const writers = writersOf(state, f).filter((r) => r.tag < s);
-    if (writers.length) reasons.push(`${writers.map(refText).join(' and ')}, begun before it was told, may still write`);
-    if (file.queued.some((x) => x.follows < s)) reasons.push('a cap snap from then is not sent');
-    const unacked = file.unacked.filter((x) => x.follows < s);
-    if (unacked.length) reasons.push(`flush ${unacked.map((x) => x.tid).join(', ')} is not acknowledged`);
-    return reasons;
-  }
-
-  const reasonsOf = (state, f, at) => at === 'head' ? headReasons(state, f) : snapReasons(state, f, at);
-  const refText = (r) => `reference ${r.number} of caller ${r.caller}`;
-
-  // the answer to a `show` (answer_show)
-  function computeShow(state, e) {
-    const word = (text) => ({ word: text, text });
-    if (!knows(state, e.file)) return word('unknown');
-    if (e.at !== 'head') {
-      const snapshot = state.snapshots.get(e.at);
-      if (!snapshot) return word('nosnap');
-      if (snapshot.removed) return word('gone');
-      if (!coversFile(state, e.file, e.at)) return word('nosnap');
-    }
-    if (reasonsOf(state, e.file, e.at).length) return word('pending');
-    const meta = metaAt(state, e.file, e.at);
-    const writes = fileOf(state, e.file).writes.filter((w) => isBefore(e.at, w.tag));
-    const bytes = bytesWithin(meta.size, writes, e.offset, e.length);
-    return { word: 'size', meta, bytes, text: `size ${meta.size} mtime ${meta.mtime} mode ${modeText(meta.mode)} bytes ${hexText(bytes)}` };
-  }
 
   // ---- messages and records
 
@@ -338,11 +23,21 @@
     flushack: { short: (m) => ['flushack', m.tid], words: (m) => `flush ${m.tid} of file ${m.file} is durable` },
     capack: { short: (m) => ['ack', m.seq], words: (m) => `acknowledgement of message ${m.seq} of file ${m.file}: only ${capsText(m.bits)} is kept` },
     flush: { short: (m) => ['flush', m.flush.tid], words: (m) => `flush ${m.flush.tid} of file ${m.flush.file}` },
+    req: { short: (m) => ['req', m.tid], words: (m) => `request ${m.tid}: ${OPERATIONS[m.op.kind].words(m.op)}` },
+    unsafe: { short: (m) => ['unsafe', m.tid], words: (m) => `the answer to request ${m.tid}: ${answerText(m.answer)}` },
+    safe: { short: (m) => ['safe', m.tid], words: (m) => `the record of request ${m.tid} is durable` },
+    unlease: { short: (m) => ['unlease', m.name], words: (m) => `the lease on ${m.name} in directory ${m.directory} ends` },
   };
   const messageWords = (m) => MESSAGES[m.kind].words(m);
   const messageShort = (m) => MESSAGES[m.kind].short(m);
-  const recordShort = (r) => r.kind === 'flush' ? ['flush', r.flush.tid] : r.kind === 'snapshot' ? ['snap', r.number] : ['removal', r.number];
-  const recordWords = (r) => r.kind === 'flush' ? `flush ${r.flush.tid}` : r.kind === 'snapshot' ? `snapshot ${r.number}` : `removal ${r.number}`;
+  const RECORDS = {
+    request: { short: (r) => ['req', r.tid], words: (r) => `request ${r.tid}` },
+    flush: { short: (r) => ['flush', r.flush.tid], words: (r) => `flush ${r.flush.tid}` },
+    snapshot: { short: (r) => ['snap', r.number], words: (r) => `snapshot ${r.number}` },
+    removal: { short: (r) => ['removal', r.number], words: (r) => `removal ${r.number}` },
+  };
+  const recordShort = (r) => RECORDS[r.kind].short(r);
+  const recordWords = (r) => RECORDS[r.kind].words(r);
 
   function send(state, queue, message, trace) {
     const sent = { ...message, id: state.messages++ };
@@ -358,7 +53,7 @@
 
   function record(state, body, trace) {
     state.records.push(body);
-    if (body.kind !== 'flush') {
+    if (body.kind === 'snapshot' || body.kind === 'removal') {
       state.standing = withRealms(state, state.standing, body);
       state.greatest = Math.max(state.greatest, body.number);
     }
@@ -372,9 +67,120 @@
     state.order = [...state.paths.keys()].sort((a, b) => pathOf(state, a).length - pathOf(state, b).length || a - b);
   }
 
-  function makeFile(state, e, a, trace) {
-    Object.assign(fileOf(state, e.file), { known: true, home: e.parent, context: pathContext(pathOf(state, e.parent), state.realms) });
+  const enter = (state, directory, name, ino, isDirectory) => state.entries.set(keyOf(directory, name), { directory, name, ino, isDirectory });
+
+  function setUpDirectory(state, e) {
+    makeDirectory(state, e);
+    enter(state, e.parent, `d${e.directory}`, e.directory, true);
+  }
+
+  function setUpFile(state, e, a, trace) {
+    Object.assign(fileOf(state, e.file), { stands: true, home: e.parent });
+    enter(state, e.parent, `f${e.file}`, e.file, false);
+    learnFile(state, e.file, e.parent, trace);
     trace.made(e.file);
+  }
+
+  // the client knows the file from now on; its context is that of its directory, by what the client was told
+  function learnFile(state, f, directory, trace) {
+    Object.assign(fileOf(state, f), { known: true, home: directory, context: pathContext(pathOf(state, directory), state.realms) });
+    trace.touch(f);
+  }
+
+  // what the answer to a request says, behind the number of it
+  const replyOf = (a) => ({ word: a.form.split(' ')[2], ino: a.ino });
+
+  function endLease(state, key, trace) {
+    state.leases.delete(key);
+    trace.leaseEnded(key);
+  }
+
+  function sendRequest(state, e, a, trace) {
+    const request = { tid: a.tid, caller: e.caller, op: e.op };
+    state.requests.set(a.tid, request);
+    for (const key of keysNamed(e.op)) {
+      state.namedLast.set(key, a.tid);
+      endLease(state, key, trace);
+    }
+    trace.asked(request);
+    send(state, state.toServer, { kind: 'req', tid: a.tid, op: e.op }, trace);
+  }
+
+  // the server makes what the answer says; a directory, behind the snapshots that were taken before
+  function makeInode(state, op, answer, trace) {
+    if (answer.word !== 'made') return;
+    if (op.kind === 'create') {
+      Object.assign(fileOf(state, answer.ino), { stands: true, home: op.directory });
+      trace.made(answer.ino);
+    } else if (op.kind === 'mkdir' && !state.paths.has(answer.ino)) {
+      makeDirectory(state, { directory: answer.ino, parent: op.directory });
+      state.since.set(answer.ino, state.greatest + 1);
+    }
+  }
+
+  function receiveRequest(state, e, a, trace) {
+    const answer = replyOf(a);
+    const message = deliver(state.toServer, `req ${a.tid} ${answerText(answer)}`, trace);
+    if (!message || message.kind !== 'req') return;
+    const computed = answerNow(state, message.op);
+    state.entries = namespaceAfter(state.entries, message.op, computed);
+    if (computed.word === 'made') state.made++;
+    state.answered.set(a.tid, answer);
+    makeInode(state, message.op, answer, trace);
+    record(state, { kind: 'request', tid: a.tid, op: message.op, answer }, trace);
+    send(state, state.toClient, { kind: 'unsafe', tid: a.tid, answer }, trace);
+  }
+
+  // a request that came again is answered again, and told to be durable where its record is
+  function receiveAgain(state, e, a, trace) {
+    const answer = replyOf(a);
+    deliver(state.toServer, `reqdup ${a.tid} ${answerText(answer)}`, trace);
+    send(state, state.toClient, { kind: 'unsafe', tid: a.tid, answer }, trace);
+    if (state.records.slice(0, state.durable).some((r) => r.kind === 'request' && r.tid === a.tid)) send(state, state.toClient, { kind: 'safe', tid: a.tid }, trace);
+  }
+
+  // the lease that an answer gives, where no later request named the entry
+  function leaseBy(state, request, answer) {
+    const { op, tid } = request;
+    const isAsked = OPERATIONS[op.kind].asks && answer.ino !== undefined;
+    return isAsked && state.namedLast.get(keyOf(op.directory, op.name)) <= tid ? leaseOn(answer, state.clock) : null;
+  }
+
+  function deliverUnsafe(state, e, a, trace) {
+    const answer = replyOf(a);
+    deliver(state.toClient, `unsafe ${a.tid} ${answerText(answer)}`, trace);
+    const request = state.requests.get(a.tid);
+    if (!request) return;
+    const isFirst = !state.replied.has(a.tid);
+    state.replied.add(a.tid);
+    if (isFirst && answer.word === 'made' && request.op.kind === 'create') learnFile(state, answer.ino, request.op.directory, trace);
+    const lease = leaseBy(state, request, answer);
+    const key = keyOf(request.op.directory, request.op.name);
+    if (lease) {
+      state.leases.set(key, lease);
+      trace.leased(key, lease);
+    }
+    trace.replied(a.tid, answer);
+  }
+
+  function deliverSafe(state, e, a, trace) {
+    deliver(state.toClient, `safe ${a.tid}`, trace);
+    state.saved.add(a.tid);
+    trace.saved(a.tid);
+  }
+
+  function deliverUnlease(state, e, a, trace) {
+    deliver(state.toClient, `unlease ${a.directory} ${a.name}`, trace);
+    endLease(state, keyOf(a.directory, a.name), trace);
+  }
+
+  function sendUnlease(state, e, a, trace) {
+    send(state, state.toClient, { kind: 'unlease', directory: e.directory, name: e.name }, trace);
+  }
+
+  function passTime(state, e, a, trace) {
+    state.clock = a.time;
+    for (const [key, lease] of state.leases) if (lease.until <= a.time) trace.leaseEnded(key);
   }
 
   function begin(state, e, a, trace) {
@@ -538,6 +344,10 @@
 
   function commit(state, e, a, trace) {
     for (const r of state.records.slice(state.durable)) {
+      if (r.kind === 'request') {
+        send(state, state.toClient, { kind: 'safe', tid: r.tid }, trace);
+        continue;
+      }
       if (r.kind === 'flush') {
         send(state, state.toClient, { kind: 'flushack', file: r.flush.file, tid: r.flush.tid }, trace);
         continue;
@@ -553,7 +363,27 @@
 
   // ---- why an answer came
 
-  const noFile = (s, e) => `No file ${e.file} was made.`;
+  const noFile = (s, e) => stands(s, e.file) ? `The client has not been told of file ${e.file} yet.` : `No file ${e.file} was made.`;
+  const noDirectory = (s, e) => `There is no directory ${e.directory}.`;
+  // what the answer to a request means, by the operation that it asked for
+  const replyWords = (s, a) => {
+    const request = s.requests.get(a.tid);
+    return request ? ANSWERS[a.form.split(' ').slice(2).join(' ')](request.op, replyOf(a)) : 'No such request was sent.';
+  };
+  function whyTold(s, e, a) {
+    const request = s.requests.get(a.tid);
+    const lease = request && leaseBy(s, request, replyOf(a));
+    const isAsked = request && OPERATIONS[request.op.kind].asks && a.ino !== undefined;
+    const more = lease ? ` It has a lease on ${leaseWords(s, request.op)} until ${lease.until} s.`
+      : isAsked ? ' It gets no lease, since a request that it sent later names the entry.' : '';
+    const file = request && a.ino && request.op.kind === 'create' ? ` From now on the client knows file ${a.ino}.` : '';
+    return `The client is told the answer to request ${a.tid}, whose record need not be durable yet. ${replyWords(s, a)}${file}${more}`;
+  }
+  // the forms of an answer that has that of a request at its end
+  const replies = (prefix, answer) => Object.fromEntries(Object.keys(ANSWERS).map((form) => [`${prefix} ${form}`, answer]));
+  const whyUncovered = (s, e) => pathOf(s, fileOf(s, e.file).home).includes(s.snapshots.get(e.at).directory)
+    ? ', though its directory lies below: a directory on the way was made behind the snapshot, and a snapshot of that one was taken since' : '';
+  const leaseWords = (s, e) => `the name ${e.name} in directory ${e.directory}`;
   const noReference = (s, e) => e.reference.kept
     ? `Caller 0 has no live reference ${e.reference.number}.`
     : `Caller ${e.caller} has no live reference ${e.reference.number}.`;
@@ -586,14 +416,14 @@
   });
 
   const EVENTS = {
-    dir: { form: 'dir D P', setup: true, lane: 'both', what: (e) => `Directory ${e.directory} stands in directory ${e.parent}.`, answers: setupAnswers(makeDirectory) },
-    file: { form: 'file F P', setup: true, lane: 'both', what: (e) => `File ${e.file} stands in directory ${e.parent}.`, answers: setupAnswers(makeFile) },
+    dir: { form: 'dir D P', setup: true, lane: 'both', what: (e) => `Directory ${e.directory} stands in directory ${e.parent}.`, answers: setupAnswers(setUpDirectory) },
+    file: { form: 'file F P', setup: true, lane: 'both', what: (e) => `File ${e.file} stands in directory ${e.parent}.`, answers: setupAnswers(setUpFile) },
     clock: {
       form: 'clock T', lane: 'both',
       what: (e) => `The time is to become ${e.time} seconds.`,
       answers: {
         back: { why: (s) => `It is ${s.clock} already, and time never goes back.` },
-        'now T': { effect: (state, e, a) => { state.clock = a.time; }, why: () => 'Writes from here on have this time.' },
+        'now T': { effect: passTime, why: () => 'Writes from here on have this time.' },
       },
     },
     begin: {
@@ -676,6 +506,23 @@
         'flushsnap TID FOLLOWS': { effect: flushSnap, why: (s, e, a) => `Its size and time are fixed. It goes as flush ${a.tid}, and follows ${a.follows ? `number ${a.follows}` : 'no earlier snapshot'}.` },
       },
     },
+    lookup: {
+      form: 'lookup C D NAME', lane: 'callers',
+      what: (e) => `Caller ${e.caller} looks up the name ${e.name} in directory ${e.directory}, without a message.`,
+      answers: {
+        absent: { why: (s, e) => `The client has no lease on ${leaseWords(s, e)}: none was given, or a request named the entry since, or the server ended it.` },
+        'expired UNTIL': { why: (s, e, a) => `Its lease on ${leaseWords(s, e)} was until ${a.until} s, and it is ${s.clock} s.` },
+        'hit I': { effect: (state, e, a, trace) => trace.hit(e.caller), why: (s, e, a) => `The client has a lease on it, until ${(s.leases.get(keyOf(e.directory, e.name)) || {}).until ?? 'a time that this page does not find'} s, and so knows the inode: ${a.ino}.` },
+      },
+    },
+    req: {
+      forms: Object.entries(OPERATIONS).map(([kind, operation]) => `req C ${kind} ${operation.form}`), lane: 'client',
+      more: (words, e) => ({ op: { kind: words[2], directory: e.directory, name: e.name, newName: e.newName } }),
+      what: (e) => `The client sends a request of caller ${e.caller}, which asks for ${OPERATIONS[e.op.kind].words(e.op)}.`,
+      answers: {
+        'sent TID': { effect: sendRequest, why: (s, e, a) => `It is request ${a.tid}. A lease of the client on an entry that it names ends here, since the request may change what it says.` },
+      },
+    },
     toclient: {
       form: 'toclient', lane: 'client',
       what: () => 'The oldest message on its way to the client is delivered.',
@@ -684,6 +531,9 @@
         'cap F SEQ BITS MAX': { effect: deliverCap, why: (s, e, a) => `It is message ${a.seq} of file ${a.file}: from now on ${capsText(a.bits)} is issued, and the file may grow to ${a.max}.` },
         'snap NUMBER D MADE': { effect: deliverSnap, why: (s, e, a) => `The client hears of number ${a.number}, of the snapshots of directory ${a.directory}. ${plural(a.made, 'file')} got a cap snap, being open for writing or dirty.` },
         'flushack F TID': { effect: deliverFlushAck, why: (s, e, a) => `The client hears that flush ${a.tid} of file ${a.file} is durable at the server.` },
+        ...replies('unsafe TID', { effect: deliverUnsafe, why: whyTold }),
+        'safe TID': { effect: deliverSafe, why: (s, e, a) => `The client hears that the record of request ${a.tid} is durable at the server. The request is over.` },
+        'unlease D NAME': { effect: deliverUnlease, why: (s, e, a) => `The client gives up its lease on ${leaseWords(s, a)}${s.leases.has(keyOf(a.directory, a.name)) ? '' : ', and it has none'}.` },
       },
     },
     tomds: {
@@ -695,6 +545,8 @@
           ? `It acknowledges the last message of file ${a.file}, so the server now takes ${capsText(a.bits)} for held.`
           : `It acknowledges message ${a.seq}, and message ${fileOf(s, a.file).server.seq} was sent since: what is held stays ${capsText(a.bits)}.` },
         'flushed F TID': { effect: receiveFlush, why: (s, e, a) => `The server makes a record of flush ${a.tid}. It is not durable before a commit.` },
+        ...replies('req TID', { effect: receiveRequest, why: (s, e, a) => `The server does request ${a.tid}, makes a record of it with its answer, and sends the answer. ${replyWords(s, a)}` }),
+        ...replies('reqdup TID', { effect: receiveAgain, why: (s, e, a) => `Request ${a.tid} came before. The server does nothing, and sends the answer that it has kept.` }),
       },
     },
     grant: {
@@ -717,7 +569,7 @@
       form: 'snap D NAME', lane: 'server',
       what: (e) => `The server takes a snapshot of directory ${e.directory}, named ${e.name}.`,
       answers: {
-        unknown: { why: (s, e) => `There is no directory ${e.directory}.` },
+        unknown: { why: noDirectory },
         exists: { why: (s, e) => `Directory ${e.directory} has a snapshot of this name.` },
         'snap NUMBER': { effect: takeSnapshot, why: (s, e, a) => `It is snapshot ${a.number}. Its record is not durable before a commit, and the client is not told before that.` },
       },
@@ -729,6 +581,14 @@
         nosnap: { why: (s, e) => `There is no snapshot ${e.snapshot}.` },
         gone: { why: () => 'It was removed before.' },
         'removed S NUMBER': { effect: removeSnapshot, why: (s, e, a) => `The removal draws number ${a.number}. From now on the snapshot shows nothing.` },
+      },
+    },
+    unlease: {
+      form: 'unlease D NAME', lane: 'server',
+      what: (e) => `The server ends the client's lease on the name ${e.name} in directory ${e.directory}.`,
+      answers: {
+        unknown: { why: noDirectory },
+        sent: { effect: sendUnlease, why: () => 'A message tells the client, which looks up by its lease till the message is delivered.' },
       },
     },
     commit: {
@@ -745,10 +605,18 @@
       what: (e) => `What is recorded and stored of file ${e.file} ${stateName(e.at)}, with ${plural(e.length, 'byte')} from ${e.offset} on?`,
       answers: {
         unknown: { why: noFile },
-        nosnap: { why: (s, e) => s.snapshots.has(e.at) ? `Snapshot ${e.at} does not cover the file.` : `There is no snapshot ${e.at}.` },
+        nosnap: { why: (s, e) => s.snapshots.has(e.at) ? `Snapshot ${e.at} does not cover the file${whyUncovered(s, e)}.` : `There is no snapshot ${e.at}.` },
         gone: { why: (s, e) => `Snapshot ${e.at} is removed.` },
         pending: { why: whyShown },
         'size SIZE mtime T mode MODE bytes BYTES': { why: whyShown },
+      },
+    },
+    names: {
+      form: 'names D', lane: 'store',
+      what: (e) => `Which names stand in directory ${e.directory}?`,
+      answers: {
+        unknown: { why: noDirectory },
+        'names LIST': { why: (s, e) => `They are those that the lines before the run and the delivered requests left, in the order of their bytes: ${listing(s.entries, e.directory)}.` },
       },
     },
   };
@@ -785,9 +653,12 @@
   function parseEvent(words) {
     const kind = words[0];
     if (!Object.hasOwn(EVENTS, kind)) throw new Misread(`${quoted(kind)} is no event that this page knows`);
-    const form = formOf(EVENTS[kind].form);
-    if (!fits(form, words)) throw new Misread(`${kind} has ${plural(form.length - 1, 'field')} (${EVENTS[kind].form}), here are ${words.length - 1}`);
+    const forms = EVENTS[kind].forms || [EVENTS[kind].form];
+    const form = forms.map(formOf).find((one) => fits(one, words));
+    if (!form) throw new Misread(forms.length > 1 ? `${quoted(words.join(' '))} is none of ${forms.join(', ')}`
+      : `${kind} has ${plural(formOf(forms[0]).length - 1, 'field')} (${forms[0]}), here are ${words.length - 1}`);
     const event = { kind, ...readForm(form, words) };
+    if (EVENTS[kind].more) Object.assign(event, EVENTS[kind].more(words, event));
     const wrong = EVENTS[kind].check && EVENTS[kind].check(event);
     if (wrong) throw new Misread(wrong);
     return event;
@@ -837,7 +708,7 @@
   }
 
   const nothing = () => {};
-  const SILENT = Object.fromEntries(['sent', 'delivered', 'recorded', 'begun', 'ended', 'used', 'stored', 'touch', 'made', 'flushed', 'flushAcked', 'queued', 'snapshot', 'removed', 'committed'].map((name) => [name, nothing]));
+  const SILENT = Object.fromEntries(['sent', 'delivered', 'recorded', 'begun', 'ended', 'used', 'stored', 'touch', 'made', 'flushed', 'flushAcked', 'queued', 'snapshot', 'removed', 'committed', 'asked', 'replied', 'saved', 'hit', 'leased', 'leaseEnded'].map((name) => [name, nothing]));
 
   // values over time: each span has its value from entry `from` on, before entry `to`
   class Band {
@@ -859,12 +730,12 @@
 
   const newFileTrack = (f, home) => ({
     file: f, home, held: new Band(), given: new Band(), issued: new Band(), heldBack: new Band(), dirty: new Band(),
-    capSnaps: [], flushes: [], head: { at: 'head', band: new Band(), shows: [] }, states: [], settled: null,
+    capSnaps: [], flushes: [], head: { at: 'head', band: new Band(), shows: [] }, states: [], covered: new Map(), settled: null,
   });
 
   // what the entries did, as things with a beginning and an end, for the drawing
   class Trace {
-    constructor(run) { this.run = run; this.touched = new Set(); this.byMessage = new Map(); this.byFlush = new Map(); this.bySnap = new Map(); this.byReference = new Map(); }
+    constructor(run) { this.run = run; this.touched = new Set(); this.byMessage = new Map(); this.byFlush = new Map(); this.bySnap = new Map(); this.byReference = new Map(); this.byRequest = new Map(); this.byLease = new Map(); }
     get now() { return this.run.now; }
     track(f) {
       const { files } = this.run.tracks;
@@ -872,7 +743,10 @@
       return files.get(f);
     }
     touch(f) { this.touched.add(f); }
-    made(f) { this.touch(f); }
+    made(f) {
+      this.touch(f);
+      this.cover(f);
+    }
     sent(message, towards) {
       const arrow = { message: { ...message, realms: undefined }, towards, from: this.now, to: null };
       this.byMessage.set(message.id, arrow);
@@ -883,20 +757,57 @@
       const towards = this.run.entries[this.now - 1].event.kind === 'toclient' ? 'client' : 'server';
       this.run.counts[towards === 'client' ? 'deliveredToClient' : 'deliveredToServer']++;
       if (message) this.byMessage.get(message.id).to = this.now;
-      const wanted = message ? deliveryText(message) : 'idle';
+      const wanted = message ? deliveryText(message, this.run.state) : 'idle';
       if (wanted !== said) this.run.differences.push({ entry: this.now, kind: 'delivery', computed: wanted, journal: said });
     }
-    recorded(body, place) { this.run.tracks.records.push({ body, place, from: this.now, durable: null }); if (body.kind === 'flush') this.mark(body.flush, 'recorded'); }
+    recorded(body, place) {
+      this.run.tracks.records.push({ body, place, from: this.now, durable: null });
+      this.mark(body, 'recorded');
+      if (body.kind === 'request' && body.answer.word === 'made') this.run.counts.made++;
+    }
     committed(durable) {
       const { records, commits } = this.run.tracks;
       const before = commits.length ? commits[commits.length - 1].durable : 0;
       for (let i = before; i < durable; i++) {
         records[i].durable = this.now;
-        if (records[i].body.kind === 'flush') this.mark(records[i].body.flush, 'durable');
+        this.mark(records[i].body, 'durable');
       }
       commits.push({ entry: this.now, durable, count: durable - before });
     }
-    mark(flush, phase) { const bar = this.byFlush.get(flush); if (bar) bar[phase] = this.now; }
+    mark(body, phase) {
+      const bar = body.kind === 'request' ? this.byRequest.get(body.tid) : this.byFlush.get(body.flush);
+      if (bar) bar[phase] = this.now;
+    }
+    asked(request) {
+      const bar = { request, from: this.now, recorded: null, durable: null, told: null, answer: null, to: null };
+      this.byRequest.set(request.tid, bar);
+      this.run.tracks.requests.push(bar);
+      this.run.counts.requests++;
+    }
+    replied(tid, answer) {
+      const bar = this.byRequest.get(tid);
+      this.run.counts.replies++;
+      if (bar && bar.told === null) Object.assign(bar, { told: this.now, answer });
+    }
+    saved(tid) {
+      const bar = this.byRequest.get(tid);
+      this.run.counts.saved++;
+      if (bar && bar.to === null) bar.to = this.now;
+    }
+    hit(caller) {
+      this.run.tracks.hits.push({ entry: this.now, caller });
+      this.run.counts.hits++;
+    }
+    leased(key, lease) {
+      this.leaseEnded(key);
+      const bar = { key, lease, from: this.now, to: null };
+      this.byLease.set(key, bar);
+      this.run.tracks.leases.push(bar);
+    }
+    leaseEnded(key) {
+      if (this.byLease.has(key)) this.byLease.get(key).to = this.now;
+      this.byLease.delete(key);
+    }
     begun(r) {
       const bar = { reference: r, from: this.now, to: null, marks: [] };
       this.byReference.set(r, bar);
@@ -921,27 +832,34 @@
       if (open) { open.sent = this.now; open.bar = bar; }
       this.track(flush.file).flushes.push(bar);
     }
-    flushAcked(flush) { this.mark(flush, 'acked'); }
+    flushAcked(flush) { this.mark({ flush }, 'acked'); }
     queued(f, snap) {
       const bar = { snap, from: this.now, ready: isOpen(this.run.state, snap) ? null : this.now, sent: null, bar: null };
       this.bySnap.set(snap, bar);
       this.track(f).capSnaps.push(bar);
     }
-    snapshot(s) {
-      for (const file of this.run.state.files.values()) {
-        if (!file.known || !coversFile(this.run.state, file.number, s)) continue;
-        const track = this.track(file.number);
-        track.states.push({ at: s, band: new Band(), shows: [], gone: null });
-        this.setState(track, track.states[track.states.length - 1]);
+    snapshot() { this.coverAll(); }
+    removed() { this.coverAll(); }
+    coverAll() { for (const file of this.run.state.files.values()) if (file.stands) this.cover(file.number); }
+    // a bar for each snapshot that covers a file, as long as it does
+    cover(f) {
+      const track = this.track(f);
+      const covering = new Set(standingContext(this.run.state, f).snaps);
+      for (const bar of track.covered.values()) if (!covering.has(bar.at)) this.uncover(track, bar);
+      for (const at of [...covering].reverse()) {
+        if (track.covered.has(at)) continue;
+        const bar = { at, band: new Band(), shows: [], gone: null, why: '' };
+        track.covered.set(at, bar);
+        track.states.push(bar);
+        this.setState(track, bar);
       }
     }
-    removed(s) {
-      for (const track of this.run.tracks.files.values()) {
-        const bar = track.states.find((x) => x.at === s);
-        if (!bar || bar.gone !== null) continue;
-        bar.gone = this.now;
-        bar.band.close(this.now);
-      }
+    uncover(track, bar) {
+      const snapshot = this.run.state.snapshots.get(bar.at);
+      track.covered.delete(bar.at);
+      bar.gone = this.now;
+      bar.why = snapshot && snapshot.removed ? 'removed' : 'no longer covers it';
+      bar.band.close(this.now);
     }
     setState(track, bar) {
       if (bar.gone !== undefined && bar.gone !== null) return;
@@ -976,17 +894,21 @@
     }
   }
 
-  function deliveryText(m) {
+  function deliveryText(m, state) {
     switch (m.kind) {
       case 'cap': return `cap ${m.file} ${m.seq} ${capsText(m.bits)} ${m.max}`;
       case 'snap': return `snap ${m.number} ${m.directory}`;
       case 'flushack': return `flushack ${m.file} ${m.tid}`;
       case 'capack': return `capack ${m.file} ${m.seq}`;
+      case 'req': return state.answered.has(m.tid) ? `reqdup ${m.tid} ${answerText(state.answered.get(m.tid))}` : `req ${m.tid} ${answerText(answerNow(state, m.op))}`;
+      case 'unsafe': return `unsafe ${m.tid} ${answerText(m.answer)}`;
+      case 'safe': return `safe ${m.tid}`;
+      case 'unlease': return `unlease ${m.directory} ${m.name}`;
       default: return `flushed ${m.flush.file} ${m.flush.tid}`;
     }
   }
 
-  const newCounts = () => ({ entries: 0, sentToClient: 0, sentToServer: 0, deliveredToClient: 0, deliveredToServer: 0, begun: 0, ended: 0, shows: 0, showsAgreeing: 0, pendingSpans: 0, pendingEntries: 0, records: 0, durable: 0, operations: 0, differences: 0 });
+  const newCounts = () => ({ entries: 0, sentToClient: 0, sentToServer: 0, deliveredToClient: 0, deliveredToServer: 0, begun: 0, ended: 0, shows: 0, showsAgreeing: 0, pendingSpans: 0, pendingEntries: 0, records: 0, durable: 0, operations: 0, requests: 0, replies: 0, saved: 0, made: 0, lookups: 0, hits: 0, lists: 0, differences: 0 });
   const CHECKPOINT = 500;
 
   // A run: the entries of a journal with all that was computed of them, once. `stateAt(n)` is the state after n entries.
@@ -996,7 +918,8 @@
       this.counts = newCounts();
       this.differences = [];
       this.shows = [];
-      this.tracks = { arrows: [], references: [], records: [], commits: [], operations: [], files: new Map() };
+      this.lists = [];
+      this.tracks = { arrows: [], references: [], records: [], commits: [], operations: [], requests: [], leases: [], hits: [], files: new Map() };
       this.checkpoints = [];
       this.fold();
       this.cached = copyState(this.checkpoints[0]);
@@ -1008,7 +931,7 @@
       this.entries.forEach((entry, i) => {
         if (i % CHECKPOINT === 0) this.checkpoints.push(copyState(this.state));
         this.now = i + 1;
-        if (entry.event.kind === 'show') this.compare(entry, trace);
+        if (Object.hasOwn(COMPUTED, entry.event.kind)) this.compare(entry, trace);
         apply(this.state, entry, trace);
         trace.settle();
       });
@@ -1016,15 +939,24 @@
       this.count();
     }
 
+    // the journal's answer beside the one that is computed
     compare(entry, trace) {
-      const computed = computeShow(this.state, entry.event).text;
+      const { kind } = entry.event;
+      const computed = COMPUTED[kind](this.state, entry.event);
       const agrees = computed === entry.answerText;
-      const show = { entry: this.now, file: entry.event.file, at: entry.event.at, computed, journal: entry.answerText, agrees };
+      if (!agrees) this.differences.push({ entry: this.now, kind, computed, journal: entry.answerText });
+      if (kind === 'show') this.shown(entry, { computed, agrees }, trace);
+      else if (kind === 'names') this.lists.push({ entry: this.now, agrees });
+      else if (kind === 'lookup') this.counts.lookups++;
+    }
+
+    shown(entry, { computed, agrees }, trace) {
+      const { file, at } = entry.event;
+      const show = { entry: this.now, file, at, computed, journal: entry.answerText, agrees };
       this.shows.push(show);
-      if (!agrees) this.differences.push({ entry: this.now, kind: 'show', computed, journal: entry.answerText });
-      if (!knows(this.state, entry.event.file)) return;
-      const track = trace.track(entry.event.file);
-      const bar = entry.event.at === 'head' ? track.head : track.states.find((x) => x.at === entry.event.at);
+      if (!stands(this.state, file)) return;
+      const track = trace.track(file);
+      const bar = at === 'head' ? track.head : track.covered.get(at) || track.states.find((x) => x.at === at);
       if (bar) bar.shows.push(show);
     }
 
@@ -1036,6 +968,7 @@
       counts.records = state.records.length;
       counts.durable = state.durable;
       counts.operations = state.operations;
+      counts.lists = this.lists.length;
       counts.differences = this.differences.length;
       const isPending = (span) => span.value === 'pending';
       for (const track of tracks.files.values()) {
@@ -1077,6 +1010,9 @@
       lines.push(['On its way to the server', s.toServer.map((m) => messageShort(m).join(' ')).join(', ') || 'nothing']);
       lines.push(['Log', `${plural(s.records.length, 'record')}, ${s.durable} durable`]);
       lines.push(['Store', plural(s.operations, 'operation')]);
+      const open = [...s.requests.values()].filter((r) => !s.saved.has(r.tid));
+      if (s.requests.size) lines.push(['Open requests', open.length ? shortened(open.map((r) => `${r.tid} ${r.op.kind}${s.replied.has(r.tid) ? ' (answered)' : ''}`)) : 'none']);
+      if (s.leases.size) lines.push(['Leases', shortened([...s.leases].map(([key, lease]) => `${key} is ${lease.ino} until ${lease.until} s${lease.until <= s.clock ? ' (expired)' : ''}`))]);
       lines.push(['Live references', s.live.length ? shortened(s.live.map((r) => `${r.caller}/${r.number} ${capsText(r.bits)} of ${r.file}`)) : 'none']);
       return lines;
     }
@@ -1095,7 +1031,7 @@
 
   const shortened = (list) => list.length > 6 ? `${list.slice(0, 6).join(', ')} and ${list.length - 6} more` : list.join(', ');
 
-  const model = { Run, NoJournal, EVENTS, parse, capsText, capsOf, modeText, hexText, messageShort, messageWords, recordShort, recordWords };
+  const model = { Run, NoJournal, answerText, EVENTS, parse, capsText, capsOf, modeText, hexText, messageShort, messageWords, recordShort, recordWords };
   root.JournalModel = model;
   if (typeof module !== 'undefined' && module.exports) module.exports = model;
 })(typeof globalThis !== 'undefined' ? globalThis : this);

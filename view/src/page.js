@@ -13,6 +13,7 @@
   window.journalView = {
     counts: null, refused: null, errors: [], rowsDrawn: 0,
     get cursor() { return page.cursor; },
+    get drawn() { return page.picture ? [...page.picture.drawn] : []; },
     get differences() { return page.run ? page.run.differences : []; },
     load, go, drawNow, setCell,
   };
@@ -72,10 +73,10 @@
   function palette() {
     const style = getComputedStyle(document.documentElement);
     const colours = {};
-    for (const name of ['paper', 'ink', 'soft', 'faint', 'cursor', 'caps', 'snaps', 'flushes', 'agrees', 'wrong']) colours[name] = variable(style, name);
+    for (const name of ['paper', 'ink', 'soft', 'faint', 'cursor', 'caps', 'snaps', 'flushes', 'requests', 'agrees', 'wrong']) colours[name] = variable(style, name);
     colours.onStrong = variable(style, 'on-strong');
     colours.bars = {};
-    for (const kind of ['writer', 'reader', 'held', 'issued', 'heldback', 'dirty', 'writing', 'tosend', 'flush', 'pending', 'settled', 'durable']) {
+    for (const kind of ['writer', 'reader', 'held', 'issued', 'heldback', 'dirty', 'writing', 'tosend', 'flush', 'pending', 'settled', 'durable', 'asked', 'answered', 'lease']) {
       colours.bars[kind] = { fill: variable(style, kind), edge: variable(style, `${kind}-edge`), hatch: variable(style, `${kind}-hatch`) };
     }
     return colours;
@@ -205,6 +206,7 @@
       `${page.name}: ${counts.entries} ${counts.entries === 1 ? 'entry' : 'entries'}`,
       `messages: ${counts.sentToClient} to the client, ${counts.sentToServer} to the server, ${underWay} still under way`,
       `references: ${counts.begun} begun, ${counts.ended} ended`,
+      ...(counts.requests ? [`requests: ${counts.requests} sent, ${counts.replies} answered, ${counts.saved} safe`] : []),
       `${counts.durable} of ${counts.records} records durable`,
       counts.shows ? `${counts.showsAgreeing} of ${counts.shows} show lines as computed` : 'no show lines',
     ];
@@ -232,11 +234,15 @@
     ['caps', 'arrow', 'color: var(--caps)', 'message about capabilities'],
     ['snaps', 'arrow', 'color: var(--snaps)', 'news of a snapshot or removal'],
     ['flushes', 'arrow', 'color: var(--flushes)', 'flush, or its acknowledgement'],
+    ['requests', 'arrow', 'color: var(--requests)', 'request, its answer, its Safe; end of a lease'],
     ['underway', 'arrow under-way', '', 'under way at the end'],
     ['refused', 'round small', 'border-color: var(--soft)', 'refused: changes nothing'],
     ['writer', '', plain('writer'), 'reference with Fw'],
     ['reader', '', plain('reader'), 'other reference'],
-    ['marks', 'round', 'border-color: var(--soft)', 'on a reference: W writes, R reads, M changes the mode', 'W'],
+    ['marks', 'round', 'border-color: var(--soft)', 'on a caller’s lane: W writes, R reads, M changes the mode, L looks up by a lease', 'W'],
+    ['asked', '', hatched('asked'), 'request, till its answer is delivered'],
+    ['answered', '', plain('answered'), 'answered, till its Safe'],
+    ['lease', '', plain('lease'), 'lease on a name'],
     ['held', '', plain('held'), 'held, as the server counts'],
     ['issued', '', plain('issued'), 'issued'],
     ['heldback', '', hatched('heldback'), 'held back: taken back, still in use'],
@@ -249,8 +255,8 @@
     ['durable', '', plain('durable'), 'durable records'],
     ['pending', '', hatched('pending'), 'pending'],
     ['settled', '', plain('settled'), 'settled: its contents'],
-    ['agrees', 'round', 'color: var(--agrees); border-color: var(--agrees)', 'show: as computed', '✓'],
-    ['wrong', 'round', 'color: var(--wrong); border-color: var(--wrong)', 'show: differs', '≠'],
+    ['agrees', 'round', 'color: var(--agrees); border-color: var(--agrees)', 'show or names: as computed', '✓'],
+    ['wrong', 'round', 'color: var(--wrong); border-color: var(--wrong)', 'show or names: differs', '≠'],
   ];
 
   // all of it, or, on a picture, what was drawn
