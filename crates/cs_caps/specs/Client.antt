@@ -7,10 +7,6 @@ use Rattle.cs_parts.specs.Capabilities.{acknowledged, is_complete, held_back}
 use Rattle.cs_caps.specs.declared.client.Done.{Done}
 use Rattle.cs_caps.specs.declared.client.Done.TheVariants.{Ack, Hold, Nothing}
 
--- a new session has no message and no acknowledgement yet
-abbrev pub restarted : ClientCaps → ClientCaps
-restarted c = record { issued = c.issued; implemented = c.implemented; seq = 0; acked = 0; max = c.max }
-
 -- nothing where all is acknowledged; else the client waits while it uses bits that were taken back
 abbrev pub completion : ClientCaps → Caps → Done
 completion c used =

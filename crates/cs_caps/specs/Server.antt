@@ -7,7 +7,3 @@ use Rattle.cs_parts.specs.declared.capabilities.ServerCaps.{ServerCaps}
 abbrev pub acked_by : ServerCaps → ℕ → Caps → ServerCaps
 acked_by s seq bits =
     if seq == s.seq then record { given = s.given; held = bits; seq = s.seq; max = s.max } else s
-
--- what a client reports in a new session
-abbrev pub adopted : Caps → Caps → ℕ → ServerCaps
-adopted issued implemented end = record { given = issued; held = implemented; seq = 0; max = end }

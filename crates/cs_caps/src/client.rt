@@ -1,8 +1,8 @@
 // The client's end, after the capabilities documentation of CephFS and the comments of Linux's
 // fs/ceph/caps.c.
 ghost use Rattle.std.specs.Prelude.{◌≡◌};
-ghost use Rattle.cs_parts.specs.Capabilities.{no_client_caps, delivered};
-ghost use Rattle.cs_caps.specs.Client.{restarted, completion, completed, GivesUpUnused, LeavesNothing};
+ghost use Rattle.cs_parts.specs.Capabilities.{no_client_caps, delivered, restarted};
+ghost use Rattle.cs_caps.specs.Client.{completion, completed, GivesUpUnused, LeavesNothing};
 
 use cs_bits::Caps;
 use cs_ids::Seq;

@@ -1,8 +1,8 @@
 // The server's end, after the capabilities documentation of CephFS and the comments of Linux's
 // fs/ceph/caps.c.
 ghost use Rattle.std.specs.Prelude.{◌≡◌, ◌<◌};
-ghost use Rattle.cs_parts.specs.Capabilities.{no_server_caps, granted, revoked};
-ghost use Rattle.cs_caps.specs.Server.{acked_by, adopted};
+ghost use Rattle.cs_parts.specs.Capabilities.{adopted, no_server_caps, granted, revoked};
+ghost use Rattle.cs_caps.specs.Server.{acked_by};
 
 use cs_bits::Caps;
 use cs_ids::Seq;

@@ -23,6 +23,7 @@ use Rattle.std.specs.List.{list_any}
 use Rattle.cs_laws.specs.declared.answers.Why.TheVariants as why
 use Rattle.cs_laws.specs.declared.messages.Message.{Message}
 use Rattle.cs_laws.specs.declared.messages.Message.TheVariants as messages
+use Rattle.cs_snapctx.specs.declared.realm.RealmRecord.{RealmRecord}
 use Rattle.cs_snapctx.specs.Context.{Context}
 use Rattle.cs_snapctx.specs.Records.{with_records}
 use Rattle.cs_laws.specs.CapSnaps.{CapSnap, is_open, is_writing, makes}
@@ -38,8 +39,11 @@ use Rattle.cs_laws.specs.Leases.{lease, looked_up}
 use Rattle.cs_laws.specs.Metadata.{meta_at}
 use Rattle.cs_laws.specs.Names.{listed, names}
 use Rattle.cs_laws.specs.Namespace.{Names, answer_on, has_dir}
+use Rattle.cs_laws.specs.Flushes.{acked}
 use Rattle.cs_laws.specs.Owed.{owed}
+use Rattle.cs_laws.specs.Reports.{capped, open_requests, unretired}
 use Rattle.cs_laws.specs.Requests.{requests}
+use Rattle.cs_laws.specs.Sessions.{client_state, is_active, is_client_active, is_client_broken, server_state}
 use Rattle.cs_laws.specs.Shown.{writes_at}
 use Rattle.cs_laws.specs.Tree.{is_directory}
 use Rattle.cs_laws.specs.Standing.{answer_kept, greatest_number, greatest_request, greatest_tid, has_snap, has_snap_named, is_removed}
@@ -127,14 +131,19 @@ answer_check_of c in_use =
     else answers.Hold (held_back c in_use)
 
 abbrev pub answer_check : List Entry → ℕ → Answer
-answer_check h f = if client_knows h f then answer_check_of (client h f) (used h f) else answers.Unknown
+answer_check h f =
+    if client_knows h f then
+    (if is_client_active (client_state h) then answer_check_of (client h f) (used h f) else answers.Again why.Session)
+    else answers.Unknown
 
 abbrev pub answer_flush : List Entry → ℕ → Answer
 answer_flush h f =
     if client_knows h f then
+    (if is_client_active (client_state h) then
     (if is_writing (live h) (queued h f) then answers.Again why.Snap
     else if is_empty (dirty h f) then answers.Clean
     else answers.Flush (length (sent h) + 1))
+    else answers.Again why.Session)
     else answers.Unknown
 
 -- the first unsent cap snap of a file; count: how many flushes were sent
@@ -143,12 +152,19 @@ answer_flush_snaps_of rs count [] = answers.NoneQueued
 answer_flush_snaps_of rs count (x ∷ xs) = if is_open rs x then answers.Writing else answers.FlushSnap (count + 1) x.follows
 
 abbrev pub answer_flush_snaps : List Entry → ℕ → Answer
-answer_flush_snaps h f = if client_knows h f then answer_flush_snaps_of (live h) (length (sent h)) (queued h f) else answers.Unknown
+answer_flush_snaps h f =
+    if client_knows h f then
+    (if is_client_active (client_state h) then answer_flush_snaps_of (live h) (length (sent h)) (queued h f) else answers.Again why.Session)
+    else answers.Unknown
 
 -- how many of these files get a cap snap where they have new contexts
 abbrev pub count_made : List Entry → (ℕ → Context) → List ℕ → ℕ
 count_made h new [] = 0
 count_made h new (f ∷ fs) = (if makes f (context h f) (new f) (live h) (dirty h f) (queued h f) then 1 else 0) + count_made h new fs
+
+-- and where they have those of these realm records more
+abbrev pub count_told : List Entry → List RealmRecord → ℕ
+count_told h realms_told = count_made h (λ f. path_context (client_file_path h f) (with_records realms_told (realms h))) (client_files h)
 
 -- the look-up of a name in a directory, without a message
 abbrev pub answer_lookup : List Entry → ℕ → List ℕ → Answer
@@ -156,14 +172,21 @@ answer_lookup h d name = looked_up (lease h d name) (clock h)
 
 -- requests are numbered from 1
 abbrev pub answer_req : List Entry → Answer
-answer_req h = answers.Sent (length (requests h) + 1)
+answer_req h = if is_client_active (client_state h) then answers.Sent (length (requests h) + 1) else answers.Again why.Session
+
+-- how many of what the client has is reported and sent again
+abbrev pub answer_reconnect : List Entry → Answer
+answer_reconnect h =
+    if is_client_broken (client_state h)
+    then answers.Reconnect (length (capped h)) (length (open_requests h)) (length (unretired (λ f tid. acked h f tid) (sent h)))
+    else answers.Unbroken
 
 -- the line of a message that is delivered to the client
 abbrev pub answer_told : List Entry → Message → Answer
 answer_told h (messages.Cap f seq bits end) = answers.Cap f seq bits end
 answer_told h (messages.FlushAck f tid) = answers.FlushAck f tid
-answer_told h (messages.Snap number realm realms_told) =
-    answers.SnapTold number realm (count_made h (λ f. path_context (client_file_path h f) (with_records realms_told (realms h))) (client_files h))
+answer_told h (messages.Snap number realm realms_told) = answers.SnapTold number realm (count_told h realms_told)
+answer_told h (messages.Resumed realms_told) = answers.Resumed (count_told h realms_told)
 answer_told h (messages.Unsafe tid a ttl) = answers.Unsafe tid a
 answer_told h (messages.Safe tid) = answers.Safe tid
 answer_told h (messages.Unlease d name) = answers.Unlease d name
@@ -195,6 +218,7 @@ abbrev pub answer_received : List Entry → Message → Answer
 answer_received h (messages.CapAck f seq bits) = answers.CapAck f seq (held_after (server h f) seq bits)
 answer_received h (messages.Flush f tid follows meta) = answer_flushed (stand h) f tid
 answer_received h (messages.FlushSnap f tid follows meta) = answer_flushed (stand h) f tid
+answer_received h (messages.Reconnect caps realms_known resends) = answers.Reconnected (length caps) resends
 answer_received h (messages.Req tid ino op) = answer_requested (stand h) (names h) tid op
 answer_received h _ = answers.Idle
 
@@ -210,28 +234,49 @@ abbrev pub sent_cap : ServerCaps → Answer
 sent_cap s = answers.SentCap s.seq s.held
 
 abbrev pub answer_grant : List Entry → ℕ → Caps → ℕ → Answer
-answer_grant h f bits end = if server_knows h f then sent_cap (granted (server h f) bits end) else answers.Unknown
+answer_grant h f bits end =
+    if server_knows h f then
+    (if is_active (server_state h) then sent_cap (granted (server h f) bits end) else answers.Again why.Session)
+    else answers.Unknown
 
 abbrev pub answer_revoke : List Entry → ℕ → Caps → Answer
-answer_revoke h f bits = if server_knows h f then sent_cap (revoked (server h f) bits) else answers.Unknown
+answer_revoke h f bits =
+    if server_knows h f then
+    (if is_active (server_state h) then sent_cap (revoked (server h f) bits) else answers.Again why.Session)
+    else answers.Unknown
 
 -- the number of a new snapshot of a directory
 abbrev pub answer_snap : List Entry → ℕ → List ℕ → Answer
 answer_snap h d name =
     if has_dir (names h) d then
+    (if is_active (server_state h) then
     (if has_snap_named d name (stand h) then answers.Exists else answers.Snap (greatest_number (stand h) + 1))
+    else answers.Again why.Session)
     else answers.Unknown
 
 -- the number of a removal
 abbrev pub answer_remove : List Entry → ℕ → Answer
 answer_remove h s =
     if has_snap s (stand h) then
-    (if is_removed s (stand h) then answers.Gone else answers.Removed s (greatest_number (stand h) + 1))
+    (if is_removed s (stand h) then answers.Gone
+    else if is_active (server_state h) then answers.Removed s (greatest_number (stand h) + 1)
+    else answers.Again why.Session)
     else answers.NoSnap
 
 -- the client is told that its lease on an entry ends
 abbrev pub answer_unlease : List Entry → ℕ → Answer
-answer_unlease h d = if has_dir (names h) d then answers.SentUnlease else answers.Unknown
+answer_unlease h d =
+    if has_dir (names h) d then
+    (if is_active (server_state h) then answers.SentUnlease else answers.Again why.Session)
+    else answers.Unknown
+
+-- how many messages are lost
+abbrev pub answer_drop : List Entry → Answer
+answer_drop h = answers.DroppedLinks (length (to_client h)) (length (to_server h))
+
+-- how many records stand then
+abbrev pub answer_failover : List Entry → ℕ → Answer
+answer_failover h keep = answers.Failover (length (durable h) + min keep (length (fresh h)))
 
 -- the names in a directory, if it stands
 abbrev pub answer_names : List Entry → ℕ → Answer
@@ -288,11 +333,14 @@ answer pages h (events.Lookup caller d name) = answer_lookup h d name
 answer pages h (events.Req caller op) = answer_req h
 answer pages h events.ToClient = answer_to_client h
 answer pages h events.ToMds = answer_to_mds h
+answer pages h events.DropLinks = answer_drop h
+answer pages h events.Reconnect = answer_reconnect h
 answer pages h (events.Grant f bits end) = answer_grant h f bits end
 answer pages h (events.Revoke f bits) = answer_revoke h f bits
 answer pages h (events.Snap d name) = answer_snap h d name
 answer pages h (events.RmSnap s) = answer_remove h s
 answer pages h (events.Unlease d name) = answer_unlease h d
 answer pages h events.Commit = answers.Commit (length (fresh h))
+answer pages h (events.Failover keep) = answer_failover h keep
 answer pages h (events.Show f a off len) = answer_show h f a off len
 answer pages h (events.Names d) = answer_names h d

@@ -43,10 +43,14 @@ is_writing rs xs = list_any (is_open rs) xs
 abbrev pub makes : ℕ → Context → Context → List Live → Caps → List CapSnap → Bool
 makes f old new rs dirty xs = (differs old new && not (is_writing rs xs)) && (has_writer f rs || not (is_empty dirty))
 
+abbrev pub with_cap_snap : ℕ → Context → Context → List Live → Caps → ℕ → List CapSnap → List CapSnap
+with_cap_snap f old new rs dirty mode xs =
+    if makes f old new rs dirty xs then xs ++ record { follows = old.seq; mode = mode; writers = writers f rs } ∷ [] else xs
+
 -- old, new: the file's context before and after the entry; rs, dirty, mode: the live references, and the file's dirty metadata
 -- and its mode, before it
 abbrev pub queued_then : Event → Answer → ℕ → Context → Context → List Live → Caps → ℕ → List CapSnap → List CapSnap
-queued_then events.ToClient (answers.SnapTold number realm made) f old new rs dirty mode xs =
-    if makes f old new rs dirty xs then xs ++ record { follows = old.seq; mode = mode; writers = writers f rs } ∷ [] else xs
+queued_then events.ToClient (answers.SnapTold number realm made) f old new rs dirty mode xs = with_cap_snap f old new rs dirty mode xs
+queued_then events.ToClient (answers.Resumed made) f old new rs dirty mode xs = with_cap_snap f old new rs dirty mode xs
 queued_then (events.FlushSnaps g) (answers.FlushSnap tid follows) f old new rs dirty mode xs = if g == f then drop 1 xs else xs
 queued_then _ _ f old new rs dirty mode xs = xs

@@ -1,9 +1,10 @@
 -- What a message carries, and what a record tells of, whichever kind it is.
-use Rattle.std.specs.Prelude.{ℕ, Bool, true, false, List, [], Option, Some, None, unwrap_or}
+use Rattle.std.specs.Prelude.{ℕ, Bool, true, false, List, [], ◌∷◌, Option, Some, None, unwrap_or}
 use Rattle.cs_snapctx.specs.declared.realm.RealmRecord.{RealmRecord}
 use Rattle.cs_laws.specs.declared.messages.Message.{Message}
 use Rattle.cs_laws.specs.declared.messages.Message.TheVariants as messages
 use Rattle.cs_laws.specs.declared.records.RecordBody.{RecordBody}
+use Rattle.cs_laws.specs.declared.reports.CapReport.{CapReport}
 use Rattle.cs_laws.specs.declared.records.RecordBody.TheVariants as bodies
 use Rattle.cs_laws.specs.Flushes.{Flush}
 
@@ -15,6 +16,7 @@ is_for_client (messages.FlushAck f tid) = true
 is_for_client (messages.Snap number realm realms) = true
 is_for_client (messages.Unsafe tid a ttl) = true
 is_for_client (messages.Unlease d name) = true
+is_for_client (messages.Resumed realms) = true
 is_for_client _ = false
 
 -- the file that it is of
@@ -35,10 +37,21 @@ flush_on _ = None
 -- the realm records that it carries, if it is of a kind that does
 abbrev pub realms_on : Message → Option (List RealmRecord)
 realms_on (messages.Snap number realm realms) = Some realms
+realms_on (messages.Resumed realms) = Some realms
 realms_on _ = None
 
 abbrev pub realms_of : Message → List RealmRecord
 realms_of m = unwrap_or (realms_on m) []
+
+-- what it reports of files
+abbrev pub reports_on : Message → List CapReport
+reports_on (messages.Reconnect caps realms resends) = caps
+reports_on _ = []
+
+-- what the first of these messages reports
+abbrev pub first_reports : List Message → List CapReport
+first_reports [] = []
+first_reports (m ∷ q) = reports_on m
 
 -- the flush that a record tells of
 abbrev pub flush_in : RecordBody → Option Flush

@@ -21,6 +21,7 @@ with_first (m ∷ q) rs = with_records (realms_of m) rs
 -- q: the messages to the client before the entry
 abbrev pub realms_then : Event → Answer → List Message → List RealmRecord → List RealmRecord
 realms_then events.ToClient (answers.SnapTold number realm made) q rs = with_first q rs
+realms_then events.ToClient (answers.Resumed made) q rs = with_first q rs
 realms_then _ _ q rs = rs
 
 -- the context of the nearest realm on the way up

@@ -44,6 +44,10 @@ greatest_time = 4294967295
 abbrev pub is_mode : ℕ → Bool
 is_mode m = nat_le m 4095
 
+-- the most records that a failover names
+abbrev pub most_kept : ℕ
+most_kept = 10000
+
 abbrev pub fits : Event → Bool
 fits (events.Dir d p) = nat_le 2 d && nat_le d 9999
 fits (events.File f p) = nat_le 2 f && nat_le f 9999
@@ -55,5 +59,6 @@ fits (events.Chmod caller name mode) = is_mode mode
 fits (events.Grant f bits end) = is_built bits && nat_le end greatest_end
 fits (events.Revoke f bits) = is_built bits
 fits (events.RmSnap s) = nat_le 1 s
+fits (events.Failover keep) = nat_le keep most_kept
 fits (events.Show f a off len) = is_state a && is_shown off len
 fits _ = true

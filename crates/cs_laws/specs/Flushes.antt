@@ -1,5 +1,6 @@
 -- The flushes that the client sent, the oldest first.
-use Rattle.std.specs.Prelude.{ℕ, ◌==◌, ◌&&◌, Bool, true, false, List, [], ◌∷◌, ◌++◌, if◌then◌else◌}
+use Rattle.std.specs.Prelude.{ℕ, ◌==◌, ◌&&◌, ◌||◌, not, nat_lt, Bool, true, false, List, [], ◌∷◌, ◌++◌, if◌then◌else◌}
+use Rattle.std.specs.List.{list_any}
 use Rattle.cs_ids.specs.declared.objects.FileMeta.{FileMeta}
 use Rattle.cs_laws.specs.declared.events.Event.{Event}
 use Rattle.cs_laws.specs.declared.events.Event.TheVariants as events
@@ -58,3 +59,12 @@ acked_then _ _ f tid was = was
 abbrev pub acked : List Entry → ℕ → ℕ → Bool
 acked [] f tid = false
 acked (x ∷ h) f tid = acked_then x.event x.answer f tid (acked h f tid)
+
+-- y was sent behind x, and both are of one file's present metadata
+abbrev pub is_later : Flush → Flush → Bool
+is_later x y = (y.file == x.file) && (not y.snap && nat_lt x.tid y.tid)
+
+-- The client was told that the record of a flush is durable, or, where it isn't that of a cap snap, of a later such flush of its
+-- file. acked f tid: it was told so of that flush; xs: the flushes that it sent.
+abbrev pub is_retired : (ℕ → ℕ → Bool) → List Flush → Flush → Bool
+is_retired acked xs x = acked x.file x.tid || (not x.snap && list_any (λ y. is_later x y && acked y.file y.tid) xs)

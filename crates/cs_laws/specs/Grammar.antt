@@ -20,7 +20,7 @@ use Rattle.cs_laws.specs.declared.faults.Kind.TheVariants as kinds
 use Rattle.cs_laws.specs.declared.faults.ScriptFault.{ScriptFault}
 use Rattle.cs_laws.specs.declared.requests.ReqOp.{ReqOp}
 use Rattle.cs_laws.specs.declared.requests.ReqOp.TheVariants as ops
-use Rattle.cs_laws.specs.Fits.{is_built, greatest_end, greatest_time, most_written, most_shown}
+use Rattle.cs_laws.specs.Fits.{is_built, greatest_end, greatest_time, most_kept, most_written, most_shown}
 
 abbrev pub Words : Type 0
 Words = List (List ℕ)
@@ -258,6 +258,11 @@ unlease_of ws = do
   n ← name_field 2 ws
   only 3 (events.Unlease d n) ws
 
+unfoldable pub failover_of : Words → Result Event Kind
+failover_of ws = do
+  k ← number_at 1 0 most_kept ws
+  only 2 (events.Failover k) ws
+
 unfoldable pub names_of : Words → Result Event Kind
 names_of ws = do
   d ← number_at 1 1 99999 ws
@@ -265,17 +270,10 @@ names_of ws = do
 
 -- The first words of events that aren't built yet
 
-abbrev pub is_later_client_word : List ℕ → Bool
-is_later_client_word w =
+abbrev pub is_later_word : List ℕ → Bool
+is_later_word w =
     bytes_eq w (codes "writeback") || (bytes_eq w (codes "invalidate") || (bytes_eq w (codes "osd")
     || (bytes_eq w (codes "osdack") || (bytes_eq w (codes "osdlose") || bytes_eq w (codes "osdresend")))))
-
-abbrev pub is_later_server_word : List ℕ → Bool
-is_later_server_word w =
-    bytes_eq w (codes "drop") || (bytes_eq w (codes "reconnect") || bytes_eq w (codes "failover"))
-
-abbrev pub is_later_word : List ℕ → Bool
-is_later_word w = is_later_client_word w || is_later_server_word w
 
 unfoldable pub event_by : List ℕ → Words → Result Event Kind
 event_by w ws =
@@ -294,12 +292,15 @@ event_by w ws =
     else if bytes_eq w (codes "req") then req_of ws
     else if bytes_eq w (codes "toclient") then only 1 events.ToClient ws
     else if bytes_eq w (codes "tomds") then only 1 events.ToMds ws
+    else if bytes_eq w (codes "drop") then only 1 events.DropLinks ws
+    else if bytes_eq w (codes "reconnect") then only 1 events.Reconnect ws
     else if bytes_eq w (codes "grant") then grant_of ws
     else if bytes_eq w (codes "revoke") then revoke_of ws
     else if bytes_eq w (codes "snap") then snap_of ws
     else if bytes_eq w (codes "rmsnap") then remove_of ws
     else if bytes_eq w (codes "unlease") then unlease_of ws
     else if bytes_eq w (codes "commit") then only 1 events.Commit ws
+    else if bytes_eq w (codes "failover") then failover_of ws
     else if bytes_eq w (codes "show") then show_of ws
     else if bytes_eq w (codes "names") then names_of ws
     else if is_later_word w then Err kinds.NotBuilt

@@ -19,9 +19,13 @@ use Rattle.cs_laws.specs.CapSnaps.{CapSnap, queued_mode, queued_then}
 use Rattle.cs_laws.specs.Context.{path_context, realms_then}
 use Rattle.cs_laws.specs.Events.{clock}
 use Rattle.cs_laws.specs.Flight.{to_client_then, to_server_then}
-use Rattle.cs_laws.specs.Flushes.{Flush, flush_present, flush_snap, sent_then}
+use Rattle.cs_laws.specs.Carried.{first_reports}
+use Rattle.cs_laws.specs.Flushes.{Flush, acked, flush_present, flush_snap, sent_then}
 use Rattle.cs_laws.specs.Image.{Write}
 use Rattle.cs_laws.specs.References.{dirty_then, first_mode, live_then, mode_then}
+use Rattle.cs_laws.specs.Realms.{realm_records}
+use Rattle.cs_laws.specs.Reports.{calling, capped, flushes_again, realm_seqs, reports, requests_again}
+use Rattle.cs_laws.specs.Sessions.{server_state}
 use Rattle.cs_laws.specs.Standing.{durable_then, fresh_then, last_sent_then, news}
 use Rattle.cs_laws.specs.ClientKnows.{client_file_path}
 use Rattle.cs_laws.specs.Made.{dirs_by, path_by}
@@ -31,7 +35,7 @@ abbrev mutual
   -- the server's end of a file's capabilities
   pub server : List Entry → ℕ → ServerCaps
   server [] f = no_server_caps
-  server (x ∷ h) f = server_then x.event x.answer f (server h f)
+  server (x ∷ h) f = server_then x.event x.answer (first_reports (to_server h)) f (server h f)
 
   -- the client's end of a file's capabilities
   pub client : List Entry → ℕ → ClientCaps
@@ -42,7 +46,8 @@ abbrev mutual
   pub to_client : List Entry → List Message
   to_client [] = []
   to_client (x ∷ h) =
-      to_client_then x.event x.answer (λ f. server h f) (durable h)
+      to_client_then x.event x.answer (server_state h) (λ f. server h f) (durable h)
+      (realm_records (λ d. path_by (durable h ++ fresh h) h d) (dirs_by (durable h ++ fresh h) h) (durable h))
       (news (λ d. path_by (durable h ++ fresh h) h d) (dirs_by (durable h ++ fresh h) h) (last_sent h) (durable h) (fresh h)) (to_client h)
 
   -- the messages on their way to the server
@@ -50,7 +55,9 @@ abbrev mutual
   to_server [] = []
   to_server (x ∷ h) =
       to_server_then x.event x.answer (λ f tid. flush_present f tid (path_context (client_file_path h f) (realms h)).seq (mode h f) (writes h f))
-      (λ f tid follows. flush_snap f tid follows (queued_mode (queued h f)) (writes h f)) (to_server h)
+      (λ f tid follows. flush_snap f tid follows (queued_mode (queued h f)) (writes h f))
+      (calling (reports (λ f. client h f) (capped h)) (realm_seqs (realms h)) (requests_again h ++ flushes_again (λ f tid. acked h f tid) (sent h)))
+      (to_server h)
 
   -- the realms' last records that were delivered to the client; it has the root's empty one from the start
   pub realms : List Entry → List RealmRecord
@@ -61,7 +68,8 @@ abbrev mutual
   pub last_sent : List Entry → List RealmRecord
   last_sent [] = root_record ∷ []
   last_sent (x ∷ h) =
-      last_sent_then x.event x.answer
+      last_sent_then x.event x.answer (server_state h)
+      (realm_records (λ d. path_by (durable h ++ fresh h) h d) (dirs_by (durable h ++ fresh h) h) (durable h))
       (news (λ d. path_by (durable h ++ fresh h) h d) (dirs_by (durable h ++ fresh h) h) (last_sent h) (durable h) (fresh h)) (last_sent h)
 
   -- the records of the server's log that are durable
@@ -73,6 +81,13 @@ abbrev mutual
   pub fresh : List Entry → List Record
   fresh [] = []
   fresh (x ∷ h) = fresh_then x.event x.answer (to_server h) (fresh h)
+
+  -- the flushes that were sent
+  pub sent : List Entry → List Flush
+  sent [] = []
+  sent (x ∷ h) =
+      sent_then x.event x.answer (λ f tid. flush_present f tid (path_context (client_file_path h f) (realms h)).seq (mode h f) (writes h f))
+      (λ f tid follows. flush_snap f tid follows (queued_mode (queued h f)) (writes h f)) (sent h)
 
   -- the references begun and not ended
   pub live : List Entry → List Live
@@ -120,8 +135,3 @@ present h f tid = flush_present f tid (context h f).seq (mode h f) (writes h f)
 -- that of its first unsent cap snap, which follows this number
 abbrev pub snap : List Entry → ℕ → ℕ → ℕ → Flush
 snap h f tid follows = flush_snap f tid follows (queued_mode (queued h f)) (writes h f)
-
--- the flushes that were sent
-abbrev pub sent : List Entry → List Flush
-sent [] = []
-sent (x ∷ h) = sent_then x.event x.answer (present h) (snap h) (sent h)

@@ -29,6 +29,7 @@ pub mod Owed
 pub mod Realms
 pub mod References
 pub mod Refusals
+pub mod Reports
 pub mod Requests
 pub mod Runs
 pub mod ServerKnows

@@ -9,7 +9,7 @@ use Rattle.cs_laws.specs.declared.answers.Entry.{Entry}
 use Rattle.cs_laws.specs.declared.objects.At.{At}
 use Rattle.cs_laws.specs.declared.objects.At.TheVariants as at
 use Rattle.cs_laws.specs.ClientKnows.{client_knows}
-use Rattle.cs_laws.specs.Flushes.{Flush, acked}
+use Rattle.cs_laws.specs.Flushes.{Flush, acked, is_retired}
 use Rattle.cs_laws.specs.History.{context, dirty, live, mode, queued, sent}
 use Rattle.cs_laws.specs.Shown.{is_before}
 
@@ -27,14 +27,10 @@ abbrev pub is_changed : At → Caps → Bool
 is_changed at.Head dirty = not (is_empty dirty)
 is_changed (at.Snap s) dirty = false
 
--- y was sent behind x, and both are of one file's present metadata
-abbrev pub is_later : Flush → Flush → Bool
-is_later x y = (y.file == x.file) && (not y.snap && nat_lt x.tid y.tid)
-
 -- The client was told that the record of a flush is durable, or, where it isn't that of a cap snap, of a later such flush of
 -- its file.
 abbrev pub is_acked : List Entry → Flush → Bool
-is_acked h x = acked h x.file x.tid || (not x.snap && list_any (λ y. is_later x y && acked h y.file y.tid) (sent h))
+is_acked h x = is_retired (λ f tid. acked h f tid) (sent h) x
 
 -- a flush of the file that is of the time before the state isn't acknowledged
 abbrev pub is_unacked : List Entry → At → ℕ → Flush → Bool

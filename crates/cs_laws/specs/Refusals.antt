@@ -26,6 +26,7 @@ is_turned_down answers.Nothing = true
 is_turned_down answers.Clean = true
 is_turned_down answers.NoneQueued = true
 is_turned_down answers.Absent = true
+is_turned_down answers.Unbroken = true
 is_turned_down (answers.Expired until) = true
 is_turned_down answers.NoSnap = true
 is_turned_down answers.Gone = true

@@ -1,5 +1,5 @@
 -- The requests that the client sent, and what it was told of them.
-use Rattle.std.specs.Prelude.{ℕ, ◌==◌, ◌&&◌, not, Bool, true, false, List, [], ◌∷◌, ◌++◌, find, Option, Some, None, if◌then◌else◌}
+use Rattle.std.specs.Prelude.{ℕ, ◌==◌, ◌&&◌, ◌||◌, not, Bool, true, false, List, [], ◌∷◌, ◌++◌, find, Option, Some, None, if◌then◌else◌}
 use Rattle.std.specs.List.{list_any}
 use Rattle.std.specs.Option.{option_map}
 use Rattle.cs_laws.specs.declared.events.Event.{Event}
@@ -49,6 +49,10 @@ replies (x ∷ h) = replies_then x.event x.answer (replies h)
 abbrev pub has_reply : ℕ → List Reply → Bool
 has_reply t rs = list_any (λ r. r.tid == t) rs
 
+-- the first answer that was delivered to the request of a number
+abbrev pub reply_to : ℕ → List Reply → Option OpAnswer
+reply_to t rs = option_map (λ r. r.answer) (find (λ r. r.tid == t) rs)
+
 -- rs: the answers delivered before the entry
 abbrev pub is_closed_then : Event → Answer → List Reply → ℕ → Bool → Bool
 is_closed_then events.ToClient (answers.Safe tid) rs t was = if (tid == t) && has_reply t rs then true else was
@@ -61,6 +65,16 @@ is_closed (x ∷ h) t = is_closed_then x.event x.answer (replies h) t (is_closed
 
 abbrev pub is_open : List Entry → ℕ → Bool
 is_open h t = has_request t (requests h) && not (is_closed h t)
+
+-- due: the request was open before the entry
+abbrev pub is_resent_then : Event → Answer → Bool → Bool → Bool
+is_resent_then events.Reconnect (answers.Reconnect caps requests flushes) due was = due || was
+is_resent_then _ _ due was = was
+
+-- the request was sent again
+abbrev pub is_resent : List Entry → ℕ → Bool
+is_resent [] t = false
+is_resent (x ∷ h) t = is_resent_then x.event x.answer (is_open h t) (is_resent h t)
 
 -- the client was told that the request's record is durable
 abbrev pub is_saved_then : Event → Answer → ℕ → Bool → Bool

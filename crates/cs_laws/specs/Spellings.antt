@@ -1,5 +1,5 @@
 -- How records of the log are spelled in bytes, and which messages and records have a spelling.
-use Rattle.std.specs.Prelude.{ℕ, ◌==◌, ◌&&◌, ◌||◌, not, nat_lt, nat_le, Bool, true, false, List, [], ◌∷◌, ◌++◌, Option, Some, None, length}
+use Rattle.std.specs.Prelude.{ℕ, ◌==◌, ◌&&◌, ◌||◌, not, nat_lt, nat_le, Bool, true, false, List, [], ◌∷◌, ◌++◌, Option, Some, None, length, map}
 use Rattle.std.specs.List.{list_all}
 use Rattle.cs_bits.specs.Bits as sets
 use Rattle.cs_codec.specs.Fields.{flag_bytes, is_in, name_bytes, number_bytes}
@@ -11,6 +11,8 @@ use Rattle.cs_laws.specs.declared.messages.Message.TheVariants as messages
 use Rattle.cs_laws.specs.declared.records.Record.{Record}
 use Rattle.cs_laws.specs.declared.records.RecordBody.{RecordBody}
 use Rattle.cs_laws.specs.declared.records.RecordBody.TheVariants as bodies
+use Rattle.cs_laws.specs.declared.reports.CapReport.{CapReport}
+use Rattle.cs_laws.specs.declared.reports.RealmSeq.{RealmSeq}
 use Rattle.cs_laws.specs.declared.requests.OpAnswer.{OpAnswer}
 use Rattle.cs_laws.specs.declared.requests.OpAnswer.TheVariants as replies
 use Rattle.cs_laws.specs.declared.requests.ReqOp.{ReqOp}
@@ -120,6 +122,21 @@ realm_fits r = has_parent r.realm r.parent && (nat_le 1 r.since && (snaps_fit r.
 abbrev pub realms_fit : List RealmRecord → Bool
 realms_fit rs = nat_le (length rs) most_items && list_all realm_fits rs
 
+-- each number is greater than the one before it
+abbrev pub ascends : List ℕ → Bool
+ascends [] = true
+ascends (n ∷ []) = true
+ascends (n ∷ m ∷ ms) = nat_lt n m && ascends (m ∷ ms)
+
+abbrev pub report_fits : CapReport → Bool
+report_fits r = sets.fits r.issued && (sets.fits r.implemented && nat_le r.max greatest_end)
+
+abbrev pub reports_fit : List CapReport → Bool
+reports_fit rs = nat_le (length rs) most_items && (list_all report_fits rs && ascends (map (λ r. r.ino) rs))
+
+abbrev pub seqs_fit : List RealmSeq → Bool
+seqs_fit rs = nat_le (length rs) most_items && ascends (map (λ r. r.realm) rs)
+
 abbrev pub gives_lease : OpAnswer → Bool
 gives_lease (replies.Made i) = true
 gives_lease (replies.Found i) = true
@@ -134,6 +151,8 @@ message_fits (messages.Cap f seq bits end) = sets.fits bits && nat_le end greate
 message_fits (messages.Safe tid) = true
 message_fits (messages.FlushAck f tid) = true
 message_fits (messages.Snap number realm realms) = nat_le 1 number && realms_fit realms
+message_fits (messages.Resumed realms) = realms_fit realms
+message_fits (messages.Reconnect caps realms resends) = reports_fit caps && seqs_fit realms
 message_fits (messages.Unsafe tid a ttl) = lease_fits a ttl
 message_fits (messages.Unlease d name) = true
 message_fits (messages.Req tid ino op) = true

@@ -1,5 +1,5 @@
 -- The records of the server's log, the oldest first, and what the client is told of them once they are durable.
-use Rattle.std.specs.Prelude.{ℕ, ◌==◌, ◌&&◌, not, Bool, false, List, [], ◌∷◌, ◌++◌, Option, Some, None, unwrap_or, max, if◌then◌else◌}
+use Rattle.std.specs.Prelude.{ℕ, ◌==◌, ◌&&◌, not, Bool, false, List, [], ◌∷◌, ◌++◌, Option, Some, None, unwrap_or, max, take, if◌then◌else◌}
 use Rattle.std.specs.List.{list_any}
 use Rattle.std.specs.Str.{bytes_eq}
 use Rattle.cs_snapctx.specs.declared.realm.RealmRecord.{RealmRecord}
@@ -16,7 +16,9 @@ use Rattle.cs_snapctx.specs.Records.{with_records}
 use Rattle.cs_laws.specs.Carried.{flush_in, flush_on, realms_of}
 use Rattle.cs_laws.specs.Flushes.{Flush, flush_record}
 use Rattle.cs_laws.specs.declared.requests.OpAnswer.{OpAnswer}
+use Rattle.cs_laws.specs.declared.sessions.ServerState.{ServerState}
 use Rattle.cs_laws.specs.Realms.{differing, number_of, realm_records}
+use Rattle.cs_laws.specs.Sessions.{is_broken, is_last}
 
 -- the record of a flush
 abbrev pub recorded_of : Option Flush → List Record
@@ -40,11 +42,13 @@ fresh_then events.ToMds (answers.Flushed f tid) q rs = rs ++ recorded q
 fresh_then (events.Snap d name) (answers.Snap number) q rs = rs ++ record { body = bodies.Snap number d name } ∷ []
 fresh_then (events.RmSnap s) (answers.Removed t number) q rs = rs ++ record { body = bodies.Removal s number } ∷ []
 fresh_then events.Commit (answers.Commit count) q rs = []
+fresh_then (events.Failover keep) (answers.Failover kept) q rs = []
 fresh_then _ _ q rs = rs
 
 -- fs: those that weren't durable before the entry
 abbrev pub durable_then : Event → Answer → List Record → List Record → List Record
 durable_then events.Commit (answers.Commit count) fs rs = rs ++ fs
+durable_then (events.Failover keep) (answers.Failover kept) fs rs = rs ++ take keep fs
 durable_then _ _ fs rs = rs
 
 -- What the client is told
@@ -83,10 +87,20 @@ abbrev pub sent_with : List Message → List RealmRecord → List RealmRecord
 sent_with [] sent = sent
 sent_with (m ∷ q) sent = sent_with q (with_records (realms_of m) sent)
 
--- q: the messages on the records that become durable
-abbrev pub last_sent_then : Event → Answer → List Message → List RealmRecord → List RealmRecord
-last_sent_then events.Commit (answers.Commit count) q sent = sent_with q sent
-last_sent_then _ _ q sent = sent
+-- With the last of what is sent again, or with a report behind which nothing is, the client is told that the session goes on.
+abbrev pub resumption : Bool → List RealmRecord → List Message
+resumption last all = if last then messages.Resumed all ∷ [] else []
+
+-- A session begins where the client's report comes: nothing was sent in it yet. s: the state of the server's session before the
+-- entry; all: the durable records of all realms; q: the messages on the records that become durable.
+abbrev pub last_sent_then : Event → Answer → ServerState → List RealmRecord → List Message → List RealmRecord → List RealmRecord
+last_sent_then events.Commit (answers.Commit count) s all q sent = if is_broken s then sent else sent_with q sent
+last_sent_then events.ToMds (answers.Reconnected caps resends) s all q sent = sent_with (resumption (resends == 0) all) []
+last_sent_then events.ToMds (answers.Req tid a) s all q sent = sent_with (resumption (is_last s) all) sent
+last_sent_then events.ToMds (answers.ReqDup tid a) s all q sent = sent_with (resumption (is_last s) all) sent
+last_sent_then events.ToMds (answers.Flushed f tid) s all q sent = sent_with (resumption (is_last s) all) sent
+last_sent_then events.ToMds (answers.FlushDup f tid) s all q sent = sent_with (resumption (is_last s) all) sent
+last_sent_then _ _ s all q sent = sent
 
 -- Flushes among the records
 

@@ -28,6 +28,7 @@ abbrev pub why_text : Why → List ℕ
 why_text why.Caps = codes "caps"
 why_text why.Snap = codes "snap"
 why_text why.Max = codes "max"
+why_text why.Session = codes "session"
 
 abbrev pub at_text : At → List ℕ
 at_text at.Head = codes "head"
@@ -80,12 +81,15 @@ event_text (events.Lookup c d name) = codes "lookup " ++ decimal c ++ codes " " 
 event_text (events.Req c op) = codes "req " ++ decimal c ++ codes " " ++ op_text op
 event_text events.ToClient = codes "toclient"
 event_text events.ToMds = codes "tomds"
+event_text events.DropLinks = codes "drop"
+event_text events.Reconnect = codes "reconnect"
 event_text (events.Grant f bits end) = codes "grant " ++ decimal f ++ codes " " ++ caps_text bits ++ codes " " ++ decimal end
 event_text (events.Revoke f bits) = codes "revoke " ++ decimal f ++ codes " " ++ caps_text bits
 event_text (events.Snap d name) = codes "snap " ++ decimal d ++ codes " " ++ name
 event_text (events.RmSnap s) = codes "rmsnap " ++ decimal s
 event_text (events.Unlease d name) = codes "unlease " ++ decimal d ++ codes " " ++ name
 event_text events.Commit = codes "commit"
+event_text (events.Failover keep) = codes "failover " ++ decimal keep
 event_text (events.Show f a off len) = codes "show " ++ decimal f ++ codes " " ++ at_text a ++ codes " " ++ decimal off ++ codes " " ++ decimal len
 event_text (events.Names d) = codes "names " ++ decimal d
 
@@ -128,17 +132,23 @@ answer_text (answers.FlushAck f tid) = codes "flushack " ++ decimal f ++ codes "
 answer_text (answers.SnapTold number realm made) = codes "snap " ++ decimal number ++ codes " " ++ decimal realm ++ codes " " ++ decimal made
 answer_text (answers.Unsafe tid a) = codes "unsafe " ++ decimal tid ++ codes " " ++ reply_text a
 answer_text (answers.Safe tid) = codes "safe " ++ decimal tid
+answer_text (answers.Resumed made) = codes "resumed " ++ decimal made
 answer_text (answers.Unlease d name) = codes "unlease " ++ decimal d ++ codes " " ++ name
 answer_text (answers.Req tid a) = codes "req " ++ decimal tid ++ codes " " ++ reply_text a
 answer_text (answers.ReqDup tid a) = codes "reqdup " ++ decimal tid ++ codes " " ++ reply_text a
 answer_text (answers.CapAck f seq held) = codes "capack " ++ decimal f ++ codes " " ++ decimal seq ++ codes " held " ++ caps_text held
 answer_text (answers.Flushed f tid) = codes "flushed " ++ decimal f ++ codes " " ++ decimal tid
 answer_text (answers.FlushDup f tid) = codes "flushdup " ++ decimal f ++ codes " " ++ decimal tid
+answer_text (answers.Reconnected caps resends) = codes "reconnect " ++ decimal caps ++ codes " " ++ decimal resends
+answer_text (answers.DroppedLinks to_client to_server) = codes "dropped " ++ decimal to_client ++ codes " " ++ decimal to_server
+answer_text answers.Unbroken = codes "unbroken"
+answer_text (answers.Reconnect caps requests flushes) = codes "reconnect " ++ decimal caps ++ codes " " ++ decimal requests ++ codes " " ++ decimal flushes
 answer_text (answers.SentCap seq held) = codes "sent " ++ decimal seq ++ codes " held " ++ caps_text held
 answer_text answers.SentUnlease = codes "sent"
 answer_text (answers.Snap number) = codes "snap " ++ decimal number
 answer_text (answers.Removed s number) = codes "removed " ++ decimal s ++ codes " " ++ decimal number
 answer_text (answers.Commit count) = codes "commit " ++ decimal count
+answer_text (answers.Failover kept) = codes "failover " ++ decimal kept
 answer_text answers.NoSnap = codes "nosnap"
 answer_text answers.Gone = codes "gone"
 answer_text answers.Pending = codes "pending"

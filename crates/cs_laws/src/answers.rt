@@ -18,6 +18,8 @@ pub enum Why {
     Snap,
     /// The reference's end is beyond the file's greatest end.
     Max,
+    /// The session isn't active on the side that acts.
+    Session,
 }
 
 /// What an event is answered with.
@@ -128,6 +130,10 @@ pub enum Answer {
     Safe {
         tid: Tid,
     },
+    /// The client was told that the session goes on, and made so many cap snaps.
+    Resumed {
+        made: u32,
+    },
     /// The client was told that its lease on a name in a directory ends.
     Unlease {
         dir: Ino,
@@ -159,6 +165,24 @@ pub enum Answer {
         file: Ino,
         tid: Tid,
     },
+    /// The client's report of so many files was delivered, behind which so many messages are sent again.
+    Reconnected {
+        caps: u32,
+        resends: u32,
+    },
+    /// So many messages to the client and to the server were lost.
+    DroppedLinks {
+        to_client: u32,
+        to_server: u32,
+    },
+    /// The client's session isn't broken.
+    Unbroken,
+    /// The client reported so many files, and sent so many requests and flushes again.
+    Reconnect {
+        caps: u32,
+        requests: u32,
+        flushes: u32,
+    },
     /// A capability message was sent; the client may still be using the bits that are held.
     SentCap {
         seq: Seq,
@@ -178,6 +202,10 @@ pub enum Answer {
     /// So many records are durable that weren't.
     Commit {
         count: u32,
+    },
+    /// So many records stand, all of them durable.
+    Failover {
+        kept: u32,
     },
     /// There is no such snapshot, or none that covers the file.
     NoSnap,
@@ -270,6 +298,7 @@ impl Answer {
                 answer: *answer,
             },
             Answer::Safe { tid } => Answer::Safe { tid: *tid },
+            Answer::Resumed { made } => Answer::Resumed { made: *made },
             Answer::Unlease { dir, name } => Answer::Unlease {
                 dir: *dir,
                 name: copy_name(alloc, name)?,
@@ -295,6 +324,31 @@ impl Answer {
                 file: *file,
                 tid: *tid,
             },
+            Answer::Reconnected { caps, resends } => Answer::Reconnected {
+                caps: *caps,
+                resends: *resends,
+            },
+            Answer::DroppedLinks {
+                to_client,
+                to_server,
+            } => {
+                Answer::DroppedLinks {
+                    to_client: *to_client,
+                    to_server: *to_server,
+                }
+            }
+            Answer::Unbroken => Answer::Unbroken,
+            Answer::Reconnect {
+                caps,
+                requests,
+                flushes,
+            } => {
+                Answer::Reconnect {
+                    caps: *caps,
+                    requests: *requests,
+                    flushes: *flushes,
+                }
+            }
             Answer::SentCap { seq, held } => Answer::SentCap {
                 seq: *seq,
                 held: *held,
@@ -306,6 +360,7 @@ impl Answer {
                 number: *number,
             },
             Answer::Commit { count } => Answer::Commit { count: *count },
+            Answer::Failover { kept } => Answer::Failover { kept: *kept },
             Answer::NoSnap => Answer::NoSnap,
             Answer::Gone => Answer::Gone,
             Answer::Pending => Answer::Pending,

@@ -97,6 +97,11 @@ pub enum Event {
     ToClient,
     /// The oldest message on its way to the server is delivered.
     ToMds,
+    /// All messages under way are lost, and with them the session.
+    DropLinks,
+    /// The client comes back after a loss: it reports what it has, and sends again what it wasn't told to be
+    /// durable.
+    Reconnect,
     /// The server gives the client bits of a file, which may grow up to `max` bytes, 0 to 1,048,576.
     Grant {
         file: Ino,
@@ -124,6 +129,11 @@ pub enum Event {
     },
     /// The server makes all of its records durable, and tells the client of those that were not.
     Commit,
+    /// Another server takes over. It keeps the durable records and the next `keep` ones, 0 to 10,000 in a script,
+    /// and all messages under way are lost.
+    Failover {
+        keep: u32,
+    },
     /// What the store and the server's records hold of a file at a snapshot, or at present: its
     /// metadata, and up to `len` bytes from the offset `off` on. A script gives offsets up to 1,048,575
     /// and 1 to 4,096 bytes.
@@ -219,6 +229,8 @@ impl Event {
             },
             Event::ToClient => Event::ToClient,
             Event::ToMds => Event::ToMds,
+            Event::DropLinks => Event::DropLinks,
+            Event::Reconnect => Event::Reconnect,
             Event::Grant { file, bits, max } => {
                 Event::Grant {
                     file: *file,
@@ -240,6 +252,7 @@ impl Event {
                 name: copy_name(alloc, name)?,
             },
             Event::Commit => Event::Commit,
+            Event::Failover { keep } => Event::Failover { keep: *keep },
             Event::Show { file, at, off, len } => {
                 Event::Show {
                     file: *file,
@@ -268,6 +281,7 @@ impl Event {
             Event::Grant { bits, max, .. } => is_built(*bits) && *max <= 1_048_576,
             Event::Revoke { bits, .. } => is_built(*bits),
             Event::RmSnap { snap } => 1 <= snap.get(),
+            Event::Failover { keep } => *keep <= 10_000,
             Event::Show { at, off, len, .. } => is_state(*at) && is_shown(*off, *len),
             Event::End { .. }
             | Event::Check { .. }
@@ -277,6 +291,8 @@ impl Event {
             | Event::Req { .. }
             | Event::ToClient
             | Event::ToMds
+            | Event::DropLinks
+            | Event::Reconnect
             | Event::Snap { .. }
             | Event::Unlease { .. }
             | Event::Commit

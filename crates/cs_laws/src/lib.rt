@@ -13,7 +13,9 @@ mod names;
 mod objects;
 mod printing;
 mod records;
+mod reports;
 mod requests;
+mod sessions;
 
 pub use answers::{Answer, Entry, Why, not_yet};
 pub use events::{Event, RefName, is_built};
@@ -23,4 +25,6 @@ pub use messages::{Message, MessageList};
 pub use names::{NameItem, NameList};
 pub use objects::{At, ObjOp, ObjOps};
 pub use records::{RealmRecordList, Record, RecordBody};
+pub use reports::{CapReport, CapReportList, RealmSeq, RealmSeqList};
 pub use requests::{OpAnswer, ReqOp};
+pub use sessions::{ClientState, ServerState};

@@ -1,18 +1,18 @@
 // The messages between client and server.
-ghost use Rattle.std.specs.Prelude.{◌≡◌, IfOk};
+ghost use Rattle.std.specs.Prelude.{◌≡◌, IfOk, map};
 ghost use Rattle.std.specs.List.{list_all};
-ghost use Rattle.cs_laws.specs.Spellings.{descends, lease_fits, message_fits, realm_fits, realms_fit, snaps_fit};
+ghost use Rattle.cs_laws.specs.Spellings.{ascends, descends, lease_fits, message_fits, realm_fits, realms_fit, report_fits, reports_fit, seqs_fit, snaps_fit};
 
 use crate::records::meta_fits;
 use crate::requests::copy_name;
-use crate::{OpAnswer, RealmRecordList, ReqOp};
+use crate::{CapReport, CapReportList, OpAnswer, RealmRecordList, RealmSeq, RealmSeqList, ReqOp};
 use cs_bits::Caps;
 use cs_ids::{FileMeta, Ino, Items, Memory, Name, Seq, Snap, Tid};
 use cs_snapctx::RealmRecord;
 use std::alloc::Global;
 
-/// A message. `Cap`, `Unsafe`, `Safe`, `FlushAck`, `Snap` and `Unlease` go to the client, `Req`, `CapAck`, `Flush`
-/// and `FlushSnap` to the server.
+/// A message. `Cap`, `Unsafe`, `Safe`, `FlushAck`, `Snap`, `Unlease` and `Resumed` go to the client, `Req`,
+/// `CapAck`, `Flush`, `FlushSnap` and `Reconnect` to the server.
 #[derive(Drop)]
 pub enum Message {
     /// The bits that the client may have from now on, and the file's greatest end in bytes.
@@ -50,6 +50,10 @@ pub enum Message {
         dir: Ino,
         name: Name,
     },
+    /// The server took all that was sent again. With it come the durable records of all realms, parents first.
+    Resumed {
+        realms: RealmRecordList,
+    },
     /// A request. One that is sent again after its answer came has the inode of that answer.
     Req {
         tid: Tid,
@@ -75,6 +79,13 @@ pub enum Message {
         tid: Tid,
         follows: Seq,
         meta: FileMeta,
+    },
+    /// The client comes back: what it has of each file for which a `Cap` ever came and of each realm that it
+    /// knows, both by rising inodes, and how many messages that are sent again follow.
+    Reconnect {
+        caps: CapReportList,
+        realms: RealmSeqList,
+        resends: u32,
     },
 }
 
@@ -124,6 +135,9 @@ impl Message {
                 dir: *dir,
                 name: copy_name(alloc, name)?,
             },
+            Message::Resumed { realms } => Message::Resumed {
+                realms: copy_realms(alloc, realms)?,
+            },
             Message::Req { tid, ino, op } => Message::Req {
                 tid: *tid,
                 ino: *ino,
@@ -156,6 +170,15 @@ impl Message {
                 follows: *follows,
                 meta: *meta,
             },
+            Message::Reconnect {
+                caps,
+                realms,
+                resends,
+            } => Message::Reconnect {
+                caps: copy_reports(alloc, caps)?,
+                realms: copy_seqs(alloc, realms)?,
+                resends: *resends,
+            },
         })
     }
 
@@ -171,8 +194,10 @@ impl Message {
             | Message::Unlease { .. }
             | Message::Req { .. } => true,
             Message::Snap { number, realms, .. } => number.get() >= 1 && realms_fit(realms),
+            Message::Resumed { realms } => realms_fit(realms),
             Message::CapAck { bits, .. } => bits.fits(),
             Message::Flush { meta, .. } | Message::FlushSnap { meta, .. } => meta_fits(meta),
+            Message::Reconnect { caps, realms, .. } => reports_fit(caps) && seqs_fit(realms),
         }
     }
 }
@@ -186,6 +211,73 @@ fn copy_realms(alloc: Global, realms: &RealmRecordList) -> Result<RealmRecordLis
         list.push(realm.copy()?)?;
     }
     Ok(list)
+}
+
+// The same reports once more.
+fn copy_reports(alloc: Global, caps: &CapReportList) -> Result<CapReportList, Memory>
+    ensures { IfOk result (λ list. list ≡ caps.now) }
+{
+    let mut list = CapReportList::new(alloc);
+    for report in caps.as_slice() {
+        list.push(*report)?;
+    }
+    Ok(list)
+}
+
+fn copy_seqs(alloc: Global, realms: &RealmSeqList) -> Result<RealmSeqList, Memory>
+    ensures { IfOk result (λ list. list ≡ realms.now) }
+{
+    let mut list = RealmSeqList::new(alloc);
+    for realm in realms.as_slice() {
+        list.push(*realm)?;
+    }
+    Ok(list)
+}
+
+fn reports_fit(caps: &CapReportList) -> bool
+    ensures { result ≡ reports_fit caps.now }
+{
+    caps.len() <= 65_535 && each_report_fits(caps.as_slice()) && reports_ascend(caps.as_slice())
+}
+
+fn each_report_fits(caps: &[CapReport]) -> bool
+    ensures { result ≡ list_all report_fits caps.now }
+{
+    match caps {
+        [] => true,
+        [first, rest @ ..] => report_fits(*first) && each_report_fits(rest),
+    }
+}
+
+fn report_fits(report: CapReport) -> bool
+    ensures { result ≡ report_fits report }
+{
+    report.issued.fits() && report.implemented.fits() && report.max <= 1_048_576
+}
+
+// Whether each report is of a greater inode than the one before it.
+fn reports_ascend(caps: &[CapReport]) -> bool
+    ensures { result ≡ ascends (map (λ r. r.ino) caps.now) }
+{
+    match caps {
+        [] | [_] => true,
+        [first, rest @ ..] => first.ino < rest[0].ino && reports_ascend(rest),
+    }
+}
+
+fn seqs_fit(realms: &RealmSeqList) -> bool
+    ensures { result ≡ seqs_fit realms.now }
+{
+    realms.len() <= 65_535 && seqs_ascend(realms.as_slice())
+}
+
+fn seqs_ascend(realms: &[RealmSeq]) -> bool
+    ensures { result ≡ ascends (map (λ r. r.realm) realms.now) }
+{
+    match realms {
+        [] | [_] => true,
+        [first, rest @ ..] => first.realm < rest[0].realm && seqs_ascend(rest),
+    }
 }
 
 fn realms_fit(realms: &RealmRecordList) -> bool

@@ -27,6 +27,7 @@ impl fmt::Display for Why {
             Why::Caps => write!(f, "caps"),
             Why::Snap => write!(f, "snap"),
             Why::Max => write!(f, "max"),
+            Why::Session => write!(f, "session"),
         }
     }
 }
@@ -221,6 +222,8 @@ impl fmt::Display for Event {
             Event::Req { caller, op } => write!(f, "req {} {op}", caller.get()),
             Event::ToClient => write!(f, "toclient"),
             Event::ToMds => write!(f, "tomds"),
+            Event::DropLinks => write!(f, "drop"),
+            Event::Reconnect => write!(f, "reconnect"),
             Event::Grant { file, bits, max } => write!(f, "grant {} {bits} {max}", file.get()),
             Event::Revoke { file, bits } => write!(f, "revoke {} {bits}", file.get()),
             Event::Snap { dir, name } => {
@@ -233,6 +236,7 @@ impl fmt::Display for Event {
                 write_entry(*dir, name, f)
             }
             Event::Commit => write!(f, "commit"),
+            Event::Failover { keep } => write!(f, "failover {keep}"),
             Event::Show { file, at, off, len } => {
                 write!(f, "show {} {at} {off} {len}", file.get())
             }
@@ -293,6 +297,7 @@ impl fmt::Display for Answer {
             } => { write!(f, "snap {} {} {made}", number.get(), realm.get()) }
             Answer::Unsafe { tid, answer } => write!(f, "unsafe {} {answer}", tid.get()),
             Answer::Safe { tid } => write!(f, "safe {}", tid.get()),
+            Answer::Resumed { made } => write!(f, "resumed {made}"),
             Answer::Unlease { dir, name } => {
                 write!(f, "unlease ")?;
                 write_entry(*dir, name, f)
@@ -304,6 +309,17 @@ impl fmt::Display for Answer {
             }
             Answer::Flushed { file, tid } => write!(f, "flushed {} {}", file.get(), tid.get()),
             Answer::FlushDup { file, tid } => write!(f, "flushdup {} {}", file.get(), tid.get()),
+            Answer::Reconnected { caps, resends } => write!(f, "reconnect {caps} {resends}"),
+            Answer::DroppedLinks {
+                to_client,
+                to_server,
+            } => { write!(f, "dropped {to_client} {to_server}") }
+            Answer::Unbroken => write!(f, "unbroken"),
+            Answer::Reconnect {
+                caps,
+                requests,
+                flushes,
+            } => { write!(f, "reconnect {caps} {requests} {flushes}") }
             Answer::SentCap { seq, held } => write!(f, "sent {} held {held}", seq.get()),
             Answer::SentUnlease => write!(f, "sent"),
             Answer::Snap { number } => write!(f, "snap {}", number.get()),
@@ -311,6 +327,7 @@ impl fmt::Display for Answer {
                 write!(f, "removed {} {}", snap.get(), number.get())
             }
             Answer::Commit { count } => write!(f, "commit {count}"),
+            Answer::Failover { kept } => write!(f, "failover {kept}"),
             Answer::NoSnap => write!(f, "nosnap"),
             Answer::Gone => write!(f, "gone"),
             Answer::Pending => write!(f, "pending"),

@@ -18,6 +18,10 @@ granted s bits end = record { given = union s.given bits; held = union s.held bi
 abbrev pub revoked : ServerCaps → Caps → ServerCaps
 revoked s bits = record { given = minus s.given bits; held = s.held; seq = s.seq + 1; max = s.max }
 
+-- what a client reports in a new session
+abbrev pub adopted : Caps → Caps → ℕ → ServerCaps
+adopted issued implemented end = record { given = issued; held = implemented; seq = 0; max = end }
+
 -- The client's end
 
 abbrev pub no_client_caps : ClientCaps
@@ -30,6 +34,10 @@ delivered c bits seq end = record { issued = bits; implemented = union c.impleme
 -- an acknowledgement of bits under a number gives up all other bits
 abbrev pub acknowledged : ClientCaps → Caps → ℕ → ClientCaps
 acknowledged c bits seq = record { issued = c.issued; implemented = bits; seq = c.seq; acked = seq; max = c.max }
+
+-- a new session has no message and no acknowledgement yet
+abbrev pub restarted : ClientCaps → ClientCaps
+restarted c = record { issued = c.issued; implemented = c.implemented; seq = 0; acked = 0; max = c.max }
 
 -- nothing is left to acknowledge
 abbrev pub is_complete : ClientCaps → Bool
