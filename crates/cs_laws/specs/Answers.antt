@@ -32,7 +32,7 @@ use Rattle.cs_laws.specs.Realms.{realm_records}
 use Rattle.cs_laws.specs.ClientKnows.{client_file_path, client_files, client_knows}
 use Rattle.cs_laws.specs.ServerKnows.{server_dirs, server_file_path, server_knows, server_path}
 use Rattle.cs_laws.specs.Events.{begun, clock, setup_file}
-use Rattle.cs_laws.specs.History.{client, server, to_client, to_server, realms, context, live, writes, dirty, queued, fresh, stand, sent, used}
+use Rattle.cs_laws.specs.History.{client, server, to_client, to_server, realms, context, live, writes, dirty, queued, durable, fresh, stand, sent, used}
 use Rattle.cs_laws.specs.References.{can_end, named}
 use Rattle.cs_laws.specs.Image.{Write, image, size}
 use Rattle.cs_laws.specs.Leases.{lease, looked_up}
