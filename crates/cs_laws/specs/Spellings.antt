@@ -1,5 +1,5 @@
 -- How records of the log are spelled in bytes, and which messages and records have a spelling.
-use Rattle.std.specs.Prelude.{ℕ, ◌==◌, ◌&&◌, ◌||◌, not, nat_lt, nat_le, Bool, true, false, List, [], ◌∷◌, ◌++◌, Option, Some, None, length, map}
+use Rattle.std.specs.Prelude.{ℕ, ◌==◌, ◌&&◌, ◌||◌, not, nat_lt, nat_le, Bool, true, false, List, [], ◌∷◌, ◌++◌, Option, Some, None, length}
 use Rattle.std.specs.List.{list_all}
 use Rattle.cs_bits.specs.Bits as sets
 use Rattle.cs_codec.specs.Fields.{flag_bytes, is_in, name_bytes, number_bytes}
@@ -122,20 +122,25 @@ realm_fits r = has_parent r.realm r.parent && (nat_le 1 r.since && (snaps_fit r.
 abbrev pub realms_fit : List RealmRecord → Bool
 realms_fit rs = nat_le (length rs) most_items && list_all realm_fits rs
 
--- each number is greater than the one before it
-abbrev pub ascends : List ℕ → Bool
-ascends [] = true
-ascends (n ∷ []) = true
-ascends (n ∷ m ∷ ms) = nat_lt n m && ascends (m ∷ ms)
+-- each is of a greater inode than the one before it
+abbrev pub reports_ascend : List CapReport → Bool
+reports_ascend [] = true
+reports_ascend (r ∷ []) = true
+reports_ascend (r ∷ s ∷ rs) = nat_lt r.ino s.ino && reports_ascend (s ∷ rs)
+
+abbrev pub seqs_ascend : List RealmSeq → Bool
+seqs_ascend [] = true
+seqs_ascend (r ∷ []) = true
+seqs_ascend (r ∷ s ∷ rs) = nat_lt r.realm s.realm && seqs_ascend (s ∷ rs)
 
 abbrev pub report_fits : CapReport → Bool
 report_fits r = sets.fits r.issued && (sets.fits r.implemented && nat_le r.max greatest_end)
 
 abbrev pub reports_fit : List CapReport → Bool
-reports_fit rs = nat_le (length rs) most_items && (list_all report_fits rs && ascends (map (λ r. r.ino) rs))
+reports_fit rs = nat_le (length rs) most_items && (list_all report_fits rs && reports_ascend rs)
 
 abbrev pub seqs_fit : List RealmSeq → Bool
-seqs_fit rs = nat_le (length rs) most_items && ascends (map (λ r. r.realm) rs)
+seqs_fit rs = nat_le (length rs) most_items && seqs_ascend rs
 
 abbrev pub gives_lease : OpAnswer → Bool
 gives_lease (replies.Made i) = true

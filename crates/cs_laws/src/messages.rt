@@ -1,7 +1,7 @@
 // The messages between client and server.
-ghost use Rattle.std.specs.Prelude.{◌≡◌, IfOk, map};
+ghost use Rattle.std.specs.Prelude.{◌≡◌, IfOk};
 ghost use Rattle.std.specs.List.{list_all};
-ghost use Rattle.cs_laws.specs.Spellings.{ascends, descends, lease_fits, message_fits, realm_fits, realms_fit, report_fits, reports_fit, seqs_fit, snaps_fit};
+ghost use Rattle.cs_laws.specs.Spellings.{descends, lease_fits, message_fits, realm_fits, realms_fit, report_fits, reports_ascend, reports_fit, seqs_ascend, seqs_fit, snaps_fit};
 
 use crate::records::meta_fits;
 use crate::requests::copy_name;
@@ -257,10 +257,11 @@ fn report_fits(report: CapReport) -> bool
 
 // Whether each report is of a greater inode than the one before it.
 fn reports_ascend(caps: &[CapReport]) -> bool
-    ensures { result ≡ ascends (map (λ r. r.ino) caps.now) }
+    ensures { result ≡ reports_ascend caps.now }
 {
     match caps {
-        [] | [_] => true,
+        [] => true,
+        [_last] => true,
         [first, rest @ ..] => first.ino < rest[0].ino && reports_ascend(rest),
     }
 }
@@ -272,10 +273,11 @@ fn seqs_fit(realms: &RealmSeqList) -> bool
 }
 
 fn seqs_ascend(realms: &[RealmSeq]) -> bool
-    ensures { result ≡ ascends (map (λ r. r.realm) realms.now) }
+    ensures { result ≡ seqs_ascend realms.now }
 {
     match realms {
-        [] | [_] => true,
+        [] => true,
+        [_last] => true,
         [first, rest @ ..] => first.realm < rest[0].realm && seqs_ascend(rest),
     }
 }

@@ -17,9 +17,7 @@ pub enum ServerState {
     /// Messages come and go.
     Active,
     /// A `Reconnect` came, and so many of the messages behind it, at least one, are still to come.
-    Replaying {
-        left: u32,
-    },
+    Replaying { left: u32 },
     /// What was under way is lost, and no `Reconnect` came since.
     Broken,
 }
