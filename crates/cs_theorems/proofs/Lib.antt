@@ -11,6 +11,7 @@ pub mod Pieces
 pub mod Runs
 pub mod Inversions
 pub mod Phase
+pub mod Sessions
 pub mod Refused
 pub mod News
 -- References and their uses
