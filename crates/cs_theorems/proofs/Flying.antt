@@ -44,7 +44,7 @@ use Rattle.cs_theorems.proofs.AskedTold.{asked_stands, all_told}
 
 -- Numbers that rise
 
-above_plain : (n t : ℕ) (ts : List ℕ) → RisesFrom n ts → Member t ts → n < t
+pub above_plain : (n t : ℕ) (ts : List ℕ) → RisesFrom n ts → Member t ts → n < t
 above_plain n t [] up there = absurd there
 above_plain n t (u ∷ ts) up (inl is) = omega (arith, is, up.0)
 above_plain n t (u ∷ ts) up (inr there) = omega (arith, up.0, above_plain u t ts up.1 there)
@@ -58,7 +58,7 @@ less_behind n (z ∷ xs) ys x y up (inr before) behind = less_behind z xs ys x y
 -- Answered requests are the first ones
 
 -- among those that are replayed one has an answer where it is among the first ones
-got_reply : (h : List Entry) (i : AskedAnswered h) (t : ℕ) → Member t (asked_tids i.got) → has_reply t (replies h) ≡ true
+pub got_reply : (h : List Entry) (i : AskedAnswered h) (t : ℕ) → Member t (asked_tids i.got) → has_reply t (replies h) ≡ true
 got_reply h i t there =
     let k = tid_member t i.got there in subst (λ n. has_reply n (replies h) ≡ true) k.2 (i.answered k.0 k.1)
 
