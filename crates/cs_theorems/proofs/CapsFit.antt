@@ -1,5 +1,5 @@
 -- Only capabilities that exist are given, issued and on their way.
-use Rattle.std.proofs.Common.{◌≡◌, ℕ, ◌==◌, true, List, [], ◌∷◌, None, nat_le}
+use Rattle.std.proofs.Common.{◌≡◌, ℕ, ◌==◌, true, List, [], ◌∷◌, None, nat_le, Some, Bool, inl, refl, ◌++◌}
 use Rattle.std.proofs.lemmas.Bool.{and_parts, cond_both}
 use Rattle.cs_bits.specs.declared.Caps.{Caps}
 use Rattle.cs_bits.specs.Bits as sets
@@ -26,26 +26,40 @@ use Rattle.cs_laws.specs.Flushes.{Flush, flush_message}
 use Rattle.cs_laws.specs.History.{client, durable, fresh, last_sent, present, server, snap, to_client, to_server}
 use Rattle.cs_laws.specs.Journal.{entry}
 use Rattle.cs_laws.specs.Runs.{IsRun}
-use Rattle.cs_laws.specs.Standing.{news, news_of}
+use Rattle.cs_laws.specs.Standing.{news, news_of, resumption}
 use Rattle.cs_laws.specs.ServerKnows.{server_dirs, server_path}
 use Rattle.cs_theorems.proofs.Held.{Within, minus_within, none_within, union_within}
 use Rattle.cs_theorems.proofs.Inversions.{CheckIs, check_unknown, check_session, check_nothing, check_hold, check_ack, check_is, FirstIs, first_idle, first_cap, first_flush_ack, first_unsafe, first_resumed, first_safe, first_unlease, first_snap, first_is}
-use Rattle.cs_theorems.proofs.Listed.{Each, each_append, each_drop, each_end, each_nil, member_first}
-use Rattle.cs_theorems.proofs.News.{each_again, each_answered, each_news}
+use Rattle.cs_theorems.proofs.Listed.{Each, each_append, each_drop, each_end, each_nil, member_first, each_cons, each_tail}
+use Rattle.cs_theorems.proofs.News.{each_again, each_answered, each_news, each_resumption}
 use Rattle.cs_theorems.proofs.Runs.{of_run}
+use Rattle.cs_laws.specs.Sessions.{is_broken, is_last, server_state}
+use Rattle.cs_theorems.proofs.Phase.{all_realms, call, again, each_resend}
+use Rattle.cs_theorems.specs.Phases.{IsResend}
+use Rattle.cs_laws.specs.Reports.{capped, caps_reported, reported, reports, report_of}
+use Rattle.cs_laws.specs.Carried.{first_reports, reports_on}
+use Rattle.cs_laws.specs.declared.reports.CapReport.{CapReport}
+use Rattle.cs_laws.specs.declared.sessions.ServerState.{ServerState}
+use Rattle.std.specs.Prelude.{find}
 
 abbrev pub Exist : Caps → Type 0
 Exist bits = Within bits sets.every_cap
+
+-- what is reported does
+abbrev pub ReportExists : CapReport → Type 0
+ReportExists r = Exist r.issued × Exist r.implemented
 
 -- the bits that a message carries do
 abbrev pub BitsExist : Message → Type 0
 BitsExist (messages.Cap f seq bits end) = Exist bits
 BitsExist (messages.CapAck f seq bits) = Exist bits
+BitsExist (messages.Reconnect caps realms resends) = Each ReportExists caps
 BitsExist _ = Unit {0}
 
 pub record CapsFit (h : List Entry) : Type 0 where
   pub given : (f : ℕ) → Exist (server h f).given
   pub issued : (f : ℕ) → Exist (client h f).issued
+  pub implemented : (f : ℕ) → Exist (client h f).implemented
   pub told : Each BitsExist (to_client h)
   pub received : Each BitsExist (to_server h)
 
@@ -60,13 +74,22 @@ built_exist bits is = record {
 granted_exist : (s : ServerCaps) (bits : Caps) (end : ℕ) → fits (e.Grant 0 bits end) ≡ true → Exist s.given → Exist (granted s bits end).given
 granted_exist s bits end fit i = union_within s.given bits sets.every_cap i (built_exist bits (and_parts (is_built bits) (nat_le end greatest_end) fit).0)
 
-given_then : (x : Event) (y : Answer) (f : ℕ) (s : ServerCaps) → fits x ≡ true → Exist s.given → Exist (server_then x y f s).given
-given_then (e.Grant g bits end) (a.SentCap seq held) f s fit i =
+report_exists : (rs : List CapReport) (f : ℕ) → Each ReportExists rs → Exist (caps_reported rs f).given
+report_exists [] f i = none_within sets.every_cap
+report_exists (r ∷ rs) f i =
+    cond_both (r.ino == f) (Some r) (find (λ k. k.ino == f) rs) (λ o. Exist (reported o).given) (λ _. (i r (inl refl)).0)
+    (λ _. report_exists rs f (each_tail ReportExists r rs i))
+
+given_then : (x : Event) (y : Answer) (rs : List CapReport) (f : ℕ) (s : ServerCaps) → fits x ≡ true → Each ReportExists rs → Exist s.given
+    → Exist (server_then x y rs f s).given
+given_then (e.Grant g bits end) (a.SentCap seq held) rs f s fit all i =
     cond_both (g == f) (granted s bits end) s (λ t. Exist t.given) (λ _. granted_exist s bits end fit i) (λ _. i)
-given_then (e.Revoke g bits) (a.SentCap seq held) f s fit i =
+given_then (e.Revoke g bits) (a.SentCap seq held) rs f s fit all i =
     cond_both (g == f) (revoked s bits) s (λ t. Exist t.given) (λ _. minus_within s.given bits sets.every_cap i) (λ _. i)
-given_then e.ToMds (a.CapAck g seq held) f s fit i = cond_both (g == f) (record s { held = held }) s (λ t. Exist t.given) (λ _. i) (λ _. i)
-given_then _ _ f s fit i = i
+given_then e.ToMds (a.CapAck g seq held) rs f s fit all i = cond_both (g == f) (record s { held = held }) s (λ t. Exist t.given) (λ _. i) (λ _. i)
+given_then e.ToMds (a.Reconnected caps resends) rs f s fit all i = report_exists rs f all
+given_then (e.Failover keep) (a.Failover kept) rs f s fit all i = none_within sets.every_cap
+given_then _ _ rs f s fit all i = i
 
 news_exist : (before : List Record) (realms : List RealmRecord) (body : RecordBody) → BitsExist (news_of before realms body)
 news_exist before realms (bodies.Request tid op answer) = tt
@@ -74,26 +97,38 @@ news_exist before realms (bodies.Flush snap f tid follows meta) = tt
 news_exist before realms (bodies.Snap number d name) = tt
 news_exist before realms (bodies.Removal s number) = tt
 
-told_then : (x : Event) (y : Answer) (s : ℕ → ServerCaps) (ds : List Record) (new q : List Message) → fits x ≡ true → ((f : ℕ) → Exist (s f).given)
-    → Each BitsExist new → Each BitsExist q → Each BitsExist (to_client_then x y s ds new q)
-told_then (e.Grant g bits end) (a.SentCap seq held) s ds new q fit given news i =
+quiet_resumption : (b : Bool) (all : List RealmRecord) → Each BitsExist (resumption b all)
+quiet_resumption b all = each_resumption BitsExist b all tt
+
+told_then : (x : Event) (y : Answer) (v : ServerState) (s : ℕ → ServerCaps) (ds : List Record) (all : List RealmRecord) (new q : List Message) → fits x ≡ true
+    → ((f : ℕ) → Exist (s f).given) → Each BitsExist new → Each BitsExist q → Each BitsExist (to_client_then x y v s ds all new q)
+told_then (e.Grant g bits end) (a.SentCap seq held) v s ds all new q fit given tells i =
     each_end BitsExist q (cap_message g (granted (s g) bits end)) i (granted_exist (s g) bits end fit (given g))
-told_then (e.Revoke g bits) (a.SentCap seq held) s ds new q fit given news i =
+told_then (e.Revoke g bits) (a.SentCap seq held) v s ds all new q fit given tells i =
     each_end BitsExist q (cap_message g (revoked (s g) bits)) i (minus_within (s g).given bits sets.every_cap (given g))
-told_then e.Commit (a.Commit count) s ds new q fit given news i = each_append BitsExist q new i news
-told_then e.ToMds (a.FlushDup f tid) s ds new q fit given news i =
-    each_append BitsExist q (acked_again f tid ds) i (each_again BitsExist f tid ds (λ _. tt))
-told_then e.ToClient (a.Cap g seq bits end) s ds new q fit given news i = each_drop BitsExist q i
-told_then e.ToClient (a.FlushAck f tid) s ds new q fit given news i = each_drop BitsExist q i
-told_then e.ToClient (a.SnapTold number realm made) s ds new q fit given news i = each_drop BitsExist q i
-told_then e.ToClient (a.Unsafe tid o) s ds new q fit given news i = each_drop BitsExist q i
-told_then e.ToClient (a.Safe tid) s ds new q fit given news i = each_drop BitsExist q i
-told_then e.ToClient (a.Unlease d name) s ds new q fit given news i = each_drop BitsExist q i
-told_then e.ToMds (a.Req tid o) s ds new q fit given news i = each_end BitsExist q (unsafe_message tid o) i tt
-told_then e.ToMds (a.ReqDup tid o) s ds new q fit given news i =
-    each_append BitsExist q (answered_again tid o ds) i (each_answered BitsExist tid o ds tt tt)
-told_then (e.Unlease d name) a.SentUnlease s ds new q fit given news i = each_end BitsExist q (messages.Unlease d name) i tt
-told_then _ _ s ds new q fit given news i = i
+told_then e.Commit (a.Commit count) v s ds all new q fit given tells i =
+    cond_both (is_broken v) q (q ++ new) (λ r. Each BitsExist r) (λ _. i) (λ _. each_append BitsExist q new i tells)
+told_then e.ToMds (a.Flushed f tid) v s ds all new q fit given tells i = each_append BitsExist q _ i (quiet_resumption (is_last v) all)
+told_then e.ToMds (a.Reconnected caps resends) v s ds all new q fit given tells i = each_append BitsExist q _ i (quiet_resumption (resends == 0) all)
+told_then e.ToMds (a.FlushDup f tid) v s ds all new q fit given tells i =
+    each_append BitsExist q _ i
+    (each_append BitsExist (acked_again f tid ds) _ (each_again BitsExist f tid ds (λ _. tt)) (quiet_resumption (is_last v) all))
+told_then e.ToMds (a.Req tid o) v s ds all new q fit given tells i =
+    each_append BitsExist q _ i (each_cons BitsExist (unsafe_message v tid o) _ tt (quiet_resumption (is_last v) all))
+told_then e.ToMds (a.ReqDup tid o) v s ds all new q fit given tells i =
+    each_append BitsExist q _ i
+    (each_append BitsExist (answered_again tid o ds) _ (each_answered BitsExist tid o ds tt tt) (quiet_resumption (is_last v) all))
+told_then e.ToClient (a.Cap g seq bits end) v s ds all new q fit given tells i = each_drop BitsExist q i
+told_then e.ToClient (a.FlushAck f tid) v s ds all new q fit given tells i = each_drop BitsExist q i
+told_then e.ToClient (a.SnapTold number realm made) v s ds all new q fit given tells i = each_drop BitsExist q i
+told_then e.ToClient (a.Unsafe tid o) v s ds all new q fit given tells i = each_drop BitsExist q i
+told_then e.ToClient (a.Safe tid) v s ds all new q fit given tells i = each_drop BitsExist q i
+told_then e.ToClient (a.Unlease d name) v s ds all new q fit given tells i = each_drop BitsExist q i
+told_then e.ToClient (a.Resumed made) v s ds all new q fit given tells i = each_drop BitsExist q i
+told_then (e.Unlease d name) a.SentUnlease v s ds all new q fit given tells i = each_end BitsExist q (messages.Unlease d name) i tt
+told_then e.DropLinks (a.DroppedLinks n m) v s ds all new q fit given tells i = each_nil BitsExist
+told_then (e.Failover keep) (a.Failover kept) v s ds all new q fit given tells i = each_nil BitsExist
+told_then _ _ v s ds all new q fit given tells i = i
 
 -- What the client is issued, and acknowledges
 
@@ -128,44 +163,85 @@ answer_exists p h _ i = tt
 issued_then : (x : Event) (y : Answer) (f : ℕ) (c : ClientCaps) → AnswerExists x y → Exist c.issued → Exist (client_then x y f c).issued
 issued_then e.ToClient (a.Cap g seq bits end) f c new i = cond_both (g == f) (delivered c bits seq end) c (λ d. Exist d.issued) (λ _. new) (λ _. i)
 issued_then (e.Check g) (a.Ack seq bits) f c new i = cond_both (g == f) (acknowledged c bits seq) c (λ d. Exist d.issued) (λ _. i) (λ _. i)
+issued_then e.Reconnect (a.Reconnect caps requests flushes) f c new i = i
 issued_then _ _ f c new i = i
+
+implemented_then : (x : Event) (y : Answer) (f : ℕ) (c : ClientCaps) → AnswerExists x y → Exist c.implemented → Exist (client_then x y f c).implemented
+implemented_then e.ToClient (a.Cap g seq bits end) f c new i =
+    cond_both (g == f) (delivered c bits seq end) c (λ d. Exist d.implemented) (λ _. union_within c.implemented bits sets.every_cap i new) (λ _. i)
+implemented_then (e.Check g) (a.Ack seq bits) f c new i =
+    cond_both (g == f) (acknowledged c bits seq) c (λ d. Exist d.implemented) (λ _. new) (λ _. i)
+implemented_then e.Reconnect (a.Reconnect caps requests flushes) f c new i = i
+implemented_then _ _ f c new i = i
+
+-- what the client reports, and what it sends again, do
+
+all_reports : (h : List Entry) (fs : List ℕ) → CapsFit h → Each ReportExists (reports (λ f. client h f) fs)
+all_reports h [] i = each_nil ReportExists
+all_reports h (f ∷ fs) i =
+    each_cons ReportExists (report_of f (client h f)) (reports (λ g. client h g) fs) (i.issued f, i.implemented f) (all_reports h fs i)
+
+resend_exists : (m : Message) → IsResend m → BitsExist m
+resend_exists (messages.Req tid ino op) is = tt
+resend_exists (messages.Flush f tid follows meta) is = tt
+resend_exists (messages.FlushSnap f tid follows meta) is = tt
+resend_exists _ is = absurd is
+
+call_exists : (h : List Entry) → CapsFit h → Each BitsExist (call h)
+call_exists h i =
+    each_cons BitsExist _ (again h) (all_reports h (capped h) i) (λ m there. resend_exists m (each_resend h m there))
 
 -- a flush carries none
 flush_exists : (x : Flush) → BitsExist (flush_message x)
 flush_exists x = cond_both x.snap _ _ BitsExist (λ _. tt) (λ _. tt)
 
-received_then : (x : Event) (y : Answer) (now : ℕ → ℕ → Flush) (old : ℕ → ℕ → ℕ → Flush) (q : List Message) → AnswerExists x y → Each BitsExist q
-    → Each BitsExist (to_server_then x y now old q)
-received_then (e.Check f) (a.Ack seq bits) now old q new i = each_end BitsExist q (messages.CapAck f seq bits) i new
-received_then (e.Flush f) (a.Flush tid) now old q new i = each_end BitsExist q (flush_message (now f tid)) i (flush_exists (now f tid))
-received_then (e.FlushSnaps f) (a.FlushSnap tid follows) now old q new i =
+received_then : (x : Event) (y : Answer) (now : ℕ → ℕ → Flush) (old : ℕ → ℕ → ℕ → Flush) (r q : List Message) → AnswerExists x y
+    → Each BitsExist r → Each BitsExist q → Each BitsExist (to_server_then x y now old r q)
+received_then (e.Check f) (a.Ack seq bits) now old r q new all i = each_end BitsExist q (messages.CapAck f seq bits) i new
+received_then (e.Flush f) (a.Flush tid) now old r q new all i = each_end BitsExist q (flush_message (now f tid)) i (flush_exists (now f tid))
+received_then (e.FlushSnaps f) (a.FlushSnap tid follows) now old r q new all i =
     each_end BitsExist q (flush_message (old f tid follows)) i (flush_exists (old f tid follows))
-received_then e.ToMds (a.CapAck f seq held) now old q new i = each_drop BitsExist q i
-received_then e.ToMds (a.Flushed f tid) now old q new i = each_drop BitsExist q i
-received_then e.ToMds (a.FlushDup f tid) now old q new i = each_drop BitsExist q i
-received_then e.ToMds (a.Req tid o) now old q new i = each_drop BitsExist q i
-received_then e.ToMds (a.ReqDup tid o) now old q new i = each_drop BitsExist q i
-received_then (e.Req c op) (a.Sent tid) now old q new i = each_end BitsExist q (messages.Req tid None op) i tt
-received_then _ _ now old q new i = i
+received_then e.ToMds (a.CapAck f seq held) now old r q new all i = each_drop BitsExist q i
+received_then e.ToMds (a.Flushed f tid) now old r q new all i = each_drop BitsExist q i
+received_then e.ToMds (a.FlushDup f tid) now old r q new all i = each_drop BitsExist q i
+received_then e.ToMds (a.Req tid o) now old r q new all i = each_drop BitsExist q i
+received_then e.ToMds (a.ReqDup tid o) now old r q new all i = each_drop BitsExist q i
+received_then (e.Req c op) (a.Sent tid) now old r q new all i = each_end BitsExist q (messages.Req tid None op) i tt
+received_then e.ToMds (a.Reconnected caps resends) now old r q new all i = each_drop BitsExist q i
+received_then e.Reconnect (a.Reconnect caps requests flushes) now old r q new all i = each_append BitsExist q r i all
+received_then e.DropLinks (a.DroppedLinks n m) now old r q new all i = each_nil BitsExist
+received_then (e.Failover keep) (a.Failover kept) now old r q new all i = each_nil BitsExist
+received_then _ _ now old r q new all i = i
 
 -- After each event
+
+-- so do those that the first message to the server tells of
+first_exist : (q : List Message) → Each BitsExist q → Each ReportExists (first_reports q)
+first_exist [] i = each_nil ReportExists
+first_exist (m ∷ q) i = at m (i m (inl refl))
+  where
+    at : (n : Message) → BitsExist n → Each ReportExists (reports_on n)
+    at (messages.Reconnect caps realms resends) own = own
+    at _ own = each_nil ReportExists
 
 caps_step : (p : ℕ) (h : List Entry) (x : Event) → fits x ≡ true → CapsFit h → CapsFit (entry p h x ∷ h)
 caps_step p h x fit i =
     let up : ℕ → List ℕ = λ d. server_path h d in
     let told_now : List Message = news up (server_dirs h) (last_sent h) (durable h) (fresh h) in
     record {
-      given = λ f. given_then x (answer p h x) f (server h f) fit (i.given f);
+      given = λ f. given_then x (answer p h x) (first_reports (to_server h)) f (server h f) fit (first_exist (to_server h) i.received) (i.given f);
       issued = λ f. issued_then x (answer p h x) f (client h f) (answer_exists p h x i) (i.issued f);
-      told = told_then x (answer p h x) (λ f. server h f) (durable h) told_now (to_client h) fit i.given
+      implemented = λ f. implemented_then x (answer p h x) f (client h f) (answer_exists p h x i) (i.implemented f);
+      told = told_then x (answer p h x) (server_state h) (λ f. server h f) (durable h) (all_realms h) told_now (to_client h) fit i.given
           (each_news BitsExist news_exist up (server_dirs h) (last_sent h) (durable h) (fresh h)) i.told;
-      received = received_then x (answer p h x) (present h) (snap h) (to_server h) (answer_exists p h x i) i.received;
+      received = received_then x (answer p h x) (present h) (snap h) (call h) (to_server h) (answer_exists p h x i) (call_exists h i) i.received;
     }
 
 caps_first : CapsFit []
 caps_first = record {
   given = λ f. none_within sets.every_cap;
   issued = λ f. none_within sets.every_cap;
+  implemented = λ f. none_within sets.every_cap;
   told = each_nil BitsExist;
   received = each_nil BitsExist;
 }
