@@ -44,9 +44,9 @@ use Rattle.cs_theorems.proofs.Along.{Along, along_first, context_rises, delivers
 use Rattle.cs_theorems.proofs.Asked.{made_append}
 use Rattle.cs_theorems.proofs.Asks.{Asks, Goes, IsEarly}
 use Rattle.cs_theorems.proofs.Commits.{Told, told_commit}
-use Rattle.cs_theorems.proofs.Drawn.{DrawnAt}
+use Rattle.cs_theorems.proofs.Drawn.{DrawnAt, cut_is, draws_front}
 use Rattle.cs_theorems.proofs.Fronts.{root_has}
-use Rattle.cs_theorems.proofs.Inversions.{FirstIs, first_idle, first_cap, first_flush_ack, first_unsafe, first_safe, first_unlease, first_snap, first_is, GrantIs, grant_unknown, grant_sent, grant_is, ReceivedIs, received_idle, received_ack, received_flush, received_again, received_req, received_req_again, received_is, RemoveIs, remove_none, remove_gone, removed, remove_is, revoke_is, SnapIs, snap_unknown, snap_exists, snap_taken, snap_is, UnleaseIs, unlease_unknown, unlease_sent, unlease_is}
+use Rattle.cs_theorems.proofs.Inversions.{FirstIs, first_idle, first_cap, first_flush_ack, first_unsafe, first_safe, first_unlease, first_snap, first_resumed, first_is, GrantIs, grant_unknown, grant_session, grant_sent, grant_is, ReceivedIs, received_idle, received_ack, received_reconnect, received_flush, received_again, received_req, received_req_again, received_is, RemoveIs, remove_none, remove_gone, remove_session, removed, remove_is, revoke_is, SnapIs, snap_unknown, snap_session, snap_exists, snap_taken, snap_is, UnleaseIs, unlease_unknown, unlease_session, unlease_sent, unlease_is}
 use Rattle.cs_theorems.proofs.Links.{carried}
 use Rattle.cs_theorems.proofs.Listed.{Each}
 use Rattle.cs_theorems.proofs.Listing.{Listing, ListingAt}
@@ -56,7 +56,7 @@ use Rattle.cs_theorems.proofs.Sent.{same_on}
 use Rattle.cs_theorems.proofs.Sides.{all_dir, all_made, all_path, all_tree, client_file_way, log_dirs, named_dirs, server_front, server_in, server_listing, server_way, setup_used}
 use Rattle.cs_theorems.proofs.Standing.{recorded_one}
 use Rattle.cs_theorems.proofs.Trees.{AreUsed, Grown, all_are_used, dirs_are, dirs_of, grown_behind, listing_paths, more_are_used, more_dirs, more_used, not_dir, paths_append, used_of}
-use Rattle.cs_theorems.proofs.Ways.{draws_front, front_realm}
+use Rattle.cs_theorems.proofs.Ways.{front_realm}
 
 -- dir: the directories of the setup lines; up: the path of each directory that was ever asked for; ss: the realm records that were sent
 -- last; ts: the client's; q: the messages to it; all, fs: the durable records and the others

@@ -11,5 +11,6 @@ pub mod Refusals
 pub mod Replays
 pub mod Snapshots
 pub mod Spellings
+pub mod Told
 pub mod Unacked
 pub mod Underway
