@@ -177,7 +177,7 @@ unknown_low : (h : List Entry) (tid : ℕ) (o : OpAnswer) (f : ℕ) → Asks (re
 unknown_low h tid o f now i unknown =
     let later : List Entry = record { event = e.ToClient; answer = a.Unsafe tid o } ∷ h in
     let tree = all_tree h i.tree i.asks in
-    let link = i.front.told.link in
+    let link = i.front.link in
     let inside : (d : ℕ) → is_realm link.front d ≡ true → all_dir h d ≡ true = λ d is. log_realms h i.asks i.front d (front_realm link.front (durable h) d link.whole is) in
     let old : client_file_path h f ≡ all_path h 1 = client_file_way h i.housed i.asks f ∙ ap (λ d. all_path h d) (unknown_home h f unknown) in
     let new : client_file_path later f ≡ all_path h (client_home later f) = client_file_way later i.housed now f in
