@@ -4,6 +4,7 @@ pub mod Contexts
 pub mod Flushes
 pub mod Metadata
 pub mod Order
+pub mod Phases
 pub mod Queues
 pub mod Realms
 pub mod References
