@@ -13,7 +13,7 @@ use Rattle.cs_laws.specs.declared.events.RefName.{RefName}
 use Rattle.cs_laws.specs.declared.answers.Answer.{Answer}
 use Rattle.cs_laws.specs.declared.answers.Entry.{Entry}
 use Rattle.cs_laws.specs.Answers.{may_write}
-use Rattle.cs_laws.specs.CapSnaps.{CapSnap, is_writing, makes, queued_mode, writers}
+use Rattle.cs_laws.specs.CapSnaps.{CapSnap, is_writing, makes, queued_mode, writers, with_cap_snap}
 use Rattle.cs_laws.specs.Context.{with_first, path_context}
 use Rattle.cs_laws.specs.ClientKnows.{client_file_path, client_knows}
 use Rattle.cs_laws.specs.Events.{begun, clock}
