@@ -28,7 +28,7 @@ use Rattle.cs_theorems.proofs.News.{each_again, each_answered}
 use Rattle.cs_theorems.proofs.Rising.{at_first}
 use Rattle.cs_theorems.proofs.Standing.{flush_stands, tids_append}
 use Rattle.cs_theorems.proofs.Runs.{of_run}
-use Rattle.cs_theorems.proofs.Inversions.{FirstIs, first_idle, first_cap, first_flush_ack, first_unsafe, first_safe, first_unlease, first_snap, first_is, GrantIs, grant_unknown, grant_sent, grant_is, revoke_is, ReceivedIs, received_idle, received_ack, received_flush, received_again, received_req, received_req_again, received_is, UnleaseIs, unlease_unknown, unlease_sent, unlease_is}
+use Rattle.cs_theorems.proofs.Inversions.{FirstIs, first_idle, first_cap, first_flush_ack, first_unsafe, first_resumed, first_safe, first_unlease, first_snap, first_is, GrantIs, grant_unknown, grant_session, grant_sent, grant_is, revoke_is, ReceivedIs, received_idle, received_ack, received_flush, received_again, received_reconnect, received_req, received_req_again, received_is, UnleaseIs, unlease_unknown, unlease_session, unlease_sent, unlease_is}
 use Rattle.cs_laws.specs.declared.requests.OpAnswer.{OpAnswer}
 use Rattle.cs_laws.specs.Names.{names}
 use Rattle.cs_laws.specs.Namespace.{answer_on}
@@ -120,12 +120,14 @@ AllAcked h = (f : ℕ) → Acks f (durable h) (to_client h) (λ n. acked h f n)
 step_grant : (h : List Entry) (g : ℕ) (bits : Caps) (end : ℕ) (x : Answer) → GrantIs h g (granted (server h g) bits end) x → AllAcked h
     → AllAcked (record { event = e.Grant g bits end; answer = x } ∷ h)
 step_grant h g bits end x grant_unknown i = i
-step_grant h g bits end x grant_sent i = λ f. acks_message f (durable h) (to_client h) (λ n. acked h f n) (cap_message g (granted (server h g) bits end)) tt (i f)
+step_grant h g bits end x grant_session i = i
+step_grant h g bits end x (grant_sent active) i = λ f. acks_message f (durable h) (to_client h) (λ n. acked h f n) (cap_message g (granted (server h g) bits end)) tt (i f)
 
 step_revoke : (h : List Entry) (g : ℕ) (bits : Caps) (x : Answer) → GrantIs h g (revoked (server h g) bits) x → AllAcked h
     → AllAcked (record { event = e.Revoke g bits; answer = x } ∷ h)
 step_revoke h g bits x grant_unknown i = i
-step_revoke h g bits x grant_sent i = λ f. acks_message f (durable h) (to_client h) (λ n. acked h f n) (cap_message g (revoked (server h g) bits)) tt (i f)
+step_revoke h g bits x grant_session i = i
+step_revoke h g bits x (grant_sent active) i = λ f. acks_message f (durable h) (to_client h) (λ n. acked h f n) (cap_message g (revoked (server h g) bits)) tt (i f)
 
 -- the first message is taken
 abbrev Left : List Entry → ℕ → (ℕ → Bool) → List Message → Type 0
@@ -149,6 +151,10 @@ step_to_client h x (first_safe tid q is) i = λ f.
     let was : ℕ → Bool = λ n. acked h f n in
     at_first (λ p. Left h f was p) (λ p. Left h f was p) (messages.Safe tid) q (to_client h) is
     (λ j. acks_taken f (durable h) q was (messages.Safe tid) j) (i f)
+step_to_client h x (first_resumed told_now q is) i = λ f.
+    let was : ℕ → Bool = λ n. acked h f n in
+    at_first (λ p. Left h f was p) (λ p. Left h f was p) (messages.Resumed told_now) q (to_client h) is
+    (λ j. acks_taken f (durable h) q was (messages.Resumed told_now) j) (i f)
 step_to_client h x (first_unlease d name q is) i = λ f.
     let was : ℕ → Bool = λ n. acked h f n in
     at_first (λ p. Left h f was p) (λ p. Left h f was p) (messages.Unlease d name) q (to_client h) is
@@ -168,7 +174,8 @@ step_server h x (received_req_again tid ino op q is again) i = λ f. acks_answer
 
 step_unlease : (h : List Entry) (d : ℕ) (name : List ℕ) (x : Answer) → UnleaseIs h x → AllAcked h → AllAcked (record { event = e.Unlease d name; answer = x } ∷ h)
 step_unlease h d name x unlease_unknown i = i
-step_unlease h d name x unlease_sent i = λ f. acks_message f (durable h) (to_client h) (λ n. acked h f n) (messages.Unlease d name) tt (i f)
+step_unlease h d name x unlease_session i = i
+step_unlease h d name x (unlease_sent active) i = λ f. acks_message f (durable h) (to_client h) (λ n. acked h f n) (messages.Unlease d name) tt (i f)
 
 pub acked_step : (p : ℕ) (h : List Entry) (x : Event) → AllAcked h → AllAcked (entry p h x ∷ h)
 acked_step p h (e.Grant g bits end) i = step_grant h g bits end _ (grant_is h g bits end) i

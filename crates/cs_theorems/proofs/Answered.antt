@@ -44,7 +44,7 @@ use Rattle.cs_theorems.proofs.Asked.{log_made, made_append}
 use Rattle.cs_theorems.proofs.AsksRun.{AskedAlike, AskedSettles, Alike, asked_alike, asked_settles, op_found}
 use Rattle.cs_theorems.proofs.AskedStands.{AskedStands, FirstOf, NextIs, Numbers, asked_next, asked_stands, asked_tids, beside, cancel, first_missing, flush_no_req, last_asked, member_tid, req_append, req_end, req_first, req_on, req_tids, same_tid, settles_rises, stand_end, stand_same, tid_member, tids_append}
 use Rattle.cs_theorems.proofs.AskedTold.{AllTold, IsTold, all_told}
-use Rattle.cs_theorems.proofs.Inversions.{FlushIs, head_unknown, head_snap, head_clean, head_sent, flush_is, CheckIs, check_unknown, check_nothing, check_hold, check_ack, check_is, FlushSnapsIs, flush_unknown, flush_none, flush_writing, flush_sent, flush_snaps_is, FirstIs, first_idle, first_cap, first_flush_ack, first_unsafe, first_safe, first_unlease, first_snap, first_is, GrantIs, grant_unknown, grant_sent, grant_is, revoke_is, ReceivedIs, received_idle, received_ack, received_flush, received_again, received_req, received_req_again, received_is, SnapIs, snap_unknown, snap_exists, snap_taken, snap_is, RemoveIs, remove_none, remove_gone, removed, remove_is, UnleaseIs, unlease_unknown, unlease_sent, unlease_is}
+use Rattle.cs_theorems.proofs.Inversions.{FlushIs, head_unknown, head_session, head_snap, head_clean, head_sent, flush_is, CheckIs, check_unknown, check_session, check_nothing, check_hold, check_ack, check_is, FlushSnapsIs, flush_unknown, flush_session, flush_none, flush_writing, flush_sent, flush_snaps_is, FirstIs, first_idle, first_cap, first_flush_ack, first_unsafe, first_resumed, first_safe, first_unlease, first_snap, first_is, GrantIs, grant_unknown, grant_session, grant_sent, grant_is, revoke_is, ReceivedIs, received_idle, received_ack, received_flush, received_again, received_reconnect, received_req, received_req_again, received_is, SnapIs, snap_unknown, snap_session, snap_exists, snap_taken, snap_is, RemoveIs, remove_none, remove_session, remove_gone, removed, remove_is, UnleaseIs, unlease_unknown, unlease_session, unlease_sent, unlease_is}
 use Rattle.cs_theorems.proofs.Listed.{Each, Member, each_end, each_nil, each_tail, member_left, member_right}
 use Rattle.cs_theorems.proofs.News.{each_again, each_news}
 use Rattle.cs_theorems.proofs.Replays as replays
@@ -315,33 +315,38 @@ sent_also h m none i =
 step_grant : (h : List Entry) (g : ℕ) (bits : Caps) (end : ℕ) (x : Answer) → GrantIs h g (granted (server h g) bits end) x → AskedAnswered h
     → AskedAnswered (record { event = e.Grant g bits end; answer = x } ∷ h)
 step_grant h g bits end x grant_unknown i = i
-step_grant h g bits end x grant_sent i = told_also h (cap_message g (granted (server h g) bits end) ∷ []) refl i
+step_grant h g bits end x grant_session i = i
+step_grant h g bits end x (grant_sent active) i = told_also h (cap_message g (granted (server h g) bits end) ∷ []) refl i
 
 step_revoke : (h : List Entry) (g : ℕ) (bits : Caps) (x : Answer) → GrantIs h g (revoked (server h g) bits) x → AskedAnswered h
     → AskedAnswered (record { event = e.Revoke g bits; answer = x } ∷ h)
 step_revoke h g bits x grant_unknown i = i
-step_revoke h g bits x grant_sent i = told_also h (cap_message g (revoked (server h g) bits) ∷ []) refl i
+step_revoke h g bits x grant_session i = i
+step_revoke h g bits x (grant_sent active) i = told_also h (cap_message g (revoked (server h g) bits) ∷ []) refl i
 
 step_check : (h : List Entry) (g : ℕ) (x : Answer) → CheckIs h g x → AskedAnswered h
     → AskedAnswered (record { event = e.Check g; answer = x } ∷ h)
 step_check h g x check_unknown i = i
+step_check h g x check_session i = i
 step_check h g x check_nothing i = i
 step_check h g x (check_hold bits) i = i
-step_check h g x (check_ack free) i = sent_also h _ refl i
+step_check h g x (check_ack active free) i = sent_also h _ refl i
 
 step_flush_snaps : (h : List Entry) (g : ℕ) (x : Answer) → FlushSnapsIs h g x → AskedAnswered h
     → AskedAnswered (record { event = e.FlushSnaps g; answer = x } ∷ h)
 step_flush_snaps h g x flush_unknown i = i
+step_flush_snaps h g x flush_session i = i
 step_flush_snaps h g x flush_none i = i
 step_flush_snaps h g x flush_writing i = i
-step_flush_snaps h g x (flush_sent y ys known is closed) i = sent_also h _ refl i
+step_flush_snaps h g x (flush_sent y ys known active is closed) i = sent_also h _ refl i
 
 step_flush : (h : List Entry) (g : ℕ) (x : Answer) → FlushIs h g x → AskedAnswered h
     → AskedAnswered (record { event = e.Flush g; answer = x } ∷ h)
 step_flush h g x head_unknown i = i
+step_flush h g x head_session i = i
 step_flush h g x head_snap i = i
 step_flush h g x head_clean i = i
-step_flush h g x (head_sent known free changed) i = sent_also h _ refl i
+step_flush h g x (head_sent known active free changed) i = sent_also h _ refl i
 
 -- a message that is no answer arrives at the client
 client_taken : (h : List Entry) (m : Message) (q : List Message) → unsafe_on m ≡ None → to_client h ≡ m ∷ q → AskedAnswered h
@@ -356,6 +361,7 @@ step_client h x first_idle alike settles stands told i = i
 step_client h x (first_cap g seq bits end q is) alike settles stands told i = client_taken h (messages.Cap g seq bits end) q refl is i
 step_client h x (first_flush_ack g tid q is) alike settles stands told i = client_taken h (messages.FlushAck g tid) q refl is i
 step_client h x (first_safe tid q is) alike settles stands told i = client_taken h (messages.Safe tid) q refl is i
+step_client h x (first_resumed told_now q is) alike settles stands told i = client_taken h (messages.Resumed told_now) q refl is i
 step_client h x (first_unlease d name q is) alike settles stands told i = client_taken h (messages.Unlease d name) q refl is i
 step_client h x (first_snap number realm now q is) alike settles stands told i = client_taken h (messages.Snap number realm now) q refl is i
 step_client h x (first_unsafe tid o ttl q is) alike settles stands told i =
@@ -412,19 +418,22 @@ step_server h x (received_req_again tid ino op q is again) i =
 step_snap : (h : List Entry) (d : ℕ) (name : List ℕ) (x : Answer) → SnapIs h d name x → AskedAnswered h
     → AskedAnswered (record { event = e.Snap d name; answer = x } ∷ h)
 step_snap h d name x snap_unknown i = i
+step_snap h d name x snap_session i = i
 step_snap h d name x snap_exists i = i
-step_snap h d name x (snap_taken directory free) i = telling_stand _ (stand_same (durable h) (fresh h) _ refl) i
+step_snap h d name x (snap_taken directory active free) i = telling_stand _ (stand_same (durable h) (fresh h) _ refl) i
 
 step_remove : (h : List Entry) (t : ℕ) (x : Answer) → RemoveIs h t x → AskedAnswered h
     → AskedAnswered (record { event = e.RmSnap t; answer = x } ∷ h)
 step_remove h t x remove_none i = i
+step_remove h t x remove_session i = i
 step_remove h t x remove_gone i = i
-step_remove h t x (removed there stays) i = telling_stand _ (stand_same (durable h) (fresh h) _ refl) i
+step_remove h t x (removed there stays active) i = telling_stand _ (stand_same (durable h) (fresh h) _ refl) i
 
 step_unlease : (h : List Entry) (d : ℕ) (name : List ℕ) (x : Answer) → UnleaseIs h x → AskedAnswered h
     → AskedAnswered (record { event = e.Unlease d name; answer = x } ∷ h)
 step_unlease h d name x unlease_unknown i = i
-step_unlease h d name x unlease_sent i = told_also h (messages.Unlease d name ∷ []) refl i
+step_unlease h d name x unlease_session i = i
+step_unlease h d name x (unlease_sent active) i = told_also h (messages.Unlease d name ∷ []) refl i
 
 answered_step : (p : ℕ) (h : List Entry) (x : Event) → AskedAlike h → AskedSettles h → AskedStands h → AllTold h → AskedAnswered h
     → AskedAnswered (entry p h x ∷ h)

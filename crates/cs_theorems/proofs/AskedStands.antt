@@ -32,7 +32,7 @@ use Rattle.cs_theorems.specs.Replays.{above, last_from, last_tid, Replay}
 use Rattle.cs_theorems.proofs.Ascending.{above_one, member_above}
 use Rattle.cs_theorems.proofs.Asked.{names_stage}
 use Rattle.cs_theorems.proofs.AsksRun.{AskedSettles, AskedAlike, alike_length, asked_alike, asked_settles}
-use Rattle.cs_theorems.proofs.Inversions.{FlushIs, head_unknown, head_snap, head_clean, head_sent, flush_is, CheckIs, check_unknown, check_nothing, check_hold, check_ack, check_is, FlushSnapsIs, flush_unknown, flush_none, flush_writing, flush_sent, flush_snaps_is, ReceivedIs, received_idle, received_ack, received_flush, received_again, received_req, received_req_again, received_is, SnapIs, snap_unknown, snap_exists, snap_taken, snap_is, RemoveIs, remove_none, remove_gone, removed, remove_is}
+use Rattle.cs_theorems.proofs.Inversions.{FlushIs, head_unknown, head_session, head_snap, head_clean, head_sent, flush_is, CheckIs, check_unknown, check_session, check_nothing, check_hold, check_ack, check_is, FlushSnapsIs, flush_unknown, flush_session, flush_none, flush_writing, flush_sent, flush_snaps_is, ReceivedIs, received_idle, received_ack, received_flush, received_again, received_reconnect, received_req, received_req_again, received_is, SnapIs, snap_unknown, snap_session, snap_exists, snap_taken, snap_is, RemoveIs, remove_none, remove_session, remove_gone, removed, remove_is}
 use Rattle.cs_theorems.proofs.Listed.{Each, Member, each_end, each_nil, each_tail, member_left, member_right}
 use Rattle.cs_theorems.proofs.Replays as replays
 use Rattle.cs_theorems.proofs.Rising.{at_first}
@@ -356,23 +356,26 @@ greatest_stands rs i = omega (arith, greatest_last 0 rs (stands_rise i))
 step_check : (h : List Entry) (g : ℕ) (x : Answer) → CheckIs h g x → AskedStands h
     → AskedStands (record { event = e.Check g; answer = x } ∷ h)
 step_check h g x check_unknown i = i
+step_check h g x check_session i = i
 step_check h g x check_nothing i = i
 step_check h g x (check_hold bits) i = i
-step_check h g x (check_ack free) i = sending_beside _ refl tt i
+step_check h g x (check_ack active free) i = sending_beside _ refl tt i
 
 step_flush_snaps : (h : List Entry) (g : ℕ) (x : Answer) → FlushSnapsIs h g x → AskedStands h
     → AskedStands (record { event = e.FlushSnaps g; answer = x } ∷ h)
 step_flush_snaps h g x flush_unknown i = i
+step_flush_snaps h g x flush_session i = i
 step_flush_snaps h g x flush_none i = i
 step_flush_snaps h g x flush_writing i = i
-step_flush_snaps h g x (flush_sent y ys known is closed) i = sending_beside _ refl tt i
+step_flush_snaps h g x (flush_sent y ys known active is closed) i = sending_beside _ refl tt i
 
 step_flush : (h : List Entry) (g : ℕ) (x : Answer) → FlushIs h g x → AskedStands h
     → AskedStands (record { event = e.Flush g; answer = x } ∷ h)
 step_flush h g x head_unknown i = i
+step_flush h g x head_session i = i
 step_flush h g x head_snap i = i
 step_flush h g x head_clean i = i
-step_flush h g x (head_sent known free changed) i = sending_beside _ refl tt i
+step_flush h g x (head_sent known active free changed) i = sending_beside _ refl tt i
 
 -- the first message is taken
 abbrev Left : List Entry → List Message → Type 0
@@ -416,14 +419,16 @@ step_server h x (received_req_again tid ino op q is again) settles i =
 step_snap : (h : List Entry) (d : ℕ) (name : List ℕ) (x : Answer) → SnapIs h d name x → AskedStands h
     → AskedStands (record { event = e.Snap d name; answer = x } ∷ h)
 step_snap h d name x snap_unknown i = i
+step_snap h d name x snap_session i = i
 step_snap h d name x snap_exists i = i
-step_snap h d name x (snap_taken directory free) i = sending_stand _ (stand_same (durable h) (fresh h) _ refl) i
+step_snap h d name x (snap_taken directory active free) i = sending_stand _ (stand_same (durable h) (fresh h) _ refl) i
 
 step_remove : (h : List Entry) (t : ℕ) (x : Answer) → RemoveIs h t x → AskedStands h
     → AskedStands (record { event = e.RmSnap t; answer = x } ∷ h)
 step_remove h t x remove_none i = i
+step_remove h t x remove_session i = i
 step_remove h t x remove_gone i = i
-step_remove h t x (removed there stays) i = sending_stand _ (stand_same (durable h) (fresh h) _ refl) i
+step_remove h t x (removed there stays active) i = sending_stand _ (stand_same (durable h) (fresh h) _ refl) i
 
 -- the next number is above all
 pub asked_next : (h : List Entry) → AskedAlike h → AskedSettles h → last_asked (asked h) < length (requests h) + 1

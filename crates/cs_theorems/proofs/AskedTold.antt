@@ -35,7 +35,7 @@ use Rattle.cs_laws.specs.Standing.{answer_kept, greatest_request, has_request, i
 use Rattle.cs_theorems.specs.Asked.{Asked, asked, asked_in, asked_of}
 use Rattle.cs_theorems.specs.Flushes.{is_whole}
 use Rattle.cs_theorems.proofs.AskedStands.{AskedStands, Sending, again_stands, answer_found, asked_append, asked_stands, asked_tids, greatest_stands, last_asked, member_tid, stand_end, stand_same, stands_rise, tid_member, tids_append}
-use Rattle.cs_theorems.proofs.Inversions.{FirstIs, first_idle, first_cap, first_flush_ack, first_unsafe, first_safe, first_unlease, first_snap, first_is, GrantIs, grant_unknown, grant_sent, grant_is, revoke_is, ReceivedIs, received_idle, received_ack, received_flush, received_again, received_req, received_req_again, received_is, SnapIs, snap_unknown, snap_exists, snap_taken, snap_is, RemoveIs, remove_none, remove_gone, removed, remove_is, UnleaseIs, unlease_unknown, unlease_sent, unlease_is}
+use Rattle.cs_theorems.proofs.Inversions.{FirstIs, first_idle, first_cap, first_flush_ack, first_unsafe, first_resumed, first_safe, first_unlease, first_snap, first_is, GrantIs, grant_unknown, grant_session, grant_sent, grant_is, revoke_is, ReceivedIs, received_idle, received_ack, received_flush, received_again, received_reconnect, received_req, received_req_again, received_is, SnapIs, snap_unknown, snap_session, snap_exists, snap_taken, snap_is, RemoveIs, remove_none, remove_session, remove_gone, removed, remove_is, UnleaseIs, unlease_unknown, unlease_session, unlease_sent, unlease_is}
 use Rattle.cs_theorems.proofs.Listed.{Each, Member, each_append, each_cons, each_drop, each_end, each_nil, each_tail, member_left, member_right}
 use Rattle.cs_theorems.proofs.News.{each_again}
 use Rattle.cs_theorems.proofs.Runs.{of_run}
@@ -133,12 +133,14 @@ Told h m = IsTold (asked_of (stand h)) (asked_of (durable h)) m
 told_grant : (h : List Entry) (g : ℕ) (bits : Caps) (end : ℕ) (x : Answer) → GrantIs h g (granted (server h g) bits end) x → AllTold h
     → AllTold (record { event = e.Grant g bits end; answer = x } ∷ h)
 told_grant h g bits end x grant_unknown i = i
-told_grant h g bits end x grant_sent i = each_end (λ m. Told h m) (to_client h) (cap_message g (granted (server h g) bits end)) i tt
+told_grant h g bits end x grant_session i = i
+told_grant h g bits end x (grant_sent active) i = each_end (λ m. Told h m) (to_client h) (cap_message g (granted (server h g) bits end)) i tt
 
 told_revoke : (h : List Entry) (g : ℕ) (bits : Caps) (x : Answer) → GrantIs h g (revoked (server h g) bits) x → AllTold h
     → AllTold (record { event = e.Revoke g bits; answer = x } ∷ h)
 told_revoke h g bits x grant_unknown i = i
-told_revoke h g bits x grant_sent i = each_end (λ m. Told h m) (to_client h) (cap_message g (revoked (server h g) bits)) i tt
+told_revoke h g bits x grant_session i = i
+told_revoke h g bits x (grant_sent active) i = each_end (λ m. Told h m) (to_client h) (cap_message g (revoked (server h g) bits)) i tt
 
 told_client : (h : List Entry) (x : Answer) → FirstIs h x → AllTold h → AllTold (record { event = e.ToClient; answer = x } ∷ h)
 told_client h x first_idle i = i
@@ -146,6 +148,7 @@ told_client h x (first_cap g seq bits end q is) i = each_drop (λ m. Told h m) (
 told_client h x (first_flush_ack g tid q is) i = each_drop (λ m. Told h m) (to_client h) i
 told_client h x (first_unsafe tid r ttl q is) i = each_drop (λ m. Told h m) (to_client h) i
 told_client h x (first_safe tid q is) i = each_drop (λ m. Told h m) (to_client h) i
+told_client h x (first_resumed told_now q is) i = each_drop (λ m. Told h m) (to_client h) i
 told_client h x (first_unlease d name q is) i = each_drop (λ m. Told h m) (to_client h) i
 told_client h x (first_snap number realm now q is) i = each_drop (λ m. Told h m) (to_client h) i
 
@@ -197,18 +200,21 @@ told_server h x (received_req_again tid ino op q is again) stands i =
 told_snap : (h : List Entry) (d : ℕ) (name : List ℕ) (x : Answer) → SnapIs h d name x → AllTold h
     → AllTold (record { event = e.Snap d name; answer = x } ∷ h)
 told_snap h d name x snap_unknown i = i
+told_snap h d name x snap_session i = i
 told_snap h d name x snap_exists i = i
-told_snap h d name x (snap_taken directory free) i = told_record h _ refl i
+told_snap h d name x (snap_taken directory active free) i = told_record h _ refl i
 
 told_remove : (h : List Entry) (t : ℕ) (x : Answer) → RemoveIs h t x → AllTold h → AllTold (record { event = e.RmSnap t; answer = x } ∷ h)
 told_remove h t x remove_none i = i
+told_remove h t x remove_session i = i
 told_remove h t x remove_gone i = i
-told_remove h t x (removed there stays) i = told_record h _ refl i
+told_remove h t x (removed there stays active) i = told_record h _ refl i
 
 told_unlease : (h : List Entry) (d : ℕ) (name : List ℕ) (x : Answer) → UnleaseIs h x → AllTold h
     → AllTold (record { event = e.Unlease d name; answer = x } ∷ h)
 told_unlease h d name x unlease_unknown i = i
-told_unlease h d name x unlease_sent i = each_end (λ m. Told h m) (to_client h) (messages.Unlease d name) i tt
+told_unlease h d name x unlease_session i = i
+told_unlease h d name x (unlease_sent active) i = each_end (λ m. Told h m) (to_client h) (messages.Unlease d name) i tt
 
 told_commit : (h : List Entry) → AllTold h
     → Each (λ m. IsTold (asked_of (stand h ++ [])) (asked_of (stand h)) m)

@@ -16,7 +16,7 @@ use Rattle.cs_laws.specs.History.{context, dirty, live, queued, sent, writes}
 use Rattle.cs_laws.specs.Image.{Write}
 use Rattle.cs_laws.specs.Journal.{entry}
 use Rattle.cs_laws.specs.ClientKnows.{client_knows}
-use Rattle.cs_theorems.proofs.Inversions.{ChmodIs, chmod_unknown, chmod_no_bit, chmod_snap, chmod_done, chmod_is, FlushIs, head_unknown, head_snap, head_clean, head_sent, flush_is, FirstIs, first_idle, first_cap, first_flush_ack, first_unsafe, first_safe, first_unlease, first_snap, first_is, FlushSnapsIs, flush_unknown, flush_none, flush_writing, flush_sent, flush_snaps_is, WriteIs, write_unknown, write_no_bit, write_past, wrote, write_is}
+use Rattle.cs_theorems.proofs.Inversions.{ChmodIs, chmod_unknown, chmod_no_bit, chmod_snap, chmod_done, chmod_is, FlushIs, head_unknown, head_session, head_snap, head_clean, head_sent, flush_is, FirstIs, first_idle, first_cap, first_flush_ack, first_unsafe, first_resumed, first_safe, first_unlease, first_snap, first_is, FlushSnapsIs, flush_unknown, flush_session, flush_none, flush_writing, flush_sent, flush_snaps_is, WriteIs, write_unknown, write_no_bit, write_past, wrote, write_is}
 use Rattle.cs_theorems.proofs.Known.{LiveAreKnown, client_before, client_grows}
 use Rattle.cs_theorems.proofs.Modes.{Change, changes}
 use Rattle.cs_theorems.proofs.Listed.{Each, each_end, each_nil, each_tail}
@@ -74,15 +74,17 @@ step_chmod h c name mode x (chmod_done r is may free) known i = λ f unknown.
 
 step_flush : (h : List Entry) (g : ℕ) (x : Answer) → FlushIs h g x → AllBlank h → AllBlank (record { event = e.Flush g; answer = x } ∷ h)
 step_flush h g x head_unknown i = i
+step_flush h g x head_session i = i
 step_flush h g x head_snap i = i
 step_flush h g x head_clean i = i
-step_flush h g x (head_sent known free changed) i = λ f unknown. rw (apart h g f known unknown) (i f unknown)
+step_flush h g x (head_sent known active free changed) i = λ f unknown. rw (apart h g f known unknown) (i f unknown)
 
 step_flush_snaps : (h : List Entry) (g : ℕ) (x : Answer) → FlushSnapsIs h g x → AllBlank h → AllBlank (record { event = e.FlushSnaps g; answer = x } ∷ h)
 step_flush_snaps h g x flush_unknown i = i
+step_flush_snaps h g x flush_session i = i
 step_flush_snaps h g x flush_none i = i
 step_flush_snaps h g x flush_writing i = i
-step_flush_snaps h g x (flush_sent y ys known is closed) i = λ f unknown. rw (apart h g f known unknown) (i f unknown)
+step_flush_snaps h g x (flush_sent y ys known active is closed) i = λ f unknown. rw (apart h g f known unknown) (i f unknown)
 
 step_client : (h : List Entry) (x : Answer) → FirstIs h x → LiveAreKnown h → AllBlank h → AllBlank (record { event = e.ToClient; answer = x } ∷ h)
 step_client h x first_idle known i = i
@@ -90,6 +92,7 @@ step_client h x (first_cap g seq bits end q is) known i = i
 step_client h x (first_flush_ack g tid q is) known i = i
 step_client h x (first_unsafe tid o ttl q is) known i = λ f unknown. i f (client_before e.ToClient (a.Unsafe tid o) h f unknown)
 step_client h x (first_safe tid q is) known i = i
+step_client h x (first_resumed told_now q is) known i = i
 step_client h x (first_unlease d name q is) known i = i
 step_client h x (first_snap number d now q is) known i = λ f unknown.
     let was : BlankAt h f = i f unknown in
@@ -113,15 +116,17 @@ SentAreKnown h = Each (λ x. client_knows h x.file ≡ true) (sent h)
 
 sent_flush_snaps : (h : List Entry) (g : ℕ) (x : Answer) → FlushSnapsIs h g x → SentAreKnown h → SentAreKnown (record { event = e.FlushSnaps g; answer = x } ∷ h)
 sent_flush_snaps h g x flush_unknown i = i
+sent_flush_snaps h g x flush_session i = i
 sent_flush_snaps h g x flush_none i = i
 sent_flush_snaps h g x flush_writing i = i
-sent_flush_snaps h g x (flush_sent y ys known is closed) i = each_end (λ z. client_knows h z.file ≡ true) (sent h) _ i known
+sent_flush_snaps h g x (flush_sent y ys known active is closed) i = each_end (λ z. client_knows h z.file ≡ true) (sent h) _ i known
 
 sent_flush : (h : List Entry) (g : ℕ) (x : Answer) → FlushIs h g x → SentAreKnown h → SentAreKnown (record { event = e.Flush g; answer = x } ∷ h)
 sent_flush h g x head_unknown i = i
+sent_flush h g x head_session i = i
 sent_flush h g x head_snap i = i
 sent_flush h g x head_clean i = i
-sent_flush h g x (head_sent known free changed) i = each_end (λ z. client_knows h z.file ≡ true) (sent h) _ i known
+sent_flush h g x (head_sent known active free changed) i = each_end (λ z. client_knows h z.file ≡ true) (sent h) _ i known
 
 pub sent_known_step : (p : ℕ) (h : List Entry) (x : Event) → SentAreKnown h → SentAreKnown (entry p h x ∷ h)
 sent_known_step p h (e.File g d) i = λ x m. client_grows (e.File g d) _ h x.file (i x m)

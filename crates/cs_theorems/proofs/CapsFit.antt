@@ -29,7 +29,7 @@ use Rattle.cs_laws.specs.Runs.{IsRun}
 use Rattle.cs_laws.specs.Standing.{news, news_of}
 use Rattle.cs_laws.specs.ServerKnows.{server_dirs, server_path}
 use Rattle.cs_theorems.proofs.Held.{Within, minus_within, none_within, union_within}
-use Rattle.cs_theorems.proofs.Inversions.{CheckIs, check_unknown, check_nothing, check_hold, check_ack, check_is, FirstIs, first_idle, first_cap, first_flush_ack, first_unsafe, first_safe, first_unlease, first_snap, first_is}
+use Rattle.cs_theorems.proofs.Inversions.{CheckIs, check_unknown, check_session, check_nothing, check_hold, check_ack, check_is, FirstIs, first_idle, first_cap, first_flush_ack, first_unsafe, first_resumed, first_safe, first_unlease, first_snap, first_is}
 use Rattle.cs_theorems.proofs.Listed.{Each, each_append, each_drop, each_end, each_nil, member_first}
 use Rattle.cs_theorems.proofs.News.{each_again, each_answered, each_news}
 use Rattle.cs_theorems.proofs.Runs.{of_run}
@@ -105,9 +105,10 @@ AnswerExists _ _ = Unit {0}
 
 of_check : (h : List Entry) (g : ℕ) (x : Answer) → CheckIs h g x → CapsFit h → AnswerExists (e.Check g) x
 of_check h g x check_unknown i = tt
+of_check h g x check_session i = tt
 of_check h g x check_nothing i = tt
 of_check h g x (check_hold bits) i = tt
-of_check h g x (check_ack free) i = i.issued g
+of_check h g x (check_ack active free) i = i.issued g
 
 of_first : (h : List Entry) (x : Answer) → FirstIs h x → CapsFit h → AnswerExists e.ToClient x
 of_first h x first_idle i = tt
@@ -115,6 +116,7 @@ of_first h x (first_cap g seq bits end q is) i = i.told (messages.Cap g seq bits
 of_first h x (first_flush_ack f tid q is) i = tt
 of_first h x (first_unsafe tid r ttl q is) i = tt
 of_first h x (first_safe tid q is) i = tt
+of_first h x (first_resumed told_now q is) i = tt
 of_first h x (first_unlease d name q is) i = tt
 of_first h x (first_snap number realm now q is) i = tt
 

@@ -16,7 +16,7 @@ use Rattle.cs_laws.specs.History.{present, sent, snap, stand, durable, fresh, to
 use Rattle.cs_laws.specs.Journal.{entry}
 use Rattle.cs_laws.specs.Standing.{recorded, greatest_number, fresh_then, requested}
 use Rattle.cs_laws.specs.Runs.{IsRun}
-use Rattle.cs_theorems.proofs.Inversions.{ReceivedIs, received_idle, received_ack, received_flush, received_again, received_req, received_req_again, received_is, SnapIs, snap_unknown, snap_exists, snap_taken, snap_is, RemoveIs, remove_none, remove_gone, removed, remove_is}
+use Rattle.cs_theorems.proofs.Inversions.{ReceivedIs, received_idle, received_ack, received_flush, received_again, received_reconnect, received_req, received_req_again, received_is, SnapIs, snap_unknown, snap_session, snap_exists, snap_taken, snap_is, RemoveIs, remove_none, remove_session, remove_gone, removed, remove_is}
 use Rattle.cs_theorems.proofs.Runs.{of_run}
 use Rattle.cs_laws.specs.declared.requests.OpAnswer.{OpAnswer}
 use Rattle.cs_laws.specs.Names.{names}
@@ -71,15 +71,17 @@ SnapsAreFew h = greatest_number (stand h) ≤ length h
 step_snap : (h : List Entry) (d : ℕ) (name : List ℕ) (x : Answer) → SnapIs h d name x → SnapsAreFew h
     → SnapsAreFew (record { event = e.Snap d name; answer = x } ∷ h)
 step_snap h d name x snap_unknown i = omega (arith, i)
+step_snap h d name x snap_session i = omega (arith, i)
 step_snap h d name x snap_exists i = omega (arith, i)
-step_snap h d name x (snap_taken directory free) i =
+step_snap h d name x (snap_taken directory active free) i =
     let new : Record = record { body = bodies.Snap (greatest_number (stand h) + 1) d name } in
     omega (arith, i, greatest_behind (durable h) (fresh h) (new ∷ []))
 
 step_remove : (h : List Entry) (t : ℕ) (x : Answer) → RemoveIs h t x → SnapsAreFew h → SnapsAreFew (record { event = e.RmSnap t; answer = x } ∷ h)
 step_remove h t x remove_none i = omega (arith, i)
+step_remove h t x remove_session i = omega (arith, i)
 step_remove h t x remove_gone i = omega (arith, i)
-step_remove h t x (removed there stays) i =
+step_remove h t x (removed there stays active) i =
     let new : Record = record { body = bodies.Removal t (greatest_number (stand h) + 1) } in
     omega (arith, i, greatest_behind (durable h) (fresh h) (new ∷ []))
 

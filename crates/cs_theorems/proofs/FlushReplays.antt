@@ -24,7 +24,7 @@ use Rattle.cs_laws.specs.Standing.{greatest_tid, recorded, requested}
 use Rattle.cs_theorems.specs.Flushes.{FlushesAreNumbered, FlushesReplay, IsMessageSent, IsRecordSent, flushes_in, flushes_on, is_whole}
 use Rattle.cs_theorems.specs.Replays.{last_tid, Replay}
 use Rattle.cs_theorems.proofs.Ascending.{member_upto}
-use Rattle.cs_theorems.proofs.Inversions.{FlushIs, head_unknown, head_snap, head_clean, head_sent, flush_is, CheckIs, check_unknown, check_nothing, check_hold, check_ack, check_is, FlushSnapsIs, flush_unknown, flush_none, flush_writing, flush_sent, flush_snaps_is, ReceivedIs, received_idle, received_ack, received_flush, received_again, received_req, received_req_again, received_is, SnapIs, snap_unknown, snap_exists, snap_taken, snap_is, RemoveIs, remove_none, remove_gone, removed, remove_is}
+use Rattle.cs_theorems.proofs.Inversions.{FlushIs, head_unknown, head_session, head_snap, head_clean, head_sent, flush_is, CheckIs, check_unknown, check_session, check_nothing, check_hold, check_ack, check_is, FlushSnapsIs, flush_unknown, flush_session, flush_none, flush_writing, flush_sent, flush_snaps_is, ReceivedIs, received_idle, received_ack, received_flush, received_again, received_reconnect, received_req, received_req_again, received_is, SnapIs, snap_unknown, snap_session, snap_exists, snap_taken, snap_is, RemoveIs, remove_none, remove_session, remove_gone, removed, remove_is}
 use Rattle.cs_theorems.proofs.Listed.{Each, Member}
 use Rattle.cs_theorems.proofs.Numbered.{Numbered, last_numbered, run_numbered}
 use Rattle.cs_theorems.proofs.Replays as replays
@@ -94,24 +94,27 @@ flies_first xs rs q x more i =
 
 step_check : (h : List Entry) (g : ℕ) (x : Answer) → CheckIs h g x → FlushesReplay h → FlushesReplay (record { event = e.Check g; answer = x } ∷ h)
 step_check h g x check_unknown i = i
+step_check h g x check_session i = i
 step_check h g x check_nothing i = i
 step_check h g x (check_hold bits) i = i
-step_check h g x (check_ack free) i = flies_message (is_whole h) (sent h) (stand h) (to_server h) _ refl i
+step_check h g x (check_ack active free) i = flies_message (is_whole h) (sent h) (stand h) (to_server h) _ refl i
 
 step_flush_snaps : (h : List Entry) (g : ℕ) (x : Answer) → FlushSnapsIs h g x → Numbered (sent h) → FlushesReplay h
     → FlushesReplay (record { event = e.FlushSnaps g; answer = x } ∷ h)
 step_flush_snaps h g x flush_unknown numbered i = i
+step_flush_snaps h g x flush_session numbered i = i
 step_flush_snaps h g x flush_none numbered i = i
 step_flush_snaps h g x flush_writing numbered i = i
-step_flush_snaps h g x (flush_sent y ys known is closed) numbered i =
+step_flush_snaps h g x (flush_sent y ys known active is closed) numbered i =
     flies_sent (is_whole h) (sent h) (stand h) (to_server h) (snap h g (length (sent h) + 1) y.follows) refl numbered i
 
 step_flush : (h : List Entry) (g : ℕ) (x : Answer) → FlushIs h g x → Numbered (sent h) → FlushesReplay h
     → FlushesReplay (record { event = e.Flush g; answer = x } ∷ h)
 step_flush h g x head_unknown numbered i = i
+step_flush h g x head_session numbered i = i
 step_flush h g x head_snap numbered i = i
 step_flush h g x head_clean numbered i = i
-step_flush h g x (head_sent known free changed) numbered i =
+step_flush h g x (head_sent known active free changed) numbered i =
     flies_sent (is_whole h) (sent h) (stand h) (to_server h) (present h g (length (sent h) + 1)) refl numbered i
 
 -- the first message is taken
@@ -140,13 +143,15 @@ step_server h x (received_req_again tid ino op q is again) i =
 step_snap : (h : List Entry) (d : ℕ) (name : List ℕ) (x : Answer) → SnapIs h d name x → FlushesReplay h
     → FlushesReplay (record { event = e.Snap d name; answer = x } ∷ h)
 step_snap h d name x snap_unknown i = i
+step_snap h d name x snap_session i = i
 step_snap h d name x snap_exists i = i
-step_snap h d name x (snap_taken directory free) i = flies_record (is_whole h) (sent h) (durable h) (fresh h) (to_server h) _ refl i
+step_snap h d name x (snap_taken directory active free) i = flies_record (is_whole h) (sent h) (durable h) (fresh h) (to_server h) _ refl i
 
 step_remove : (h : List Entry) (t : ℕ) (x : Answer) → RemoveIs h t x → FlushesReplay h → FlushesReplay (record { event = e.RmSnap t; answer = x } ∷ h)
 step_remove h t x remove_none i = i
+step_remove h t x remove_session i = i
 step_remove h t x remove_gone i = i
-step_remove h t x (removed there stays) i = flies_record (is_whole h) (sent h) (durable h) (fresh h) (to_server h) _ refl i
+step_remove h t x (removed there stays active) i = flies_record (is_whole h) (sent h) (durable h) (fresh h) (to_server h) _ refl i
 
 pub replay_step : (p : ℕ) (h : List Entry) (x : Event) → Numbered (sent h) → FlushesReplay h → FlushesReplay (entry p h x ∷ h)
 replay_step p h (e.Check g) numbered i = step_check h g _ (check_is h g) i

@@ -35,7 +35,7 @@ use Rattle.cs_theorems.proofs.News.{each_again, each_news, each_answered}
 use Rattle.cs_theorems.proofs.Rising.{at_first}
 use Rattle.cs_theorems.proofs.Runs.{in_every_prefix, of_run}
 use Rattle.cs_theorems.proofs.Held.{Holds, Moves, Flying, Acked, cap_seq, cap_seqs, moves_granted, moves_revoked, none_within, holds_told, holds_beside, holds_delivered, holds_passed, holds_ack, holds_sent, holds_taken, holds_received}
-use Rattle.cs_theorems.proofs.Inversions.{FlushIs, head_unknown, head_snap, head_clean, head_sent, flush_is, CheckIs, check_unknown, check_nothing, check_hold, check_ack, check_is, FlushSnapsIs, flush_unknown, flush_none, flush_writing, flush_sent, flush_snaps_is, FirstIs, first_idle, first_cap, first_flush_ack, first_unsafe, first_safe, first_unlease, first_snap, first_is, ReceivedIs, received_idle, received_ack, received_flush, received_again, received_req, received_req_again, received_is, GrantIs, grant_unknown, grant_sent, grant_is, revoke_is, UnleaseIs, unlease_unknown, unlease_sent, unlease_is}
+use Rattle.cs_theorems.proofs.Inversions.{FlushIs, head_unknown, head_session, head_snap, head_clean, head_sent, flush_is, CheckIs, check_unknown, check_session, check_nothing, check_hold, check_ack, check_is, FlushSnapsIs, flush_unknown, flush_session, flush_none, flush_writing, flush_sent, flush_snaps_is, FirstIs, first_idle, first_cap, first_flush_ack, first_unsafe, first_resumed, first_safe, first_unlease, first_snap, first_is, ReceivedIs, received_idle, received_ack, received_flush, received_again, received_reconnect, received_req, received_req_again, received_is, GrantIs, grant_unknown, grant_session, grant_sent, grant_is, revoke_is, UnleaseIs, unlease_unknown, unlease_session, unlease_sent, unlease_is}
 use Rattle.cs_laws.specs.declared.requests.OpAnswer.{OpAnswer}
 use Rattle.cs_laws.specs.declared.requests.OpAnswer.TheVariants as replies
 use Rattle.cs_laws.specs.declared.requests.ReqOp.{ReqOp}
@@ -113,14 +113,16 @@ AllHold h = (f : ℕ) → HoldsAt h f
 step_grant : (h : List Entry) (g : ℕ) (bits : Caps) (end : ℕ) (x : Answer) → GrantIs h g (granted (server h g) bits end) x → AllHold h
     → AllHold (record { event = e.Grant g bits end; answer = x } ∷ h)
 step_grant h g bits end x grant_unknown i = i
-step_grant h g bits end x grant_sent i =
+step_grant h g bits end x grant_session i = i
+step_grant h g bits end x (grant_sent active) i =
     λ f. told_if (g == f) f g (server h f) (granted (server h f) bits end) (granted (server h g) bits end) (client h f) (to_client h) (to_server h) refl
     (λ same. ap (λ k. granted (server h k) bits end) same) (moves_granted (server h f) bits end (i f).given) (i f)
 
 step_revoke : (h : List Entry) (g : ℕ) (bits : Caps) (x : Answer) → GrantIs h g (revoked (server h g) bits) x → AllHold h
     → AllHold (record { event = e.Revoke g bits; answer = x } ∷ h)
 step_revoke h g bits x grant_unknown i = i
-step_revoke h g bits x grant_sent i =
+step_revoke h g bits x grant_session i = i
+step_revoke h g bits x (grant_sent active) i =
     λ f. told_if (g == f) f g (server h f) (revoked (server h f) bits) (revoked (server h g) bits) (client h f) (to_client h) (to_server h) refl
     (λ same. ap (λ k. revoked (server h k) bits) same) (moves_revoked (server h f) bits (i f).given) (i f)
 
@@ -143,6 +145,9 @@ step_to_client h x (first_unsafe tid r ttl q is) i = λ f.
 step_to_client h x (first_safe tid q is) i = λ f.
     at_first (λ y. Client h f y) (λ y. Client h f y) (messages.Safe tid) q (to_client h) is
     (λ j. holds_passed f (server h f) (client h f) (messages.Safe tid) q (to_server h) refl j) (i f)
+step_to_client h x (first_resumed told_now q is) i = λ f.
+    at_first (λ y. Client h f y) (λ y. Client h f y) (messages.Resumed told_now) q (to_client h) is
+    (λ j. holds_passed f (server h f) (client h f) (messages.Resumed told_now) q (to_server h) refl j) (i f)
 step_to_client h x (first_unlease d name q is) i = λ f.
     at_first (λ y. Client h f y) (λ y. Client h f y) (messages.Unlease d name) q (to_client h) is
     (λ j. holds_passed f (server h f) (client h f) (messages.Unlease d name) q (to_server h) refl j) (i f)
@@ -152,22 +157,25 @@ step_to_client h x (first_snap number realm now q is) i = λ f.
 
 step_check : (h : List Entry) (g : ℕ) (x : Answer) → CheckIs h g x → AllHold h → AllHold (record { event = e.Check g; answer = x } ∷ h)
 step_check h g x check_unknown i = i
+step_check h g x check_session i = i
 step_check h g x check_nothing i = i
 step_check h g x (check_hold bits) i = i
-step_check h g x (check_ack free) i =
+step_check h g x (check_ack active free) i =
     λ f. ack_if (g == f) f g (server h f) (client h f) (client h g) (to_client h) (to_server h) refl (λ same. ap (λ k. client h k) same) (i f)
 
 step_flush_snaps : (h : List Entry) (g : ℕ) (x : Answer) → FlushSnapsIs h g x → AllHold h → AllHold (record { event = e.FlushSnaps g; answer = x } ∷ h)
 step_flush_snaps h g x flush_unknown i = i
+step_flush_snaps h g x flush_session i = i
 step_flush_snaps h g x flush_none i = i
 step_flush_snaps h g x flush_writing i = i
-step_flush_snaps h g x (flush_sent y ys known is closed) i = λ f. holds_sent f (server h f) (client h f) (to_client h) (to_server h) _ tt (i f)
+step_flush_snaps h g x (flush_sent y ys known active is closed) i = λ f. holds_sent f (server h f) (client h f) (to_client h) (to_server h) _ tt (i f)
 
 step_flush : (h : List Entry) (g : ℕ) (x : Answer) → FlushIs h g x → AllHold h → AllHold (record { event = e.Flush g; answer = x } ∷ h)
 step_flush h g x head_unknown i = i
+step_flush h g x head_session i = i
 step_flush h g x head_snap i = i
 step_flush h g x head_clean i = i
-step_flush h g x (head_sent known free changed) i = λ f. holds_sent f (server h f) (client h f) (to_client h) (to_server h) _ tt (i f)
+step_flush h g x (head_sent known active free changed) i = λ f. holds_sent f (server h f) (client h f) (to_client h) (to_server h) _ tt (i f)
 
 -- the first message to the server is taken
 abbrev Server : List Entry → ℕ → List Message → Type 0
@@ -205,7 +213,8 @@ step_req h c op tid i = λ f. holds_sent f (server h f) (client h f) (to_client 
 
 step_unlease : (h : List Entry) (d : ℕ) (name : List ℕ) (x : Answer) → UnleaseIs h x → AllHold h → AllHold (record { event = e.Unlease d name; answer = x } ∷ h)
 step_unlease h d name x unlease_unknown i = i
-step_unlease h d name x unlease_sent i = λ f.
+step_unlease h d name x unlease_session i = i
+step_unlease h d name x (unlease_sent active) i = λ f.
     holds_beside f (server h f) (client h f) (to_client h) (to_server h) (messages.Unlease d name ∷ []) refl
     (each_cons (λ m. Flying f (server h f) m) _ [] tt (each_nil (λ m. Flying f (server h f) m))) (i f)
 

@@ -15,9 +15,7 @@ use Rattle.cs_laws.specs.declared.answers.Entry.{Entry}
 use Rattle.cs_laws.specs.declared.messages.Message.{Message}
 use Rattle.cs_laws.specs.declared.messages.Message.TheVariants as messages
 use Rattle.cs_laws.specs.CapSnaps.{CapSnap, is_open, is_writing}
-use Rattle.cs_snapctx.specs.Records.{with_records}
-use Rattle.cs_laws.specs.Context.{path_context}
-use Rattle.cs_laws.specs.ClientKnows.{client_files, client_knows, client_file_path}
+use Rattle.cs_laws.specs.ClientKnows.{client_knows}
 use Rattle.cs_laws.specs.Events.{begun}
 use Rattle.cs_laws.specs.Names.{names}
 use Rattle.cs_laws.specs.Namespace.{answer_on, has_dir}
@@ -25,12 +23,17 @@ use Rattle.cs_laws.specs.declared.requests.OpAnswer.{OpAnswer}
 use Rattle.cs_laws.specs.declared.requests.OpAnswer.TheVariants as replies
 use Rattle.cs_laws.specs.declared.requests.ReqOp.{ReqOp}
 use Rattle.cs_laws.specs.ServerKnows.{server_knows}
-use Rattle.cs_laws.specs.Flushes.{Flush, flush_message}
+use Rattle.cs_laws.specs.declared.reports.CapReport.{CapReport}
+use Rattle.cs_laws.specs.declared.reports.RealmSeq.{RealmSeq}
+use Rattle.cs_laws.specs.Flushes.{Flush, acked, flush_message}
+use Rattle.cs_laws.specs.Reports.{capped, open_requests, unretired}
+use Rattle.cs_laws.specs.Requests.{requests}
+use Rattle.cs_laws.specs.Sessions.{client_state, is_active, is_client_active, is_client_broken, server_state}
 use Rattle.cs_laws.specs.History.{client, server, realms, to_client, to_server, dirty, live, queued, sent, stand, used, writes}
 use Rattle.cs_laws.specs.Image.{size}
 use Rattle.cs_laws.specs.References.{can_end, named}
 use Rattle.cs_laws.specs.Standing.{answer_kept, greatest_number, greatest_request, greatest_tid, has_snap, has_snap_named, is_removed}
-use Rattle.cs_laws.specs.Answers.{answer_begin, answer_chmod, answer_chmod_on, answer_end, answer_check, answer_flush, answer_flush_snaps, answer_flush_snaps_of, answer_flushed, answer_requested, answer_read, answer_read_on, answer_to_client, answer_to_client_of, answer_to_mds, answer_unlease, answer_to_mds_of, answer_grant, answer_revoke, answer_remove, answer_snap, answer_write, answer_write_on, bytes_within, count_made, held_after, may_change_mode, may_read, may_write}
+use Rattle.cs_laws.specs.Answers.{answer_begin, answer_chmod, answer_chmod_on, answer_end, answer_check, answer_flush, answer_flush_snaps, answer_flush_snaps_of, answer_flushed, answer_requested, answer_read, answer_read_on, answer_to_client, answer_to_client_of, answer_to_mds, answer_unlease, answer_to_mds_of, answer_grant, answer_revoke, answer_remove, answer_snap, answer_write, answer_write_on, bytes_within, answer_check_of, answer_reconnect, answer_req, count_told, held_after, may_change_mode, may_read, may_write}
 
 pub data BeginIs (h : List Entry) (c f : ℕ) (b : Caps) : Answer → Type 0 where
   begin_unknown : BeginIs h c f b a.Unknown
@@ -112,56 +115,67 @@ chmod_is h c name = chmod_is_of h c name (named c name (live h)) refl
 
 pub data FlushIs (h : List Entry) (f : ℕ) : Answer → Type 0 where
   head_unknown : FlushIs h f a.Unknown
+  head_session : FlushIs h f (a.Again why.Session)
   head_snap : FlushIs h f (a.Again why.Snap)
   head_clean : FlushIs h f a.Clean
-  head_sent : client_knows h f ≡ true → is_writing (live h) (queued h f) ≡ false → is_empty (dirty h f) ≡ false
-      → FlushIs h f (a.Flush (length (sent h) + 1))
+  head_sent : client_knows h f ≡ true → is_client_active (client_state h) ≡ true → is_writing (live h) (queued h f) ≡ false
+      → is_empty (dirty h f) ≡ false → FlushIs h f (a.Flush (length (sent h) + 1))
 
 pub flush_is : (h : List Entry) (f : ℕ) → FlushIs h f (answer_flush h f)
 flush_is h f =
     cond_both (client_knows h f) _ _ (FlushIs h f)
-    (λ known. cond_both (is_writing (live h) (queued h f)) _ _ (FlushIs h f)
+    (λ known. cond_both (is_client_active (client_state h)) _ _ (FlushIs h f)
+    (λ active. cond_both (is_writing (live h) (queued h f)) _ _ (FlushIs h f)
     (λ _. head_snap)
-    (λ free. cond_both (is_empty (dirty h f)) _ _ (FlushIs h f) (λ _. head_clean) (λ changed. head_sent known free changed)))
+    (λ free. cond_both (is_empty (dirty h f)) _ _ (FlushIs h f) (λ _. head_clean) (λ changed. head_sent known active free changed)))
+    (λ _. head_session))
     (λ _. head_unknown)
 
 pub data CheckIs (h : List Entry) (f : ℕ) : Answer → Type 0 where
   check_unknown : CheckIs h f a.Unknown
+  check_session : CheckIs h f (a.Again why.Session)
   check_nothing : CheckIs h f a.Nothing
   check_hold : (bits : Caps) → CheckIs h f (a.Hold bits)
-  check_ack : is_empty (held_back (client h f) (used h f)) ≡ true → CheckIs h f (a.Ack (client h f).seq (client h f).issued)
+  check_ack : is_client_active (client_state h) ≡ true → is_empty (held_back (client h f) (used h f)) ≡ true → CheckIs h f (a.Ack (client h f).seq (client h f).issued)
 
 pub check_is : (h : List Entry) (f : ℕ) → CheckIs h f (answer_check h f)
 check_is h f =
     cond_both (client_knows h f) _ _ (CheckIs h f)
-    (λ _. cond_both (is_complete (client h f)) _ _ (CheckIs h f)
+    (λ _. cond_both (is_client_active (client_state h)) _ _ (CheckIs h f)
+    (λ active. cond_both (is_complete (client h f)) _ _ (CheckIs h f)
     (λ _. check_nothing)
-    (λ _. cond_both (is_empty (held_back (client h f) (used h f))) _ _ (CheckIs h f) (λ t. check_ack t) (λ _. check_hold _)))
+    (λ _. cond_both (is_empty (held_back (client h f) (used h f))) _ _ (CheckIs h f) (λ t. check_ack active t) (λ _. check_hold _)))
+    (λ _. check_session))
     (λ _. check_unknown)
 
 pub data FlushSnapsIs (h : List Entry) (f : ℕ) : Answer → Type 0 where
   flush_unknown : FlushSnapsIs h f a.Unknown
+  flush_session : FlushSnapsIs h f (a.Again why.Session)
   flush_none : FlushSnapsIs h f a.NoneQueued
   flush_writing : FlushSnapsIs h f a.Writing
-  flush_sent : (x : CapSnap) (xs : List CapSnap) → client_knows h f ≡ true → queued h f ≡ x ∷ xs → is_open (live h) x ≡ false
-      → FlushSnapsIs h f (a.FlushSnap (length (sent h) + 1) x.follows)
+  flush_sent : (x : CapSnap) (xs : List CapSnap) → client_knows h f ≡ true → is_client_active (client_state h) ≡ true → queued h f ≡ x ∷ xs
+      → is_open (live h) x ≡ false → FlushSnapsIs h f (a.FlushSnap (length (sent h) + 1) x.follows)
 
-flush_snaps_is_of : (h : List Entry) (f : ℕ) (xs : List CapSnap) → client_knows h f ≡ true → queued h f ≡ xs
+flush_snaps_is_of : (h : List Entry) (f : ℕ) (xs : List CapSnap) → client_knows h f ≡ true → is_client_active (client_state h) ≡ true → queued h f ≡ xs
     → FlushSnapsIs h f (answer_flush_snaps_of (live h) (length (sent h)) xs)
-flush_snaps_is_of h f [] known is = flush_none
-flush_snaps_is_of h f (x ∷ xs) known is =
-    cond_both (is_open (live h) x) _ _ (FlushSnapsIs h f) (λ _. flush_writing) (λ closed. flush_sent x xs known is closed)
+flush_snaps_is_of h f [] known active is = flush_none
+flush_snaps_is_of h f (x ∷ xs) known active is =
+    cond_both (is_open (live h) x) _ _ (FlushSnapsIs h f) (λ _. flush_writing) (λ closed. flush_sent x xs known active is closed)
 
 pub flush_snaps_is : (h : List Entry) (f : ℕ) → FlushSnapsIs h f (answer_flush_snaps h f)
 flush_snaps_is h f =
-    cond_both (client_knows h f) _ _ (FlushSnapsIs h f) (λ known. flush_snaps_is_of h f (queued h f) known refl) (λ _. flush_unknown)
+    cond_both (client_knows h f) _ _ (FlushSnapsIs h f)
+    (λ known. cond_both (is_client_active (client_state h)) _ _ (FlushSnapsIs h f)
+    (λ active. flush_snaps_is_of h f (queued h f) known active refl) (λ _. flush_session))
+    (λ _. flush_unknown)
 
 pub data FirstIs (h : List Entry) : Answer → Type 0 where
   first_idle : FirstIs h a.Idle
   first_cap : (f seq : ℕ) (bits : Caps) (end : ℕ) (q : List Message) → to_client h ≡ messages.Cap f seq bits end ∷ q → FirstIs h (a.Cap f seq bits end)
   first_flush_ack : (f tid : ℕ) (q : List Message) → to_client h ≡ messages.FlushAck f tid ∷ q → FirstIs h (a.FlushAck f tid)
   first_snap : (number realm : ℕ) (told : List RealmRecord) (q : List Message) → to_client h ≡ messages.Snap number realm told ∷ q
-      → FirstIs h (a.SnapTold number realm (count_made h (λ f. path_context (client_file_path h f) (with_records told (realms h))) (client_files h)))
+      → FirstIs h (a.SnapTold number realm (count_told h told))
+  first_resumed : (told : List RealmRecord) (q : List Message) → to_client h ≡ messages.Resumed told ∷ q → FirstIs h (a.Resumed (count_told h told))
   first_unsafe : (tid : ℕ) (x : OpAnswer) (ttl : ℕ) (q : List Message) → to_client h ≡ messages.Unsafe tid x ttl ∷ q → FirstIs h (a.Unsafe tid x)
   first_safe : (tid : ℕ) (q : List Message) → to_client h ≡ messages.Safe tid ∷ q → FirstIs h (a.Safe tid)
   first_unlease : (d : ℕ) (name : List ℕ) (q : List Message) → to_client h ≡ messages.Unlease d name ∷ q → FirstIs h (a.Unlease d name)
@@ -175,9 +189,11 @@ first_is_of h (messages.Unlease d name ∷ q) is = first_unlease d name q is
 first_is_of h (messages.Req tid ino op ∷ q) is = first_idle
 first_is_of h (messages.FlushAck f tid ∷ q) is = first_flush_ack f tid q is
 first_is_of h (messages.Snap number realm told ∷ q) is = first_snap number realm told q is
+first_is_of h (messages.Resumed told ∷ q) is = first_resumed told q is
 first_is_of h (messages.CapAck f seq bits ∷ q) is = first_idle
 first_is_of h (messages.Flush f tid follows meta ∷ q) is = first_idle
 first_is_of h (messages.FlushSnap f tid follows meta ∷ q) is = first_idle
+first_is_of h (messages.Reconnect caps known resends ∷ q) is = first_idle
 
 pub first_is : (h : List Entry) → FirstIs h (answer_to_client h)
 first_is h = first_is_of h (to_client h) refl
@@ -186,6 +202,8 @@ pub data ReceivedIs (h : List Entry) : Answer → Type 0 where
   received_idle : ReceivedIs h a.Idle
   received_ack : (f seq : ℕ) (bits : Caps) (q : List Message) → to_server h ≡ messages.CapAck f seq bits ∷ q
       → ReceivedIs h (a.CapAck f seq (held_after (server h f) seq bits))
+  received_reconnect : (caps : List CapReport) (known : List RealmSeq) (resends : ℕ) (q : List Message)
+      → to_server h ≡ messages.Reconnect caps known resends ∷ q → ReceivedIs h (a.Reconnected (length caps) resends)
   received_flush : (x : Flush) (q : List Message) → to_server h ≡ flush_message x ∷ q → nat_lt (greatest_tid x.file (stand h)) x.tid ≡ true
       → ReceivedIs h (a.Flushed x.file x.tid)
   received_again : (x : Flush) (q : List Message) → to_server h ≡ flush_message x ∷ q → nat_lt (greatest_tid x.file (stand h)) x.tid ≡ false
@@ -219,45 +237,82 @@ received_is_of h (messages.Unsafe tid x ttl ∷ q) is = received_idle
 received_is_of h (messages.Unlease d name ∷ q) is = received_idle
 received_is_of h (messages.FlushAck f tid ∷ q) is = received_idle
 received_is_of h (messages.Snap number realm realms ∷ q) is = received_idle
+received_is_of h (messages.Resumed realms ∷ q) is = received_idle
+received_is_of h (messages.Reconnect caps known resends ∷ q) is = received_reconnect caps known resends q is
 
 pub received_is : (h : List Entry) → ReceivedIs h (answer_to_mds h)
 received_is h = received_is_of h (to_server h) refl
 
 pub data SnapIs (h : List Entry) (d : ℕ) (name : List ℕ) : Answer → Type 0 where
   snap_unknown : SnapIs h d name a.Unknown
+  snap_session : SnapIs h d name (a.Again why.Session)
   snap_exists : SnapIs h d name a.Exists
-  snap_taken : has_dir (names h) d ≡ true → has_snap_named d name (stand h) ≡ false → SnapIs h d name (a.Snap (greatest_number (stand h) + 1))
+  snap_taken : has_dir (names h) d ≡ true → is_active (server_state h) ≡ true → has_snap_named d name (stand h) ≡ false
+      → SnapIs h d name (a.Snap (greatest_number (stand h) + 1))
 
 pub snap_is : (h : List Entry) (d : ℕ) (name : List ℕ) → SnapIs h d name (answer_snap h d name)
 snap_is h d name =
     cond_both (has_dir (names h) d) _ _ (SnapIs h d name)
-    (λ directory. cond_both (has_snap_named d name (stand h)) _ _ (SnapIs h d name) (λ _. snap_exists) (λ free. snap_taken directory free))
+    (λ directory. cond_both (is_active (server_state h)) _ _ (SnapIs h d name)
+    (λ active. cond_both (has_snap_named d name (stand h)) _ _ (SnapIs h d name) (λ _. snap_exists) (λ free. snap_taken directory active free))
+    (λ _. snap_session))
     (λ _. snap_unknown)
 
 pub data RemoveIs (h : List Entry) (s : ℕ) : Answer → Type 0 where
   remove_none : RemoveIs h s a.NoSnap
   remove_gone : RemoveIs h s a.Gone
-  removed : has_snap s (stand h) ≡ true → is_removed s (stand h) ≡ false → RemoveIs h s (a.Removed s (greatest_number (stand h) + 1))
+  remove_session : RemoveIs h s (a.Again why.Session)
+  removed : has_snap s (stand h) ≡ true → is_removed s (stand h) ≡ false → is_active (server_state h) ≡ true
+      → RemoveIs h s (a.Removed s (greatest_number (stand h) + 1))
 
 pub remove_is : (h : List Entry) (s : ℕ) → RemoveIs h s (answer_remove h s)
 remove_is h s =
     cond_both (has_snap s (stand h)) _ _ (RemoveIs h s)
-    (λ there. cond_both (is_removed s (stand h)) _ _ (RemoveIs h s) (λ _. remove_gone) (λ stays. removed there stays))
+    (λ there. cond_both (is_removed s (stand h)) _ _ (RemoveIs h s)
+    (λ _. remove_gone)
+    (λ stays. cond_both (is_active (server_state h)) _ _ (RemoveIs h s) (λ active. removed there stays active) (λ _. remove_session)))
     (λ _. remove_none)
 
 pub data GrantIs (h : List Entry) (f : ℕ) (s : ServerCaps) : Answer → Type 0 where
   grant_unknown : GrantIs h f s a.Unknown
-  grant_sent : GrantIs h f s (a.SentCap s.seq s.held)
+  grant_session : GrantIs h f s (a.Again why.Session)
+  grant_sent : is_active (server_state h) ≡ true → GrantIs h f s (a.SentCap s.seq s.held)
 
 pub grant_is : (h : List Entry) (f : ℕ) (bits : Caps) (end : ℕ) → GrantIs h f (granted (server h f) bits end) (answer_grant h f bits end)
-grant_is h f bits end = cond_both (server_knows h f) _ _ (GrantIs h f (granted (server h f) bits end)) (λ _. grant_sent) (λ _. grant_unknown)
+grant_is h f bits end =
+    cond_both (server_knows h f) _ _ (GrantIs h f (granted (server h f) bits end))
+    (λ _. cond_both (is_active (server_state h)) _ _ (GrantIs h f (granted (server h f) bits end))
+    (λ active. grant_sent active) (λ _. grant_session))
+    (λ _. grant_unknown)
 
 pub revoke_is : (h : List Entry) (f : ℕ) (bits : Caps) → GrantIs h f (revoked (server h f) bits) (answer_revoke h f bits)
-revoke_is h f bits = cond_both (server_knows h f) _ _ (GrantIs h f (revoked (server h f) bits)) (λ _. grant_sent) (λ _. grant_unknown)
+revoke_is h f bits =
+    cond_both (server_knows h f) _ _ (GrantIs h f (revoked (server h f) bits))
+    (λ _. cond_both (is_active (server_state h)) _ _ (GrantIs h f (revoked (server h f) bits)) (λ active. grant_sent active) (λ _. grant_session))
+    (λ _. grant_unknown)
 
 pub data UnleaseIs (h : List Entry) : Answer → Type 0 where
   unlease_unknown : UnleaseIs h a.Unknown
-  unlease_sent : UnleaseIs h a.SentUnlease
+  unlease_session : UnleaseIs h (a.Again why.Session)
+  unlease_sent : is_active (server_state h) ≡ true → UnleaseIs h a.SentUnlease
 
 pub unlease_is : (h : List Entry) (d : ℕ) → UnleaseIs h (answer_unlease h d)
-unlease_is h d = cond_both (has_dir (names h) d) _ _ (UnleaseIs h) (λ _. unlease_sent) (λ _. unlease_unknown)
+unlease_is h d =
+    cond_both (has_dir (names h) d) _ _ (UnleaseIs h)
+    (λ _. cond_both (is_active (server_state h)) _ _ (UnleaseIs h) (λ active. unlease_sent active) (λ _. unlease_session))
+    (λ _. unlease_unknown)
+
+pub data ReqIs (h : List Entry) : Answer → Type 0 where
+  req_session : ReqIs h (a.Again why.Session)
+  req_sent : is_client_active (client_state h) ≡ true → ReqIs h (a.Sent (length (requests h) + 1))
+
+pub req_is : (h : List Entry) → ReqIs h (answer_req h)
+req_is h = cond_both (is_client_active (client_state h)) _ _ (ReqIs h) (λ active. req_sent active) (λ _. req_session)
+
+pub data ReconnectIs (h : List Entry) : Answer → Type 0 where
+  unbroken : ReconnectIs h a.Unbroken
+  reconnected : is_client_broken (client_state h) ≡ true
+      → ReconnectIs h (a.Reconnect (length (capped h)) (length (open_requests h)) (length (unretired (λ f tid. acked h f tid) (sent h))))
+
+pub reconnect_is : (h : List Entry) → ReconnectIs h (answer_reconnect h)
+reconnect_is h = cond_both (is_client_broken (client_state h)) _ _ (ReconnectIs h) (λ broken. reconnected broken) (λ _. unbroken)

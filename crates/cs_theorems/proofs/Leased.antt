@@ -28,7 +28,7 @@ use Rattle.cs_theorems.proofs.AskedStands.{AskedStands, asked_stands, same_tid, 
 use Rattle.cs_theorems.proofs.AskedTold.{AllTold, all_told}
 use Rattle.cs_theorems.proofs.Answered.{answer_stands, reply_stays, reply_there}
 use Rattle.cs_theorems.proofs.Entries.{after_tells, ino_at, stage_leaves}
-use Rattle.cs_theorems.proofs.Inversions.{FirstIs, first_idle, first_cap, first_flush_ack, first_unsafe, first_safe, first_unlease, first_snap, first_is}
+use Rattle.cs_theorems.proofs.Inversions.{FirstIs, first_idle, first_cap, first_flush_ack, first_unsafe, first_resumed, first_safe, first_unlease, first_snap, first_is}
 use Rattle.cs_theorems.proofs.Listed.{Each, Member, each_end, member_first, member_left, member_right}
 use Rattle.cs_theorems.proofs.Runs.{of_run}
 use Rattle.cs_theorems.proofs.Tests.{any_none, any_some}
@@ -125,6 +125,7 @@ step_client h x first_idle alike settles stands told i = i
 step_client h x (first_cap g seq bits end q is) alike settles stands told i = i
 step_client h x (first_flush_ack g tid q is) alike settles stands told i = i
 step_client h x (first_safe tid q is) alike settles stands told i = i
+step_client h x (first_resumed told_now q is) alike settles stands told i = i
 step_client h x (first_unlease f other q is) alike settles stands told i = λ d name.
     cond_both (is_named d name f other) None (lease h d name) (λ l. LeaseIs (asked h) (replies h) d name l) (λ _. tt) (λ _. i d name)
 step_client h x (first_snap number realm now q is) alike settles stands told i = i

@@ -10,6 +10,8 @@ pub mod Pieces
 -- Runs, and what the answer to each event can be
 pub mod Runs
 pub mod Inversions
+pub mod Phase
+pub mod Sessions
 pub mod Refused
 pub mod News
 -- References and their uses

@@ -14,7 +14,7 @@ use Rattle.cs_laws.specs.Runs.{IsRun}
 use Rattle.cs_theorems.specs.Replays.{last_from, last_tid}
 use Rattle.cs_theorems.proofs.Runs.{of_run}
 use Rattle.cs_theorems.proofs.Numbers.{range_end}
-use Rattle.cs_theorems.proofs.Inversions.{FlushIs, head_unknown, head_snap, head_clean, head_sent, flush_is, FlushSnapsIs, flush_unknown, flush_none, flush_writing, flush_sent, flush_snaps_is}
+use Rattle.cs_theorems.proofs.Inversions.{FlushIs, head_unknown, head_session, head_snap, head_clean, head_sent, flush_is, FlushSnapsIs, flush_unknown, flush_session, flush_none, flush_writing, flush_sent, flush_snaps_is}
 
 abbrev pub Numbered : List Flush → Type 0
 Numbered xs = map (λ x. x.tid) xs ≡ range_with_len 1 (length xs)
@@ -31,15 +31,17 @@ numbered_more xs x next i =
 step_flush_snaps : (h : List Entry) (g : ℕ) (x : Answer) → FlushSnapsIs h g x → Numbered (sent h)
     → Numbered (sent (record { event = e.FlushSnaps g; answer = x } ∷ h))
 step_flush_snaps h g x flush_unknown i = i
+step_flush_snaps h g x flush_session i = i
 step_flush_snaps h g x flush_none i = i
 step_flush_snaps h g x flush_writing i = i
-step_flush_snaps h g x (flush_sent y ys known is closed) i = numbered_more (sent h) _ refl i
+step_flush_snaps h g x (flush_sent y ys known active is closed) i = numbered_more (sent h) _ refl i
 
 step_flush : (h : List Entry) (g : ℕ) (x : Answer) → FlushIs h g x → Numbered (sent h) → Numbered (sent (record { event = e.Flush g; answer = x } ∷ h))
 step_flush h g x head_unknown i = i
+step_flush h g x head_session i = i
 step_flush h g x head_snap i = i
 step_flush h g x head_clean i = i
-step_flush h g x (head_sent known free changed) i = numbered_more (sent h) _ refl i
+step_flush h g x (head_sent known active free changed) i = numbered_more (sent h) _ refl i
 
 pub numbered_step : (p : ℕ) (h : List Entry) (x : Event) → Numbered (sent h) → Numbered (sent (entry p h x ∷ h))
 numbered_step p h (e.Flush g) i = step_flush h g _ (flush_is h g) i

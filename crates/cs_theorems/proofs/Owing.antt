@@ -17,7 +17,8 @@ use Rattle.cs_laws.specs.CapSnaps.{CapSnap, has_writer}
 use Rattle.cs_laws.specs.Flushes.{Flush, acked}
 use Rattle.cs_laws.specs.History.{context, dirty, live, queued, sent, writes}
 use Rattle.cs_laws.specs.Image.{Write}
-use Rattle.cs_laws.specs.Owed.{is_acked, is_later, is_unacked, is_written, owed}
+use Rattle.cs_laws.specs.Flushes.{is_later}
+use Rattle.cs_laws.specs.Owed.{is_acked, is_unacked, is_written, owed}
 use Rattle.cs_laws.specs.Shown.{is_before}
 use Rattle.cs_laws.specs.Runs.{IsRun}
 use Rattle.cs_laws.specs.ClientKnows.{client_knows}

@@ -20,7 +20,7 @@ use Rattle.cs_theorems.specs.Asked.{Asked, asked_of}
 use Rattle.cs_theorems.proofs.AskedStands.{answer_found, asked_stands, asked_tids, member_tid, stands_rise, tid_member, tids_are}
 use Rattle.cs_theorems.proofs.AskedTold.{AllTold, all_told, more_stand, more_tids}
 use Rattle.cs_theorems.proofs.Answered.{answer_stands}
-use Rattle.cs_theorems.proofs.Inversions.{FirstIs, first_idle, first_cap, first_flush_ack, first_unsafe, first_safe, first_unlease, first_snap, first_is}
+use Rattle.cs_theorems.proofs.Inversions.{FirstIs, first_idle, first_cap, first_flush_ack, first_unsafe, first_resumed, first_safe, first_unlease, first_snap, first_is}
 use Rattle.cs_theorems.proofs.Leased.{leased_stand}
 use Rattle.cs_theorems.proofs.Listed.{Member, member_first}
 use Rattle.cs_theorems.proofs.Numbers.{times_once}
@@ -55,6 +55,11 @@ step_client h x (first_safe tid q is) told i = λ t.
     cond_both (tid == t) true (is_saved h t) (λ b. b ≡ true → Member t (asked_tids (asked_of (durable h))))
     (λ same _. subst (λ n. Member n (asked_tids (asked_of (durable h)))) (eqb-true tid t same)
     (told (messages.Safe tid) (member_first (messages.Safe tid) q (to_client h) is)))
+    (λ _. i t)
+step_client h x (first_resumed told_now q is) told i = λ t.
+    cond_both (tid == t) true (is_saved h t) (λ b. b ≡ true → Member t (asked_tids (asked_of (durable h))))
+    (λ same _. subst (λ n. Member n (asked_tids (asked_of (durable h)))) (eqb-true tid t same)
+    (told (messages.Resumed told_now) (member_first (messages.Resumed told_now) q (to_client h) is)))
     (λ _. i t)
 
 saved_step : (p : ℕ) (h : List Entry) (x : Event) → AllTold h → SavedAreDurable h → SavedAreDurable (entry p h x ∷ h)

@@ -17,7 +17,7 @@ use Rattle.cs_laws.specs.Owed.{is_acked, is_later}
 use Rattle.cs_laws.specs.CapSnaps.{queued_mode}
 use Rattle.cs_laws.specs.Runs.{IsRun}
 use Rattle.cs_theorems.specs.Unacked.{sent_of, unacked}
-use Rattle.cs_theorems.proofs.Inversions.{FlushIs, head_unknown, head_snap, head_clean, head_sent, flush_is, FlushSnapsIs, flush_unknown, flush_none, flush_writing, flush_sent, flush_snaps_is, FirstIs, first_idle, first_cap, first_flush_ack, first_unsafe, first_safe, first_unlease, first_snap, first_is}
+use Rattle.cs_theorems.proofs.Inversions.{FlushIs, head_unknown, head_session, head_snap, head_clean, head_sent, flush_is, FlushSnapsIs, flush_unknown, flush_session, flush_none, flush_writing, flush_sent, flush_snaps_is, FirstIs, first_idle, first_cap, first_flush_ack, first_unsafe, first_resumed, first_safe, first_unlease, first_snap, first_is}
 use Rattle.cs_theorems.proofs.Listed.{Member}
 use Rattle.cs_theorems.proofs.Runs.{of_run}
 use Rattle.cs_theorems.proofs.Tests.{any_none, any_some}
@@ -41,14 +41,16 @@ step_client h x (first_cap g seq bits end q there) i = i
 step_client h x (first_flush_ack g tid q there) i = λ f. unacked_told (g == f) f (length (sent h)) tid (unacked h f) (sent h) (λ n. acked h f n) (i f)
 step_client h x (first_unsafe tid r ttl q there) i = i
 step_client h x (first_safe tid q there) i = i
+step_client h x (first_resumed told_now q there) i = i
 step_client h x (first_unlease d name q there) i = i
 step_client h x (first_snap n d now q there) i = i
 
 step_flush : (p : ℕ) (h : List Entry) (g : ℕ) (x : Answer) → IsRun p h → FlushIs h g x → AllUnacked h → AllUnacked (record { event = e.Flush g; answer = x } ∷ h)
 step_flush p h g x run head_unknown i = i
+step_flush p h g x run head_session i = i
 step_flush p h g x run head_snap i = i
 step_flush p h g x run head_clean i = i
-step_flush p h g x run (head_sent known free changed) i = λ f.
+step_flush p h g x run (head_sent known active free changed) i = λ f.
     let n : ℕ = length (sent h) + 1 in
     let y : Flush = present h g n in
     subst (λ m. Unacked f m (cond (g == f) (unacked h f ++ sent_of (present h f n) ∷ []) (unacked h f)) (sent h ++ y ∷ []) (λ k. acked h f k))
@@ -60,9 +62,10 @@ step_flush p h g x run (head_sent known free changed) i = λ f.
 
 step_flush_snaps : (h : List Entry) (g : ℕ) (x : Answer) → FlushSnapsIs h g x → AllUnacked h → AllUnacked (record { event = e.FlushSnaps g; answer = x } ∷ h)
 step_flush_snaps h g x flush_unknown i = i
+step_flush_snaps h g x flush_session i = i
 step_flush_snaps h g x flush_none i = i
 step_flush_snaps h g x flush_writing i = i
-step_flush_snaps h g x (flush_sent q qs known there closed) i = λ f.
+step_flush_snaps h g x (flush_sent q qs known active there closed) i = λ f.
     let n : ℕ = length (sent h) + 1 in
     let y : Flush = flush_snap g n q.follows (queued_mode (queued h g)) (writes h g) in
     subst (λ m. Unacked f m (unacked h f) (sent h ++ y ∷ []) (λ k. acked h f k)) (sym (length-append (sent h) (y ∷ [])))

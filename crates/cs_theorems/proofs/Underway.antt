@@ -36,7 +36,7 @@ use Rattle.cs_laws.specs.Runs.{IsRun}
 use Rattle.cs_laws.specs.Made.{Made, is_made_file, made_by, made_in, made_of, makes_file}
 use Rattle.cs_laws.specs.Requests.{Request, has_request, op_of, requests}
 use Rattle.cs_theorems.specs.Underway.{ForClient, ForServer, IfFile, IsToldClient, IsToldServer}
-use Rattle.cs_theorems.proofs.Inversions.{FlushIs, head_unknown, head_snap, head_clean, head_sent, flush_is, FlushSnapsIs, flush_unknown, flush_none, flush_writing, flush_sent, flush_snaps_is, FirstIs, first_idle, first_cap, first_flush_ack, first_unsafe, first_safe, first_unlease, first_snap, first_is, ReceivedIs, received_idle, received_ack, received_flush, received_again, received_req, received_req_again, received_is, SnapIs, snap_unknown, snap_exists, snap_taken, snap_is, RemoveIs, remove_none, remove_gone, removed, remove_is, UnleaseIs, unlease_unknown, unlease_sent, unlease_is}
+use Rattle.cs_theorems.proofs.Inversions.{FlushIs, head_unknown, head_session, head_snap, head_clean, head_sent, flush_is, FlushSnapsIs, flush_unknown, flush_session, flush_none, flush_writing, flush_sent, flush_snaps_is, FirstIs, first_idle, first_cap, first_flush_ack, first_unsafe, first_resumed, first_safe, first_unlease, first_snap, first_is, ReceivedIs, received_idle, received_ack, received_flush, received_again, received_reconnect, received_req, received_req_again, received_is, SnapIs, snap_unknown, snap_session, snap_exists, snap_taken, snap_is, RemoveIs, remove_none, remove_session, remove_gone, removed, remove_is, UnleaseIs, unlease_unknown, unlease_session, unlease_sent, unlease_is}
 use Rattle.cs_theorems.proofs.Listed.{Each, each_nil, each_cons, each_append, each_drop, each_end, each_tail, member_first}
 use Rattle.cs_theorems.proofs.News.{each_again, each_answered}
 use Rattle.cs_theorems.proofs.Runs.{of_run}
@@ -372,7 +372,8 @@ step_revoke h g bits i =
 
 step_unlease : (h : List Entry) (d : ℕ) (name : List ℕ) (x : Answer) → UnleaseIs h x → AllFly h → AllFly (record { event = e.Unlease d name; answer = x } ∷ h)
 step_unlease h d name x unlease_unknown i = i
-step_unlease h d name x unlease_sent i =
+step_unlease h d name x unlease_session i = i
+step_unlease h d name x (unlease_sent active) i =
     flies_told _ _ _ _ _ _ _ (messages.Unlease d name ∷ [])
     (each_cons (λ n. ForClient (λ f. known_behind (requests h) (to_client h) (λ k. client_knows h k) f ≡ true) n × IsAnswered (requests h) n) (messages.Unlease d name) []
     ((refl, tt), tt) (each_nil (λ n. ForClient (λ f. known_behind (requests h) (to_client h) (λ k. client_knows h k) f ≡ true) n × IsAnswered (requests h) n))) i
@@ -398,15 +399,17 @@ flush_received xs Known x known =
 
 step_flush_snaps : (h : List Entry) (g : ℕ) (x : Answer) → FlushSnapsIs h g x → AllFly h → AllFly (record { event = e.FlushSnaps g; answer = x } ∷ h)
 step_flush_snaps h g x flush_unknown i = i
+step_flush_snaps h g x flush_session i = i
 step_flush_snaps h g x flush_none i = i
 step_flush_snaps h g x flush_writing i = i
-step_flush_snaps h g x (flush_sent y ys known is closed) i = flies_sent _ _ _ _ _ _ _ _ (refl, known) i
+step_flush_snaps h g x (flush_sent y ys known active is closed) i = flies_sent _ _ _ _ _ _ _ _ (refl, known) i
 
 step_flush : (h : List Entry) (g : ℕ) (x : Answer) → FlushIs h g x → AllFly h → AllFly (record { event = e.Flush g; answer = x } ∷ h)
 step_flush h g x head_unknown i = i
+step_flush h g x head_session i = i
 step_flush h g x head_snap i = i
 step_flush h g x head_clean i = i
-step_flush h g x (head_sent known free changed) i = flies_sent _ _ _ _ _ _ _ _ (refl, known) i
+step_flush h g x (head_sent known active free changed) i = flies_sent _ _ _ _ _ _ _ _ (refl, known) i
 
 plain : (b : Bool) → (b || false) ≡ true → b ≡ true
 plain true is = refl
@@ -464,6 +467,7 @@ step_to_client h x first_idle makes i = i
 step_to_client h x (first_cap g seq bits end q is) makes i = first_of h (messages.Cap g seq bits end) q is (λ f. client_knows h f) (λ f was. plain (client_knows h f) was) i
 step_to_client h x (first_flush_ack g tid q is) makes i = first_of h (messages.FlushAck g tid) q is (λ f. client_knows h f) (λ f was. plain (client_knows h f) was) i
 step_to_client h x (first_safe tid q is) makes i = first_of h (messages.Safe tid) q is (λ f. client_knows h f) (λ f was. plain (client_knows h f) was) i
+step_to_client h x (first_resumed told_now q is) makes i = first_of h (messages.Resumed told_now) q is (λ f. client_knows h f) (λ f was. plain (client_knows h f) was) i
 step_to_client h x (first_unlease d name q is) makes i = first_of h (messages.Unlease d name) q is (λ f. client_knows h f) (λ f was. plain (client_knows h f) was) i
 step_to_client h x (first_snap number d now q is) makes i = first_of h (messages.Snap number d now) q is (λ f. client_knows h f) (λ f was. plain (client_knows h f) was) i
 step_to_client h x (first_unsafe tid o ttl q is) makes i =
@@ -563,13 +567,15 @@ step_to_mds h x (received_req_again tid ino op q is again) i =
 
 step_snap : (h : List Entry) (d : ℕ) (name : List ℕ) (x : Answer) → SnapIs h d name x → AllFly h → AllFly (record { event = e.Snap d name; answer = x } ∷ h)
 step_snap h d name x snap_unknown i = i
+step_snap h d name x snap_session i = i
 step_snap h d name x snap_exists i = i
-step_snap h d name x (snap_taken directory free) i = recorded_plain h (record { body = bodies.Snap (greatest_number (stand h) + 1) d name }) refl tt i
+step_snap h d name x (snap_taken directory active free) i = recorded_plain h (record { body = bodies.Snap (greatest_number (stand h) + 1) d name }) refl tt i
 
 step_remove : (h : List Entry) (t : ℕ) (x : Answer) → RemoveIs h t x → AllFly h → AllFly (record { event = e.RmSnap t; answer = x } ∷ h)
 step_remove h t x remove_none i = i
+step_remove h t x remove_session i = i
 step_remove h t x remove_gone i = i
-step_remove h t x (removed there stays) i = recorded_plain h (record { body = bodies.Removal t (greatest_number (stand h) + 1) }) refl tt i
+step_remove h t x (removed there stays active) i = recorded_plain h (record { body = bodies.Removal t (greatest_number (stand h) + 1) }) refl tt i
 
 step_commit : (p : ℕ) (h : List Entry) → AllFly h → AllFly (entry p h e.Commit ∷ h)
 step_commit p h i =

@@ -34,7 +34,7 @@ use Rattle.cs_laws.specs.Namespace.{answer_on}
 use Rattle.cs_laws.specs.Standing.{greatest_number, recorded, requested}
 use Rattle.cs_theorems.specs.Queues.{snaps, with_ended}
 use Rattle.cs_theorems.specs.Unacked.{unacked}
-use Rattle.cs_theorems.proofs.Inversions.{ChmodIs, chmod_unknown, chmod_no_bit, chmod_snap, chmod_done, chmod_is, WriteIs, write_unknown, write_no_bit, write_past, wrote, write_is, EndIs, end_unknown, ended, end_is, FlushIs, head_unknown, head_snap, head_clean, head_sent, flush_is, FlushSnapsIs, flush_unknown, flush_none, flush_writing, flush_sent, flush_snaps_is, FirstIs, first_idle, first_cap, first_flush_ack, first_unsafe, first_safe, first_unlease, first_snap, first_is, ReceivedIs, received_idle, received_ack, received_flush, received_again, received_req, received_req_again, received_is, SnapIs, snap_unknown, snap_exists, snap_taken, snap_is, RemoveIs, remove_none, remove_gone, removed, remove_is}
+use Rattle.cs_theorems.proofs.Inversions.{ChmodIs, chmod_unknown, chmod_no_bit, chmod_snap, chmod_done, chmod_is, WriteIs, write_unknown, write_no_bit, write_past, wrote, write_is, EndIs, end_unknown, ended, end_is, FlushIs, head_unknown, head_session, head_snap, head_clean, head_sent, flush_is, FlushSnapsIs, flush_unknown, flush_session, flush_none, flush_writing, flush_sent, flush_snaps_is, FirstIs, first_idle, first_cap, first_flush_ack, first_unsafe, first_resumed, first_safe, first_unlease, first_snap, first_is, ReceivedIs, received_idle, received_ack, received_flush, received_again, received_reconnect, received_req, received_req_again, received_is, SnapIs, snap_unknown, snap_session, snap_exists, snap_taken, snap_is, RemoveIs, remove_none, remove_session, remove_gone, removed, remove_is}
 use Rattle.cs_theorems.proofs.Known.{live_known, LiveAreKnown, client_before, known_then}
 use Rattle.cs_theorems.proofs.Listed.{Each, member_first}
 use Rattle.cs_theorems.proofs.Runs.{of_run}
@@ -80,15 +80,17 @@ step_check h g i =
 step_flush_snaps : (h : List Entry) (g : ℕ) (x : Answer) → FlushSnapsIs h g x → AllUntouched h
     → AllUntouched (record { event = e.FlushSnaps g; answer = x } ∷ h)
 step_flush_snaps h g x flush_unknown i = i
+step_flush_snaps h g x flush_session i = i
 step_flush_snaps h g x flush_none i = i
 step_flush_snaps h g x flush_writing i = i
-step_flush_snaps h g x (flush_sent y ys known is closed) i = λ f unknown. rw (apart h g f known unknown) (i f unknown)
+step_flush_snaps h g x (flush_sent y ys known active is closed) i = λ f unknown. rw (apart h g f known unknown) (i f unknown)
 
 step_flush : (h : List Entry) (g : ℕ) (x : Answer) → FlushIs h g x → AllUntouched h → AllUntouched (record { event = e.Flush g; answer = x } ∷ h)
 step_flush h g x head_unknown i = i
+step_flush h g x head_session i = i
 step_flush h g x head_snap i = i
 step_flush h g x head_clean i = i
-step_flush h g x (head_sent known free changed) i = λ f unknown. rw (apart h g f known unknown) (i f unknown)
+step_flush h g x (head_sent known active free changed) i = λ f unknown. rw (apart h g f known unknown) (i f unknown)
 
 step_chmod : (h : List Entry) (c : ℕ) (name : RefName) (mode : ℕ) (x : Answer) → ChmodIs h c name x
     → Each (λ r. client_knows h r.file ≡ true) (live h) → AllUntouched h
@@ -140,6 +142,7 @@ step_to_client p h x run (first_flush_ack g tid q is) lives i = λ f unknown.
     rw (apart h g f known unknown) (i f unknown)
 step_to_client p h x run (first_unsafe tid o ttl q is) lives i = λ f unknown. i f (client_before e.ToClient (a.Unsafe tid o) h f unknown)
 step_to_client p h x run (first_safe tid q is) lives i = i
+step_to_client p h x run (first_resumed told_now q is) lives i = i
 step_to_client p h x run (first_unlease d name q is) lives i = i
 step_to_client p h x run (first_snap number d now q is) lives i = λ f unknown.
     let was : IsUntouchedAt h f = i f unknown in
@@ -205,13 +208,15 @@ ungiven_to_mds p h x run (received_req_again tid ino op q is again) i = i
 
 ungiven_snap : (h : List Entry) (d : ℕ) (name : List ℕ) (x : Answer) → SnapIs h d name x → AllUngiven h → AllUngiven (record { event = e.Snap d name; answer = x } ∷ h)
 ungiven_snap h d name x snap_unknown i = i
+ungiven_snap h d name x snap_session i = i
 ungiven_snap h d name x snap_exists i = i
-ungiven_snap h d name x (snap_taken directory free) i = λ f unknown. i f (known_more h (record { body = bodies.Snap (greatest_number (stand h) + 1) d name } ∷ []) f unknown)
+ungiven_snap h d name x (snap_taken directory active free) i = λ f unknown. i f (known_more h (record { body = bodies.Snap (greatest_number (stand h) + 1) d name } ∷ []) f unknown)
 
 ungiven_remove : (h : List Entry) (s : ℕ) (x : Answer) → RemoveIs h s x → AllUngiven h → AllUngiven (record { event = e.RmSnap s; answer = x } ∷ h)
 ungiven_remove h s x remove_none i = i
+ungiven_remove h s x remove_session i = i
 ungiven_remove h s x remove_gone i = i
-ungiven_remove h s x (removed there stays) i = λ f unknown. i f (known_more h (record { body = bodies.Removal s (greatest_number (stand h) + 1) } ∷ []) f unknown)
+ungiven_remove h s x (removed there stays active) i = λ f unknown. i f (known_more h (record { body = bodies.Removal s (greatest_number (stand h) + 1) } ∷ []) f unknown)
 
 setup_before : (x : Event) (y : Answer) (f : ℕ) (was made : Bool) → (setup_file_then x y f was || made) ≡ false → (was || made) ≡ false
 setup_before x y f was made none =

@@ -23,7 +23,7 @@ use Rattle.cs_theorems.specs.Flushes.{FlushesAreNumbered, flushes_in}
 use Rattle.cs_theorems.specs.Queues.{snaps, with_ended}
 use Rattle.cs_theorems.proofs.Acks.{run_acked}
 use Rattle.cs_theorems.proofs.FlushReplays.{flushes_numbered}
-use Rattle.cs_theorems.proofs.Inversions.{FlushIs, head_unknown, head_snap, head_clean, head_sent, flush_is, FlushSnapsIs, flush_unknown, flush_none, flush_writing, flush_sent, flush_snaps_is, FirstIs, first_idle, first_cap, first_flush_ack, first_unsafe, first_safe, first_unlease, first_snap, first_is, EndIs, end_unknown, ended, end_is}
+use Rattle.cs_theorems.proofs.Inversions.{FlushIs, head_unknown, head_session, head_snap, head_clean, head_sent, flush_is, FlushSnapsIs, flush_unknown, flush_session, flush_none, flush_writing, flush_sent, flush_snaps_is, FirstIs, first_idle, first_cap, first_flush_ack, first_unsafe, first_safe, first_unlease, first_snap, first_resumed, first_is, EndIs, end_unknown, ended, end_is}
 use Rattle.cs_theorems.proofs.Listed.{Member}
 use Rattle.cs_theorems.proofs.QueueAnswers.{queue_first, queue_order}
 use Rattle.cs_theorems.proofs.Queues.{IsFirst}
@@ -49,6 +49,12 @@ waiting_acked : (b : Bool) (f t : ℕ) (xs : List Snap) (ss : List Flush) (was :
     → Waiting f (cond b (kept.without_tid t xs) xs) ss (λ n. cond (b && (t == n)) true (was n))
 waiting_acked true f t xs ss was order i = waiting_left f t xs ss was order i
 waiting_acked false f t xs ss was order i = i
+
+-- realms are told
+waiting_told : (b : Bool) (f : ℕ) (xs : List Snap) (ss : List Flush) (was : ℕ → Bool) (y : Snap) → y.tid ≡ None → Waiting f xs ss was
+    → Waiting f (cond b (xs ++ y ∷ []) xs) ss was
+waiting_told true f xs ss was y new i = waiting_made f xs ss was y new i
+waiting_told false f xs ss was y new i = i
 
 -- the number of the next flush isn't acknowledged
 pub next_unacked : (p : ℕ) (h : List Entry) → IsRun p h → (f : ℕ) → acked h f (length (sent h) + 1) ≡ false
@@ -76,17 +82,19 @@ step_client p h x run (first_unsafe tid r ttl q there) i = i
 step_client p h x run (first_safe tid q there) i = i
 step_client p h x run (first_unlease d name q there) i = i
 step_client p h x run (first_snap n d now q there) i = λ f.
-    let y : Snap = kept.queued (context h f) (has_writer f (live h)) (written_meta (mode h f) (writes h f)) in
-    cond_both (makes f (context h f) (path_context (client_file_path h f) (with_first (to_client h) (realms h))) (live h) (dirty h f) (queued h f)) (snaps h f ++ y ∷ []) (snaps h f)
-    (λ ys. Waiting f ys (sent h) (λ k. acked h f k))
-    (λ _. waiting_made f (snaps h f) (sent h) (λ k. acked h f k) y refl (i f)) (λ _. i f)
+    waiting_told (makes f (context h f) (path_context (client_file_path h f) (with_first (to_client h) (realms h))) (live h) (dirty h f) (queued h f)) f (snaps h f) (sent h)
+    (λ k. acked h f k) (kept.queued (context h f) (has_writer f (live h)) (written_meta (mode h f) (writes h f))) refl (i f)
+step_client p h x run (first_resumed now q there) i = λ f.
+    waiting_told (makes f (context h f) (path_context (client_file_path h f) (with_first (to_client h) (realms h))) (live h) (dirty h f) (queued h f)) f (snaps h f) (sent h)
+    (λ k. acked h f k) (kept.queued (context h f) (has_writer f (live h)) (written_meta (mode h f) (writes h f))) refl (i f)
 
 step_flush_snaps : (p : ℕ) (h : List Entry) (g : ℕ) (x : Answer) → IsRun p h → FlushSnapsIs h g x → AllWaiting h
     → AllWaiting (record { event = e.FlushSnaps g; answer = x } ∷ h)
 step_flush_snaps p h g x run flush_unknown i = i
+step_flush_snaps p h g x run flush_session i = i
 step_flush_snaps p h g x run flush_none i = i
 step_flush_snaps p h g x run flush_writing i = i
-step_flush_snaps p h g x run (flush_sent q qs known there closed) i = λ f.
+step_flush_snaps p h g x run (flush_sent q qs known active there closed) i = λ f.
     let n : ℕ = length (sent h) + 1 in
     let y : Flush = flush_snap g n q.follows (queued_mode (queued h g)) (writes h g) in
     cond_both (g == f) (kept.with_first_sent n (snaps h f)) (snaps h f) (λ ys. Waiting f ys (sent h ++ y ∷ []) (λ k. acked h f k))
@@ -97,9 +105,10 @@ step_flush_snaps p h g x run (flush_sent q qs known there closed) i = λ f.
 
 step_flush : (p : ℕ) (h : List Entry) (g : ℕ) (x : Answer) → FlushIs h g x → AllWaiting h → AllWaiting (record { event = e.Flush g; answer = x } ∷ h)
 step_flush p h g x head_unknown i = i
+step_flush p h g x head_session i = i
 step_flush p h g x head_snap i = i
 step_flush p h g x head_clean i = i
-step_flush p h g x (head_sent known free changed) i = λ f.
+step_flush p h g x (head_sent known active free changed) i = λ f.
     waiting_beside f (snaps h f) (sent h) (λ k. acked h f k) (present h g (length (sent h) + 1)) (λ _ snap. false≢true snap) (i f)
 
 waiting_step : (p : ℕ) (h : List Entry) (x : Event) → IsRun p h → AllWaiting h → AllWaiting (entry p h x ∷ h)

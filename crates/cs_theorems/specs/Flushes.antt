@@ -1,5 +1,5 @@
 -- How flushes are numbered, and which stand and are on their way.
-use Rattle.std.specs.Prelude.{◌≡◌, Bool, true, List, Option, Some, None, map, length}
+use Rattle.std.specs.Prelude.{◌≡◌, not, Bool, List, Option, Some, None, map, length}
 use Rattle.std.specs.List.{filter_map, range_with_len}
 use Rattle.cs_laws.specs.declared.answers.Entry.{Entry}
 use Rattle.cs_laws.specs.declared.messages.Message.{Message}
@@ -9,6 +9,7 @@ use Rattle.cs_laws.specs.Carried.{flush_in, flush_on}
 use Rattle.cs_laws.specs.Flushes.{Flush}
 use Rattle.cs_laws.specs.History.{sent, stand, to_server}
 use Rattle.cs_laws.specs.Lists.{Each, Member}
+use Rattle.cs_laws.specs.Sessions.{client_state, is_client_broken}
 use Rattle.cs_theorems.specs.Replays.{Replay}
 
 -- a flush, if there is one, is one of these
@@ -40,10 +41,9 @@ flushes_in rs = filter_map (λ r. flush_in r.body) rs
 abbrev pub flushes_on : List Message → List Flush
 flushes_on q = filter_map flush_on q
 
--- Nothing that the client sent was lost. No event loses anything yet; once one does, this is that the client's session isn't
--- broken.
+-- Nothing of what the client sent is lost: it is on its way, or came.
 abbrev pub is_whole : List Entry → Bool
-is_whole h = true
+is_whole h = not (is_client_broken (client_state h))
 
 -- The flushes of all files are sent, arrive and stand in the order of their numbers.
 abbrev pub FlushesReplay : List Entry → Type 0

@@ -4,6 +4,7 @@ pub mod Contexts
 pub mod Flushes
 pub mod Metadata
 pub mod Order
+pub mod Phases
 pub mod Queues
 pub mod Realms
 pub mod References
@@ -11,5 +12,6 @@ pub mod Refusals
 pub mod Replays
 pub mod Snapshots
 pub mod Spellings
+pub mod Told
 pub mod Unacked
 pub mod Underway
