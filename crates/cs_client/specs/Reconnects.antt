@@ -14,7 +14,8 @@ use Rattle.cs_inode.specs.Reports.{file_report, snap_report}
 use Rattle.cs_laws.specs.declared.answers.Answer.{Answer}
 use Rattle.cs_laws.specs.declared.answers.Answer.TheVariants as answers
 use Rattle.cs_laws.specs.declared.messages.Message.{Message}
-use Rattle.cs_laws.specs.Reports.{calling, realm_seqs, reports, rising}
+use Rattle.cs_laws.specs.declared.reports.CapReport.{CapReport}
+use Rattle.cs_laws.specs.Reports.{calling, realm_seqs, report_of, reports, rising}
 use Rattle.cs_reconnect.specs.Resends.{flush_again}
 use Rattle.cs_requests.specs.declared.requests.OpenReq.{OpenReq}
 use Rattle.cs_requests.specs.Requests.{message_of, resent}
@@ -35,6 +36,10 @@ caps_of files f = option_map_or (λ r. r.inode.caps) (get nat_cmp files f) no_cl
 -- the files that it reports, by rising inodes; made: those that it knows
 abbrev pub capped_files : Files → List ℕ → List ℕ
 capped_files files made = rising (filter (is_capped files) made)
+
+-- what is reported of those of these files that are capped
+abbrev pub reports_in : List (ℕ × ClientFile) → List CapReport
+reports_in es = map (λ e. report_of e.0 e.1.inode.caps) (filter (λ e. e.1.capped) es)
 
 -- What it sends again
 
