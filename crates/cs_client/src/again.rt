@@ -1,15 +1,17 @@
 // The client comes back after a loss: it reports what it has, and sends again what it wasn't told to be
 // durable.
 ghost use Rattle.std.specs.Prelude.{◌≡◌, ◌++◌, [], map, IfOk, OnOk};
+ghost use Rattle.std.specs.BTreeMap.{IsOrdered};
 ghost use Rattle.std.specs.List.Sorted.{IsNonDecreasingBy, IsPermutation};
 ghost use Rattle.std.specs.Option.{option_map};
+ghost use Rattle.std.specs.Ordering.{nat_cmp};
 ghost use Rattle.cs_laws.specs.Reports.{realm_seqs, report_of, seq_of};
 ghost use Rattle.cs_requests.specs.Requests.{resent};
 ghost use Rattle.cs_client.specs.Reconnects.{AreUnacked, CallsAgain, reports_in, restarted_row, unacked_at};
 ghost use Rattle.cs_client.specs.Views.{AreMade, KeepsTables, RowsAfter, SamePlaces};
 
 use crate::file::ClientFile;
-use cs_flush::FlushReport;
+use cs_flush::{FlushReport, FlushReportList};
 use cs_ids::{Ino, Memory, Seq};
 use cs_inode::Inode;
 use cs_laws::{Answer, CapReport, MessageList, RealmSeq};
@@ -57,7 +59,8 @@ fn capped_reports(
     alloc: Global,
     files: &BTreeMap<Ino, ClientFile>,
 ) -> Result<Vec<CapReport>, Memory>
-    ensures { IfOk result (λ caps. caps.items ≡ reports_in files.now.entries) }
+    ensures reports { IfOk result (λ caps. caps.items ≡ reports_in files.now.entries) }
+    ensures ordered { IsOrdered nat_cmp files.now }
 {
     let mut caps = Vec::new(alloc);
     for (file, row) in files {
@@ -129,7 +132,15 @@ fn add_unacked(
         return Ok(());
     };
     let unacked = row.inode.unacked(alloc)?;
-    flushes.extend_from_slice(unacked.as_slice())?;
+    Ok(add_all(&unacked, flushes)?)
+}
+
+fn add_all(reports: &FlushReportList, flushes: &mut Vec<FlushReport>) -> Result<(), Memory>
+    ensures { OnOk result (flushes.new.items ≡ flushes.old.items ++ reports.now) }
+{
+    for report in reports.as_slice() {
+        flushes.push(*report)?;
+    }
     Ok(())
 }
 
