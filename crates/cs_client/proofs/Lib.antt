@@ -12,6 +12,7 @@ pub mod Once
 pub mod Owing
 pub mod Puts
 pub mod Restarted
+pub mod Sending
 pub mod Sends
 pub mod Steps
 pub mod TakenIn
