@@ -1,6 +1,6 @@
 -- What an event adds to the standing records, and what follows of what the server knows. Setup lines stand before all records, and no other
 -- event changes what they made.
-use Rattle.std.proofs.Common.{◌≡◌, refl, sym, ap, ◌∙◌, ℕ, ◌||◌, Bool, true, false, List, [], ◌∷◌, ◌++◌, append_assoc, Some}
+use Rattle.std.proofs.Common.{◌≡◌, refl, sym, ap, ◌∙◌, ℕ, ◌||◌, Bool, true, false, List, [], ◌∷◌, ◌++◌, append_assoc, take, Some}
 use Rattle.std.proofs.lemmas.Bool.{true≢false}
 use Rattle.std.proofs.lemmas.List.{append-nil}
 use Rattle.cs_laws.specs.declared.events.Event.{Event}
@@ -29,26 +29,38 @@ added (e.Snap d name) (a.Snap number) q = record { body = bodies.Snap number d n
 added (e.RmSnap s) (a.Removed t number) q = record { body = bodies.Removal s number } ∷ []
 added _ _ q = []
 
-pub stand_then : (h : List Entry) (x : Event) (y : Answer) → stand (record { event = x; answer = y } ∷ h) ≡ stand h ++ added x y (to_server h)
-stand_then h e.ToMds (a.Req tid o) = sym (append_assoc (durable h) (fresh h) (requested o (to_server h)))
-stand_then h e.ToMds (a.Flushed f tid) = sym (append_assoc (durable h) (fresh h) (recorded (to_server h)))
-stand_then h e.ToMds _ = sym (append-nil (stand h))
-stand_then h (e.Snap d name) (a.Snap number) = sym (append_assoc (durable h) (fresh h) _)
-stand_then h (e.Snap d name) _ = sym (append-nil (stand h))
-stand_then h (e.RmSnap s) (a.Removed t number) = sym (append_assoc (durable h) (fresh h) _)
-stand_then h (e.RmSnap s) _ = sym (append-nil (stand h))
-stand_then h e.Commit (a.Commit count) = refl
-stand_then h e.Commit _ = sym (append-nil (stand h))
-stand_then h _ _ = sym (append-nil (stand h))
+-- the event takes records away
+abbrev pub is_failover : Event → Bool
+is_failover (e.Failover keep) = true
+is_failover _ = false
+
+pub stand_then : (h : List Entry) (x : Event) (y : Answer) → is_failover x ≡ false
+    → stand (record { event = x; answer = y } ∷ h) ≡ stand h ++ added x y (to_server h)
+stand_then h e.ToMds (a.Req tid o) stays = sym (append_assoc (durable h) (fresh h) (requested o (to_server h)))
+stand_then h e.ToMds (a.Flushed f tid) stays = sym (append_assoc (durable h) (fresh h) (recorded (to_server h)))
+stand_then h e.ToMds _ stays = sym (append-nil (stand h))
+stand_then h (e.Snap d name) (a.Snap number) stays = sym (append_assoc (durable h) (fresh h) _)
+stand_then h (e.Snap d name) _ stays = sym (append-nil (stand h))
+stand_then h (e.RmSnap s) (a.Removed t number) stays = sym (append_assoc (durable h) (fresh h) _)
+stand_then h (e.RmSnap s) _ stays = sym (append-nil (stand h))
+stand_then h e.Commit (a.Commit count) stays = refl
+stand_then h e.Commit _ stays = sym (append-nil (stand h))
+stand_then h (e.Failover keep) _ stays = absurd cc
+stand_then h _ _ stays = sym (append-nil (stand h))
+
+-- after a failover the durable records stand, and the first ones of those that weren't
+pub stand_failover : (h : List Entry) (keep kept : ℕ)
+    → stand (record { event = e.Failover keep; answer = a.Failover kept } ∷ h) ≡ durable h ++ take keep (fresh h)
+stand_failover h keep kept = append-nil (durable h ++ take keep (fresh h))
 
 pub made_in_append : (rs ss : List Record) → made_in (rs ++ ss) ≡ made_in rs ++ made_in ss
 made_in_append [] ss = refl
 made_in_append (r ∷ rs) ss =
     ap (λ ms. made_of r.body ++ ms) (made_in_append rs ss) ∙ sym (append_assoc (made_of r.body) (made_in rs) (made_in ss))
 
-pub made_then : (h : List Entry) (x : Event) (y : Answer)
+pub made_then : (h : List Entry) (x : Event) (y : Answer) → is_failover x ≡ false
     → made_in (stand (record { event = x; answer = y } ∷ h)) ≡ made_in (stand h) ++ made_in (added x y (to_server h))
-made_then h x y = ap made_in (stand_then h x y) ∙ made_in_append (stand h) (added x y (to_server h))
+made_then h x y stays = ap made_in (stand_then h x y stays) ∙ made_in_append (stand h) (added x y (to_server h))
 
 pub names_append : (ns : Names) (rs ss : List Record) → names_after ns (rs ++ ss) ≡ names_after (names_after ns rs) ss
 names_append ns [] ss = refl
@@ -92,7 +104,7 @@ module _ (h : List Entry) where
   setup_stays (e.File i q) y is = absurd (true≢false is)
   setup_stays _ y is = refl
 
-  pub names_then : (x : Event) (y : Answer) → is_setup x ≡ false
+  pub names_then : (x : Event) (y : Answer) → is_setup x ≡ false → is_failover x ≡ false
       → names (record { event = x; answer = y } ∷ h) ≡ names_after (names h) (added x y (to_server h))
-  names_then x y is =
-      (λ k. names_after (setup_stays x y is k) (stand_then h x y k)) ∙ names_append (setup_names h) (stand h) (added x y (to_server h))
+  names_then x y is stays =
+      (λ k. names_after (setup_stays x y is k) (stand_then h x y stays k)) ∙ names_append (setup_names h) (stand h) (added x y (to_server h))

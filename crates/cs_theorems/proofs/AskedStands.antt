@@ -1,9 +1,10 @@
 -- After each event the requests that were asked, those that stand and those on their way to the server are a replay. What stands is a front
 -- of what was asked, with its operations and answers.
-use Rattle.std.proofs.Common.{◌≡◌, refl, sym, ap, ◌∙◌, subst, ℕ, ◌+◌, ◌<◌, ◌≤◌, ◌==◌, max, Bool, true, List, [], ◌∷◌, ◌++◌, Option, Some, None, map, length, drop, append_assoc, arith, inl, inr}
-use Rattle.std.specs.List.{cons_option, filter_map}
-use Rattle.std.proofs.lemmas.Bool.{cond_both, cond-false, cond-true, eq-eqb, ltb-false, ltb-true, ne_eqb}
-use Rattle.std.proofs.lemmas.List.{append-nil, map-append}
+use Rattle.std.proofs.Common.{◌≡◌, refl, sym, ap, ◌∙◌, subst, ℕ, ◌+◌, ◌<◌, ◌≤◌, ◌==◌, max, ◌&&◌, Bool, true, false, cond, List, [], ◌∷◌, ◌++◌, Option, Some, None, map, length, take, drop, append_assoc, arith, inl, inr}
+use Rattle.std.specs.Prelude.{not}
+use Rattle.std.specs.List.{cons_option, filter, filter_map}
+use Rattle.std.proofs.lemmas.Bool.{cond_both, cond-false, cond-true, eq-eqb, false_from_ne_true, ltb-false, ltb-true, ne_eqb}
+use Rattle.std.proofs.lemmas.List.{append-nil, map-append, take-append-drop}
 use Rattle.std.proofs.lemmas.List.Elements.{filter_map-append}
 use Rattle.cs_laws.specs.declared.events.Event.{Event}
 use Rattle.cs_laws.specs.declared.events.Event.TheVariants as e
@@ -16,29 +17,34 @@ use Rattle.cs_laws.specs.declared.records.RecordBody.{RecordBody}
 use Rattle.cs_laws.specs.declared.records.RecordBody.TheVariants as bodies
 use Rattle.cs_laws.specs.declared.requests.OpAnswer.{OpAnswer}
 use Rattle.cs_laws.specs.declared.requests.ReqOp.{ReqOp}
-use Rattle.cs_laws.specs.Flushes.{Flush, flush_message, flush_record}
-use Rattle.cs_laws.specs.History.{durable, fresh, stand, to_server}
+use Rattle.cs_laws.specs.declared.answers.Answer.TheVariants as a
+use Rattle.cs_laws.specs.declared.reports.CapReport.{CapReport}
+use Rattle.cs_laws.specs.declared.reports.RealmSeq.{RealmSeq}
+use Rattle.cs_laws.specs.Flushes.{Flush, acked, flush_message, flush_record}
+use Rattle.cs_laws.specs.History.{client, durable, fresh, realms, sent, stand, to_client, to_server}
 use Rattle.cs_laws.specs.Journal.{entry}
 use Rattle.cs_laws.specs.Laws.{request_tids, request_tids_of}
 use Rattle.cs_laws.specs.Lists.{RisesFrom}
 use Rattle.cs_laws.specs.Names.{names, setup_names}
 use Rattle.cs_laws.specs.Namespace.{Names, after, answer_on}
-use Rattle.cs_laws.specs.Requests.{requests}
-use Rattle.cs_laws.specs.Runs.{IsRun}
+use Rattle.cs_laws.specs.Reports.{calling, capped, realm_seqs, reports, request_again, unretired}
+use Rattle.cs_laws.specs.Requests.{Reply, Request, has_reply, has_request, is_closed, is_closed_then, is_open, is_saved, is_saved_then, replies, requests}
 use Rattle.cs_laws.specs.Standing.{answer_in, answer_kept, greatest_request, recorded, request_tid, requested}
 use Rattle.cs_theorems.specs.Asked.{Asked, Settles, asked, asked_in, asked_of, stage}
 use Rattle.cs_theorems.specs.Flushes.{is_whole}
+use Rattle.cs_theorems.specs.Phases.{PhaseAt}
 use Rattle.cs_theorems.specs.Replays.{above, last_from, last_tid, Replay}
-use Rattle.cs_theorems.proofs.Ascending.{above_one, member_above}
+use Rattle.cs_theorems.proofs.Ascending.{above_one, member_above, member_upto}
 use Rattle.cs_theorems.proofs.Asked.{names_stage}
-use Rattle.cs_theorems.proofs.AsksRun.{AskedSettles, AskedAlike, alike_length, asked_alike, asked_settles}
-use Rattle.cs_theorems.proofs.Inversions.{FlushIs, head_unknown, head_session, head_snap, head_clean, head_sent, flush_is, CheckIs, check_unknown, check_session, check_nothing, check_hold, check_ack, check_is, FlushSnapsIs, flush_unknown, flush_session, flush_none, flush_writing, flush_sent, flush_snaps_is, ReceivedIs, received_idle, received_ack, received_flush, received_again, received_reconnect, received_req, received_req_again, received_is, SnapIs, snap_unknown, snap_session, snap_exists, snap_taken, snap_is, RemoveIs, remove_none, remove_session, remove_gone, removed, remove_is}
-use Rattle.cs_theorems.proofs.Listed.{Each, Member, each_end, each_nil, each_tail, member_left, member_right}
+use Rattle.cs_theorems.proofs.AsksRun.{AskedSettles, AskedAlike, Alike, alike_length, was_sent}
+use Rattle.cs_theorems.proofs.Inversions.{FirstIs, first_idle, first_cap, first_flush_ack, first_unsafe, first_safe, first_unlease, first_snap, first_resumed, first_is, ReqIs, req_session, req_sent, req_is, ReconnectIs, unbroken, reconnected, reconnect_is, FlushIs, head_unknown, head_session, head_snap, head_clean, head_sent, flush_is, CheckIs, check_unknown, check_session, check_nothing, check_hold, check_ack, check_is, FlushSnapsIs, flush_unknown, flush_session, flush_none, flush_writing, flush_sent, flush_snaps_is, ReceivedIs, received_idle, received_ack, received_flush, received_again, received_reconnect, received_req, received_req_again, received_is, SnapIs, snap_unknown, snap_session, snap_exists, snap_taken, snap_is, RemoveIs, remove_none, remove_session, remove_gone, removed, remove_is}
+use Rattle.cs_theorems.proofs.Listed.{Each, Member, each_append, each_cons, each_end, each_nil, each_tail, member_left, member_right}
+use Rattle.cs_theorems.proofs.Phase.{call}
 use Rattle.cs_theorems.proofs.Replays as replays
 use Rattle.cs_theorems.proofs.Rising.{at_first}
-use Rattle.cs_theorems.proofs.Runs.{of_run}
+use Rattle.cs_theorems.proofs.Sessions.{broken_silent, whole_by_client, whole_by_server}
 use Rattle.cs_theorems.proofs.Standing.{recorded_one}
-use Rattle.cs_theorems.proofs.Tests.{member_end}
+use Rattle.cs_theorems.proofs.Tests.{filter_each, member_end}
 
 -- Numbers
 
@@ -343,10 +349,117 @@ sending_done {whole = whole} {xs = xs} {st = st} {p = p} t ino op o is more next
     x : Asked
     x = record { tid = t; op = op; answer = o }
 
+-- all that is on its way is lost, and the end of what stands
+sending_cut : {whole : Bool} {xs st : List Asked} {p : List Message} (rt : List Asked) → Sending whole xs (st ++ rt) p → Sending false xs st []
+sending_cut {whole = whole} {xs = xs} {st = st} {p = p} rt i = record {
+  missing = rt ++ i.missing;
+  front = i.front ∙ append_assoc st rt i.missing;
+  numbers = replays.cut (λ t. t) whole (asked_tids xs) (asked_tids st) (asked_tids rt) (req_tids p)
+      (subst (λ ts. Numbers whole (asked_tids xs) ts (req_tids p)) (tids_append st rt) i.numbers);
+  flying = each_nil (λ m. IsAsked xs m);
+}
+
+-- Requests that are sent again
+
+request_chosen : (rs : List Reply) (due : ℕ → Bool) (xs : List Request) (ys : List Asked) → Alike xs ys
+    → req_tids (map (request_again rs) (filter (λ x. due x.tid) xs)) ≡ filter due (asked_tids ys)
+request_chosen rs due [] [] i = refl
+request_chosen rs due (x ∷ xs) (y ∷ ys) i = at (due x.tid) (due y.tid) (ap due i.0) (request_chosen rs due xs ys i.2)
+  where
+    at : (b c : Bool) → b ≡ c → req_tids (map (request_again rs) (filter (λ z. due z.tid) xs)) ≡ filter due (asked_tids ys)
+        → req_tids (map (request_again rs) (cond b (x ∷ filter (λ z. due z.tid) xs) (filter (λ z. due z.tid) xs)))
+        ≡ cond c (y.tid ∷ filter due (asked_tids ys)) (filter due (asked_tids ys))
+    at true true is rest =
+        ap (λ t. t ∷ req_tids (map (request_again rs) (filter (λ z. due z.tid) xs))) i.0 ∙ ap (λ ts. y.tid ∷ ts) rest
+    at false false is rest = rest
+    at true false is rest = absurd cc
+    at false true is rest = absurd cc
+request_chosen rs due _ _ i = absurd i
+
+-- each that was sent was asked
+was_asked : (xs : List Request) (ys : List Asked) (x : Request) → Alike xs ys → Member x xs
+    → (o : OpAnswer) × Member (record { tid = x.tid; op = x.op; answer = o }) ys
+was_asked [] ys x i there = absurd there
+was_asked (z ∷ xs) [] x i there = absurd i
+was_asked (z ∷ xs) (y ∷ ys) x i (inl is) =
+    (y.answer, inl (asked_is y x.tid x.op y.answer (sym i.0 ∙ ap (λ (w : Request). w.tid) is) (sym i.1 ∙ ap (λ (w : Request). w.op) is) refl))
+was_asked (z ∷ xs) (y ∷ ys) x i (inr there) = let k = was_asked xs ys x i.2 there in (k.0, inr k.1)
+
+asked_again : (rs : List Reply) (xs : List Asked) (us : List Request)
+    → Each (λ x. (o : OpAnswer) × Member (record { tid = x.tid; op = x.op; answer = o }) xs) us
+    → Each (λ m. IsAsked xs m) (map (request_again rs) us)
+asked_again rs xs [] all = each_nil (λ m. IsAsked xs m)
+asked_again rs xs (u ∷ us) all =
+    each_cons (λ m. IsAsked xs m) (request_again rs u) (map (request_again rs) us) (all u (inl refl))
+    (asked_again rs xs us (λ x there. all x (inr there)))
+
+pub flushes_no_req : (xs : List Flush) → req_tids (map flush_message xs) ≡ []
+flushes_no_req [] = refl
+flushes_no_req (x ∷ xs) = ap (λ o. cons_option o (req_tids (map flush_message xs))) (flush_no_req x) ∙ flushes_no_req xs
+
+flush_asked : (zs : List Asked) (x : Flush) → IsAsked zs (flush_message x)
+flush_asked zs x = cond_both x.snap _ _ (λ m. IsAsked zs m) (λ _. tt) (λ _. tt)
+
+flushes_asked : (zs : List Asked) (xs : List Flush) → Each (λ m. IsAsked zs m) (map flush_message xs)
+flushes_asked zs [] = each_nil (λ m. IsAsked zs m)
+flushes_asked zs (x ∷ xs) = each_cons (λ m. IsAsked zs m) (flush_message x) (map flush_message xs) (flush_asked zs x) (flushes_asked zs xs)
+
+-- what a report and these requests and flushes behind it have of requests
+pub call_tids : (caps : List CapReport) (known : List RealmSeq) (rs : List Reply) (due : ℕ → Bool) (us : List Request) (xs : List Asked) (fs : List Flush)
+    → Alike us xs
+    → req_tids (calling caps known (map (request_again rs) (filter (λ x. due x.tid) us) ++ map flush_message fs)) ≡ filter due (asked_tids xs)
+call_tids caps known rs due us xs fs alike =
+    req_append (map (request_again rs) (filter (λ x. due x.tid) us)) (map flush_message fs)
+    ∙ (ap (λ ts. req_tids (map (request_again rs) (filter (λ x. due x.tid) us)) ++ ts) (flushes_no_req fs)
+    ∙ (append-nil (req_tids (map (request_again rs) (filter (λ x. due x.tid) us))) ∙ request_chosen rs due us xs alike))
+
+sending_call : {whole : Bool} {xs st : List Asked} (caps : List CapReport) (known : List RealmSeq) (rs : List Reply) (due : ℕ → Bool)
+    (us : List Request) (fs : List Flush) → Alike us xs
+    → Each (λ t. last_asked st < t → due t ≡ true) (asked_tids xs) → Sending whole xs st []
+    → Sending true xs st (calling caps known (map (request_again rs) (filter (λ x. due x.tid) us) ++ map flush_message fs))
+sending_call {whole = whole} {xs = xs} {st = st} caps known rs due us fs alike all i = record {
+  missing = i.missing;
+  front = i.front;
+  numbers =
+      subst (λ ts. Numbers true (asked_tids xs) (asked_tids st) ts) (sym (call_tids caps known rs due us xs fs alike))
+      (replays.resend (λ t. t) whole (asked_tids xs) (asked_tids st) due all i.numbers);
+  flying =
+      each_cons (λ m. IsAsked xs m) (messages.Reconnect caps known (length again)) again tt
+      (each_append (λ m. IsAsked xs m) (map (request_again rs) chosen) (map flush_message fs)
+      (asked_again rs xs chosen (λ x there. was_asked us xs x alike (filter_each (λ z. due z.tid) us x there).1))
+      (flushes_asked xs fs));
+}
+  where
+    chosen : List Request
+    chosen = filter (λ x. due x.tid) us
+
+    again : List Message
+    again = map (request_again rs) chosen ++ map flush_message fs
+
+-- Closed requests
+
+closed_saved : (x : Event) (y : Answer) (rs : List Reply) (t : ℕ) (was told : Bool) → (was ≡ true → told ≡ true) → is_closed_then x y rs t was ≡ true
+    → is_saved_then x y t told ≡ true
+closed_saved e.ToClient (a.Safe tid) rs t was told old is =
+    at (tid == t) (has_reply t rs) is
+  where
+    at : (b c : Bool) → cond (b && c) true was ≡ true → cond b true told ≡ true
+    at true c now = refl
+    at false c now = old now
+closed_saved _ _ rs t was told old is = old is
+
+pub closed_is_saved : (h : List Entry) (t : ℕ) → is_closed h t ≡ true → is_saved h t ≡ true
+closed_is_saved [] t is = is
+closed_is_saved (x ∷ h) t is = closed_saved x.event x.answer (replies h) t (is_closed h t) (is_saved h t) (closed_is_saved h t) is
+
 -- Steps
 
 abbrev pub AskedStands : List Entry → Type 0
 AskedStands h = Sending (is_whole h) (asked h) (asked_of (stand h)) (to_server h)
+
+-- what the client was told is durable is durable
+abbrev pub SavedAreDurable : List Entry → Type 0
+SavedAreDurable h = (t : ℕ) → is_saved h t ≡ true → Member t (asked_tids (asked_of (durable h)))
 
 -- the greatest number of a request that stands is the last one's
 pub greatest_stands : {whole : Bool} {xs : List Asked} {p : List Message} (rs : List Record) → Sending whole xs (asked_of rs) p
@@ -382,37 +495,41 @@ abbrev Left : List Entry → List Message → Type 0
 Left h p = Sending (is_whole h) (asked h) (asked_of (stand h)) p
 
 -- a request that arrives first is that which was asked next
-pub next_asked : (h : List Entry) (t : ℕ) (ino : Option ℕ) (op : ReqOp) (q : List Message) → AskedSettles h → AskedStands h
+pub next_asked : (h : List Entry) (t : ℕ) (ino : Option ℕ) (op : ReqOp) (q : List Message) → PhaseAt h → AskedSettles h → AskedStands h
     → to_server h ≡ messages.Req t ino op ∷ q
     → greatest_request (stand h) < t → NextIs (asked h) (asked_of (stand h)) (record { tid = t; op = op; answer = answer_on (names h) op })
-next_asked h t ino op q settles i is more =
+next_asked h t ino op q phase settles i is more =
     let first : Left h (messages.Req t ino op ∷ q) = subst (λ p. Left h p) is i in
     subst (λ ns. NextIs (asked h) (asked_of (stand h)) (record { tid = t; op = op; answer = answer_on ns op }))
     (sym (names_stage (setup_names h) (stand h)))
-    (sending_next (setup_names h) t ino op refl settles (omega (arith, more, greatest_stands (stand h) first)) first)
+    (sending_next (setup_names h) t ino op (whole_by_server h (messages.Req t ino op) q is phase) settles (omega (arith, more, greatest_stands (stand h) first)) first)
 
-step_server : (h : List Entry) (x : Answer) → ReceivedIs h x → AskedSettles h → AskedStands h
+step_server : (h : List Entry) (x : Answer) → ReceivedIs h x → PhaseAt h → AskedSettles h → AskedStands h
     → AskedStands (record { event = e.ToMds; answer = x } ∷ h)
-step_server h x received_idle settles i = i
-step_server h x (received_ack g seq bits q is) settles i =
+step_server h x received_idle phase settles i = i
+step_server h x (received_ack g seq bits q is) phase settles i =
     at_first (λ p. Left h p) (λ p. Left h p) (messages.CapAck g seq bits) q (to_server h) is
     (λ j. sending_taken (messages.CapAck g seq bits) refl j) i
-step_server h x (received_flush y q is first) settles i =
+step_server h x (received_reconnect caps known resends q is) phase settles i =
+    at_first (λ p. Left h p) (λ p. Left h p) (messages.Reconnect caps known resends) q (to_server h) is
+    (λ j. sending_taken (messages.Reconnect caps known resends) refl j) i
+step_server h x (received_flush y q is first) phase settles i =
     subst (λ p. Sending (is_whole h) (asked h) (asked_of (durable h ++ (fresh h ++ recorded p))) (drop 1 p)) (sym is)
     (subst (λ rs. Sending (is_whole h) (asked h) (asked_of (durable h ++ (fresh h ++ rs))) q) (sym (recorded_one y))
     (sending_stand _ (stand_same (durable h) (fresh h) (flush_record y) refl)
     (sending_taken (flush_message y) (flush_no_req y) (subst (λ p. Left h p) is i))))
-step_server h x (received_again y q is again) settles i =
+step_server h x (received_again y q is again) phase settles i =
     at_first (λ p. Left h p) (λ p. Left h p) (flush_message y) q (to_server h) is
     (λ j. sending_taken (flush_message y) (flush_no_req y) j) i
-step_server h x (received_req tid ino op q is first) settles i =
+step_server h x (received_req tid ino op q is first) phase settles i =
     let o : OpAnswer = answer_on (names h) op in
     let more : greatest_request (stand h) < tid = ltb-true (greatest_request (stand h)) tid first in
     let j : Left h (messages.Req tid ino op ∷ q) = subst (λ p. Left h p) is i in
     subst (λ p. Sending (is_whole h) (asked h) (asked_of (durable h ++ (fresh h ++ requested o p))) (drop 1 p)) (sym is)
     (sending_stand _ (sym (stand_end (durable h) (fresh h) (record { body = bodies.Request tid op o })))
-    (sending_done tid ino op o refl (omega (arith, more, greatest_stands (stand h) j)) (next_asked h tid ino op q settles i is more) j))
-step_server h x (received_req_again tid ino op q is again) settles i =
+    (sending_done tid ino op o (whole_by_server h (messages.Req tid ino op) q is phase) (omega (arith, more, greatest_stands (stand h) j))
+    (next_asked h tid ino op q phase settles i is more) j))
+step_server h x (received_req_again tid ino op q is again) phase settles i =
     at_first (λ p. Left h p) (λ p. Left h p) (messages.Req tid ino op) q (to_server h) is
     (λ j. sending_again tid ino op (omega (arith, ltb-false (greatest_request (stand h)) tid again, greatest_stands (stand h) j)) j) i
 
@@ -435,33 +552,77 @@ pub asked_next : (h : List Entry) → AskedAlike h → AskedSettles h → last_a
 asked_next h alike settles =
     omega (arith, settles_last 0 (setup_names h) (asked h) settles, alike_length (requests h) (asked h) alike)
 
-stands_step : (p : ℕ) (h : List Entry) (x : Event) → AskedAlike h → AskedSettles h → AskedStands h → AskedStands (entry p h x ∷ h)
-stands_step p h (e.Check g) alike settles i = step_check h g _ (check_is h g) i
-stands_step p h (e.Flush g) alike settles i = step_flush h g _ (flush_is h g) i
-stands_step p h (e.FlushSnaps g) alike settles i = step_flush_snaps h g _ (flush_snaps_is h g) i
-stands_step p h (e.Req c op) alike settles i =
+step_req : (h : List Entry) (c : ℕ) (op : ReqOp) (x : Answer) → ReqIs h x → AskedAlike h → AskedSettles h → AskedStands h
+    → AskedStands (record { event = e.Req c op; answer = x } ∷ h)
+step_req h c op x req_session alike settles i = i
+step_req h c op x (req_sent active) alike settles i =
     sending_asked (record { tid = length (requests h) + 1; op = op; answer = answer_on (stage (setup_names h) (asked h)) op })
     (asked_next h alike settles) i
-stands_step p h e.ToMds alike settles i = step_server h _ (received_is h) settles i
-stands_step p h (e.Snap d name) alike settles i = step_snap h d name _ (snap_is h d name) i
-stands_step p h (e.RmSnap t) alike settles i = step_remove h t _ (remove_is h t) i
-stands_step p h e.Commit alike settles i = sending_stand _ (ap asked_of (sym (append-nil (stand h)))) i
-stands_step p h _ alike settles i = i
 
-stands_first : AskedStands []
+step_client : (h : List Entry) (x : Answer) → FirstIs h x → PhaseAt h → AskedStands h → AskedStands (record { event = e.ToClient; answer = x } ∷ h)
+step_client h x first_idle phase i = i
+step_client h x (first_cap g seq bits end q is) phase i = i
+step_client h x (first_flush_ack g tid q is) phase i = i
+step_client h x (first_unsafe tid o ttl q is) phase i = i
+step_client h x (first_safe tid q is) phase i = i
+step_client h x (first_unlease d name q is) phase i = i
+step_client h x (first_snap number realm now q is) phase i = i
+step_client h x (first_resumed now q is) phase i =
+    subst (λ b. Sending b (asked h) (asked_of (stand h)) (to_server h)) (whole_by_client h (messages.Resumed now) q is phase) i
+
+both_true : (b c : Bool) → b ≡ true → c ≡ true → (b && c) ≡ true
+both_true true c is also = also
+both_true false c is also = absurd cc
+
+-- a request whose number is above all that stand is open
+pub due_open : (h : List Entry) → AskedAlike h → SavedAreDurable h → RisesFrom 0 (asked_tids (asked_of (stand h)))
+    → Each (λ t. last_asked (asked_of (stand h)) < t → is_open h t ≡ true) (asked_tids (asked h))
+due_open h alike saved up t there more =
+    let k = tid_member t (asked h) there in
+    let was : has_request t (requests h) ≡ true = subst (λ n. has_request n (requests h) ≡ true) k.2 (was_sent (requests h) (asked h) k.0 alike k.1) in
+    let open_still : is_closed h t ≡ false = false_from_ne_true (is_closed h t) (λ is.
+        let durable_one = saved t (closed_is_saved h t is) in
+        let stands : Member t (asked_tids (asked_of (stand h)))
+        = subst (λ ts. Member t ts) (sym (ap asked_tids (asked_append (durable h) (fresh h)) ∙ tids_append (asked_of (durable h)) (asked_of (fresh h))))
+        (member_left t (asked_tids (asked_of (durable h))) (asked_tids (asked_of (fresh h))) durable_one) in
+        omega (arith, more, member_upto (λ n. n) 0 t (asked_tids (asked_of (stand h))) (subst (λ ts. RisesFrom 0 ts) (sym (map_same (asked_tids (asked_of (stand h))))) up) stands)) in
+    both_true (has_request t (requests h)) (not (is_closed h t)) was (ap not open_still)
+
+step_reconnect : (h : List Entry) (x : Answer) → ReconnectIs h x → PhaseAt h → AskedAlike h → SavedAreDurable h → AskedStands h
+    → AskedStands (record { event = e.Reconnect; answer = x } ∷ h)
+step_reconnect h x unbroken phase alike saved i = i
+step_reconnect h x (reconnected broken) phase alike saved i =
+    let quiet = broken_silent h broken phase in
+    subst (λ p. Sending true (asked h) (asked_of (stand h)) (p ++ call h)) (sym quiet.to_server)
+    (sending_call (reports (λ f. client h f) (capped h)) (realm_seqs (realms h)) (replies h) (λ t. is_open h t) (requests h)
+    (unretired (λ f tid. acked h f tid) (sent h)) alike
+    (due_open h alike saved (stands_rise i))
+    (subst (λ p. Sending (is_whole h) (asked h) (asked_of (stand h)) p) quiet.to_server i))
+
+step_failover : (h : List Entry) (keep : ℕ) → AskedStands h → Sending false (asked h) (asked_of ((durable h ++ take keep (fresh h)) ++ [])) []
+step_failover h keep i =
+    sending_stand _ (ap asked_of (sym (append-nil (durable h ++ take keep (fresh h)))))
+    (sending_cut (asked_of (drop keep (fresh h)))
+    (sending_stand _
+    (ap asked_of (ap (λ rs. durable h ++ rs) (sym (take-append-drop keep (fresh h))) ∙ sym (append_assoc (durable h) (take keep (fresh h)) (drop keep (fresh h))))
+    ∙ asked_append (durable h ++ take keep (fresh h)) (drop keep (fresh h))) i))
+
+pub stands_step : (p : ℕ) (h : List Entry) (x : Event) → PhaseAt h → AskedAlike h → AskedSettles h → SavedAreDurable h → AskedStands h
+    → AskedStands (entry p h x ∷ h)
+stands_step p h (e.Check g) phase alike settles saved i = step_check h g _ (check_is h g) i
+stands_step p h (e.Flush g) phase alike settles saved i = step_flush h g _ (flush_is h g) i
+stands_step p h (e.FlushSnaps g) phase alike settles saved i = step_flush_snaps h g _ (flush_snaps_is h g) i
+stands_step p h (e.Req c op) phase alike settles saved i = step_req h c op _ (req_is h) alike settles i
+stands_step p h e.ToClient phase alike settles saved i = step_client h _ (first_is h) phase i
+stands_step p h e.ToMds phase alike settles saved i = step_server h _ (received_is h) phase settles i
+stands_step p h (e.Snap d name) phase alike settles saved i = step_snap h d name _ (snap_is h d name) i
+stands_step p h (e.RmSnap t) phase alike settles saved i = step_remove h t _ (remove_is h t) i
+stands_step p h e.Commit phase alike settles saved i = sending_stand _ (ap asked_of (sym (append-nil (stand h)))) i
+stands_step p h e.DropLinks phase alike settles saved i =
+    sending_cut [] (sending_stand _ (sym (append-nil (asked_of (stand h)))) i)
+stands_step p h (e.Failover keep) phase alike settles saved i = step_failover h keep i
+stands_step p h e.Reconnect phase alike settles saved i = step_reconnect h _ (reconnect_is h) phase alike saved i
+stands_step p h _ phase alike settles saved i = i
+
+pub stands_first : AskedStands []
 stands_first = record { missing = []; front = refl; numbers = replays.none (λ t. t) true; flying = each_nil (λ m. IsAsked [] m) }
-
-pub asked_stands : (p : ℕ) (h : List Entry) → IsRun p h → AskedStands h
-asked_stands p h run =
-    of_run p AskedStands stands_first (λ g x fit before i. stands_step p g x (asked_alike p g before) (asked_settles p g before) i) h run
-
--- What it says
-
--- A request that the server does next is answered as was settled when it was sent.
-pub next_settled : (p : ℕ) (h : List Entry) → IsRun p h → (t : ℕ) (ino : Option ℕ) (op : ReqOp) (q : List Message)
-    → to_server h ≡ messages.Req t ino op ∷ q
-    → greatest_request (stand h) < t → Member (record { tid = t; op = op; answer = answer_on (names h) op }) (asked h)
-next_settled p h run t ino op q is more =
-    let x : Asked = record { tid = t; op = op; answer = answer_on (names h) op } in
-    let next = next_asked h t ino op q (asked_settles p h run) (asked_stands p h run) is more in
-    subst (λ xs. Member x xs) (sym next.front) (member_right x (asked_of (stand h)) (x ∷ next.rest) (inl refl))

@@ -1,6 +1,6 @@
 -- After each event each answer on its way to the client is that of a standing request, and each word that a record is durable is of a
 -- durable one.
-use Rattle.std.proofs.Common.{◌≡◌, ◌⊎◌, refl, sym, ap, ◌∙◌, subst, ℕ, ◌≤◌, true, List, [], ◌∷◌, ◌++◌, None, unwrap_or, arith, inl, inr}
+use Rattle.std.proofs.Common.{◌≡◌, ◌⊎◌, refl, sym, ap, ◌∙◌, subst, ℕ, ◌≤◌, true, List, [], ◌∷◌, ◌++◌, None, unwrap_or, arith, inl, inr, Bool, Option, cond, take, ◌==◌, ◌<◌}
 use Rattle.std.specs.List.{cons_option}
 use Rattle.std.proofs.lemmas.Bool.{cond_both, eqb-true, ltb-false, or_cases}
 use Rattle.cs_bits.specs.declared.Caps.{Caps}
@@ -22,25 +22,28 @@ use Rattle.cs_laws.specs.declared.requests.ReqOp.{ReqOp}
 use Rattle.cs_laws.specs.Carried.{realms_of}
 use Rattle.cs_laws.specs.Flight.{acked_again, answered_again, cap_message, unsafe_message}
 use Rattle.cs_laws.specs.Flushes.{flush_record}
-use Rattle.cs_laws.specs.History.{durable, fresh, last_sent, server, stand, to_client}
+use Rattle.cs_laws.specs.History.{durable, fresh, last_sent, server, stand, to_client, to_server}
 use Rattle.cs_laws.specs.Journal.{entry}
 use Rattle.cs_laws.specs.Lists.{RisesFrom}
 use Rattle.cs_laws.specs.Names.{names}
 use Rattle.cs_laws.specs.Namespace.{answer_on}
 use Rattle.cs_laws.specs.Realms.{differing, realm_records}
-use Rattle.cs_laws.specs.Requests.{Request}
+use Rattle.cs_laws.specs.Requests.{Request, is_saved}
 use Rattle.cs_laws.specs.Runs.{IsRun}
 use Rattle.cs_laws.specs.ServerKnows.{server_dirs, server_path}
-use Rattle.cs_laws.specs.Standing.{answer_kept, greatest_request, has_request, is_request, news, news_of, news_on, recorded, requested}
+use Rattle.cs_laws.specs.Standing.{answer_kept, greatest_request, has_request, is_request, news, news_of, news_on, recorded, requested, resumption}
 use Rattle.cs_theorems.specs.Asked.{Asked, asked, asked_in, asked_of}
 use Rattle.cs_theorems.specs.Flushes.{is_whole}
-use Rattle.cs_theorems.proofs.AskedStands.{AskedStands, Sending, again_stands, answer_found, asked_append, asked_stands, asked_tids, greatest_stands, last_asked, member_tid, stand_end, stand_same, stands_rise, tid_member, tids_append}
+use Rattle.cs_theorems.proofs.AskedStands.{AskedStands, SavedAreDurable, Sending, again_stands, answer_found, asked_append, next_asked, stands_first, stands_step, asked_tids, greatest_stands, last_asked, member_tid, stand_end, stand_same, stands_rise, tid_member, tids_append}
 use Rattle.cs_theorems.proofs.Inversions.{FirstIs, first_idle, first_cap, first_flush_ack, first_unsafe, first_resumed, first_safe, first_unlease, first_snap, first_is, GrantIs, grant_unknown, grant_session, grant_sent, grant_is, revoke_is, ReceivedIs, received_idle, received_ack, received_flush, received_again, received_reconnect, received_req, received_req_again, received_is, SnapIs, snap_unknown, snap_session, snap_exists, snap_taken, snap_is, RemoveIs, remove_none, remove_session, remove_gone, removed, remove_is, UnleaseIs, unlease_unknown, unlease_session, unlease_sent, unlease_is}
-use Rattle.cs_theorems.proofs.Listed.{Each, Member, each_append, each_cons, each_drop, each_end, each_nil, each_tail, member_left, member_right}
-use Rattle.cs_theorems.proofs.News.{each_again}
+use Rattle.cs_theorems.proofs.Listed.{Each, Member, each_append, each_cons, each_drop, each_end, each_nil, each_tail, member_left, member_right, member_first}
+use Rattle.cs_theorems.proofs.News.{each_again, each_resumption}
 use Rattle.cs_theorems.proofs.Runs.{of_run}
 use Rattle.cs_theorems.proofs.Standing.{recorded_one}
 use Rattle.cs_theorems.proofs.Tests.{member_end}
+use Rattle.cs_theorems.proofs.Phase.{run_phase, all_realms}
+use Rattle.cs_laws.specs.Sessions.{server_state, is_broken, is_last}
+use Rattle.cs_theorems.proofs.AsksRun.{asked_alike, asked_settles}
 
 -- What is told
 
@@ -158,44 +161,64 @@ told_record : (h : List Entry) (r : Record) → asked_in r.body ≡ None → All
 told_record h r none i =
     subst (λ st. Each (λ m. IsTold st (asked_of (durable h)) m) (to_client h)) (stand_same (durable h) (fresh h) r none) i
 
-told_request : (h : List Entry) (x : Asked) → AllTold h
-    → Each (λ m. IsTold (asked_of (stand h) ++ x ∷ []) (asked_of (durable h)) m) (to_client h ++ unsafe_message x.tid x.answer ∷ [])
-told_request h x i =
+-- what tells that the session goes on tells of no request
+resumption_told : (st ds : List Asked) (b : Bool) (all : List RealmRecord) → Each (λ m. IsTold st ds m) (resumption b all)
+resumption_told st ds b all = each_resumption (λ m. IsTold st ds m) b all tt
+
+told_request : (h : List Entry) (x : Asked) (r : List Message)
+    → Each (λ m. IsTold (asked_of (stand h) ++ x ∷ []) (asked_of (durable h)) m) r → AllTold h
+    → Each (λ m. IsTold (asked_of (stand h) ++ x ∷ []) (asked_of (durable h)) m)
+    (to_client h ++ unsafe_message (server_state h) x.tid x.answer ∷ r)
+told_request h x r more i =
     let P : Message → Type 0 = λ m. IsTold (asked_of (stand h) ++ x ∷ []) (asked_of (durable h)) m in
-    each_end P (to_client h) (unsafe_message x.tid x.answer)
+    each_append P (to_client h) (unsafe_message (server_state h) x.tid x.answer ∷ r)
     (λ m there. told_more (asked_of (stand h)) (asked_of (stand h) ++ x ∷ []) (asked_of (durable h)) (asked_of (durable h))
     (λ y old. member_left y (asked_of (stand h)) (x ∷ []) old) (λ t old. old) m (i m there))
-    (x.op, member_end x (asked_of (stand h)))
+    (each_cons P (unsafe_message (server_state h) x.tid x.answer) r (x.op, member_end x (asked_of (stand h))) more)
+
+-- what the server tells with the last of what is sent again
+abbrev Goes : List Entry → List Message
+Goes h = resumption (is_last (server_state h)) (all_realms h)
 
 told_server : (h : List Entry) (x : Answer) → ReceivedIs h x → AskedStands h → AllTold h
     → AllTold (record { event = e.ToMds; answer = x } ∷ h)
 told_server h x received_idle stands i = i
 told_server h x (received_ack g seq bits q is) stands i = i
+told_server h x (received_reconnect caps known resends q is) stands i =
+    each_append (λ m. Told h m) (to_client h) (resumption (resends == 0) (all_realms h)) i (each_resumption (λ m. Told h m) (resends == 0) (all_realms h) tt)
 told_server h x (received_flush y q is first) stands i =
-    subst (λ p. Each (λ m. IsTold (asked_of (durable h ++ (fresh h ++ recorded p))) (asked_of (durable h)) m) (to_client h)) (sym is)
-    (subst (λ rs. Each (λ m. IsTold (asked_of (durable h ++ (fresh h ++ rs))) (asked_of (durable h)) m) (to_client h))
+    subst (λ p. Each (λ m. IsTold (asked_of (durable h ++ (fresh h ++ recorded p))) (asked_of (durable h)) m) (to_client h ++ Goes h)) (sym is)
+    (subst (λ rs. Each (λ m. IsTold (asked_of (durable h ++ (fresh h ++ rs))) (asked_of (durable h)) m) (to_client h ++ Goes h))
     (sym (recorded_one y))
-    (told_record h (flush_record y) refl i))
+    (each_append (λ m. IsTold (asked_of (durable h ++ (fresh h ++ flush_record y ∷ []))) (asked_of (durable h)) m) (to_client h) (Goes h)
+    (told_record h (flush_record y) refl i)
+    (each_resumption (λ m. IsTold (asked_of (durable h ++ (fresh h ++ flush_record y ∷ []))) (asked_of (durable h)) m) (is_last (server_state h)) (all_realms h) tt)))
 told_server h x (received_again y q is again) stands i =
-    each_append (λ m. Told h m) (to_client h) (acked_again y.file y.tid (durable h)) i
+    each_append (λ m. Told h m) (to_client h) (acked_again y.file y.tid (durable h) ++ Goes h) i
+    (each_append (λ m. Told h m) (acked_again y.file y.tid (durable h)) (Goes h)
     (each_again (λ m. Told h m) y.file y.tid (durable h) (λ _. tt))
+    (each_resumption (λ m. Told h m) (is_last (server_state h)) (all_realms h) tt))
 told_server h x (received_req tid ino op q is first) stands i =
     let o : OpAnswer = answer_on (names h) op in
     subst
     (λ p. Each (λ m. IsTold (asked_of (durable h ++ (fresh h ++ requested o p))) (asked_of (durable h)) m)
-    (to_client h ++ unsafe_message tid o ∷ [])) (sym is)
-    (subst (λ st. Each (λ m. IsTold st (asked_of (durable h)) m) (to_client h ++ unsafe_message tid o ∷ []))
+    (to_client h ++ unsafe_message (server_state h) tid o ∷ Goes h)) (sym is)
+    (subst (λ st. Each (λ m. IsTold st (asked_of (durable h)) m) (to_client h ++ unsafe_message (server_state h) tid o ∷ Goes h))
     (sym (stand_end (durable h) (fresh h) (record { body = bodies.Request tid op o })))
-    (told_request h (record { tid = tid; op = op; answer = o }) i))
+    (told_request h (record { tid = tid; op = op; answer = o }) (Goes h)
+    (resumption_told (asked_of (stand h) ++ record { tid = tid; op = op; answer = o } ∷ []) (asked_of (durable h)) (is_last (server_state h)) (all_realms h)) i))
 told_server h x (received_req_again tid ino op q is again) stands i =
     let first : Sending (is_whole h) (asked h) (asked_of (stand h)) (messages.Req tid ino op ∷ q)
     = subst (λ p. Sending (is_whole h) (asked h) (asked_of (stand h)) p) is stands in
     let low : tid ≤ last_asked (asked_of (stand h))
     = omega (arith, ltb-false (greatest_request (stand h)) tid again, greatest_stands (stand h) first) in
-    each_append (λ m. Told h m) (to_client h) (answered_again tid (unwrap_or (answer_kept tid (stand h)) replies_of.Missing) (durable h)) i
+    each_append (λ m. Told h m) (to_client h)
+    (answered_again tid (unwrap_or (answer_kept tid (stand h)) replies_of.Missing) (durable h) ++ Goes h) i
+    (each_append (λ m. Told h m) (answered_again tid (unwrap_or (answer_kept tid (stand h)) replies_of.Missing) (durable h)) (Goes h)
     (each_answered (λ m. Told h m) tid (unwrap_or (answer_kept tid (stand h)) replies_of.Missing) (durable h)
     (again_right (stand h) tid (stands_rise stands) (again_stands tid ino op low first))
     (λ there. request_member tid (durable h) there))
+    (each_resumption (λ m. Told h m) (is_last (server_state h)) (all_realms h) tt))
 
 told_snap : (h : List Entry) (d : ℕ) (name : List ℕ) (x : Answer) → SnapIs h d name x → AllTold h
     → AllTold (record { event = e.Snap d name; answer = x } ∷ h)
@@ -218,18 +241,23 @@ told_unlease h d name x (unlease_sent active) i = each_end (λ m. Told h m) (to_
 
 told_commit : (h : List Entry) → AllTold h
     → Each (λ m. IsTold (asked_of (stand h ++ [])) (asked_of (stand h)) m)
-    (to_client h ++ news (λ d. server_path h d) (server_dirs h) (last_sent h) (durable h) (fresh h))
+    (cond (is_broken (server_state h)) (to_client h)
+    (to_client h ++ news (λ d. server_path h d) (server_dirs h) (last_sent h) (durable h) (fresh h)))
 told_commit h i =
-    each_append (λ m. IsTold (asked_of (stand h ++ [])) (asked_of (stand h)) m) (to_client h)
-    (news (λ d. server_path h d) (server_dirs h) (last_sent h) (durable h) (fresh h))
-    (λ m there. told_more (asked_of (stand h)) (asked_of (stand h ++ [])) (asked_of (durable h)) (asked_of (stand h))
-    (more_stand (stand h) []) (more_tids (durable h) (fresh h)) m (i m there))
+    cond_both (is_broken (server_state h)) _ _ (λ q. Each (λ m. IsTold (asked_of (stand h ++ [])) (asked_of (stand h)) m) q) (λ _. old)
+    (λ _. each_append (λ m. IsTold (asked_of (stand h ++ [])) (asked_of (stand h)) m) (to_client h)
+    (news (λ d. server_path h d) (server_dirs h) (last_sent h) (durable h) (fresh h)) old
     (news_told (asked_of (stand h ++ [])) (asked_of (stand h)) (λ d. server_path h d) (server_dirs h) (last_sent h) (durable h) (fresh h)
     (λ t there. subst (λ ts. Member t ts)
     (sym (ap asked_tids (asked_append (durable h) (fresh h)) ∙ tids_append (asked_of (durable h)) (asked_of (fresh h))))
-    (member_right t (asked_tids (asked_of (durable h))) (asked_tids (asked_of (fresh h))) there)))
+    (member_right t (asked_tids (asked_of (durable h))) (asked_tids (asked_of (fresh h))) there))))
+  where
+    old : Each (λ m. IsTold (asked_of (stand h ++ [])) (asked_of (stand h)) m) (to_client h)
+    old m there =
+        told_more (asked_of (stand h)) (asked_of (stand h ++ [])) (asked_of (durable h)) (asked_of (stand h))
+        (more_stand (stand h) []) (more_tids (durable h) (fresh h)) m (i m there)
 
-told_step : (p : ℕ) (h : List Entry) (x : Event) → AskedStands h → AllTold h → AllTold (entry p h x ∷ h)
+pub told_step : (p : ℕ) (h : List Entry) (x : Event) → AskedStands h → AllTold h → AllTold (entry p h x ∷ h)
 told_step p h (e.Grant g bits end) stands i = told_grant h g bits end _ (grant_is h g bits end) i
 told_step p h (e.Revoke g bits) stands i = told_revoke h g bits _ (revoke_is h g bits) i
 told_step p h e.ToClient stands i = told_client h _ (first_is h) i
@@ -238,7 +266,65 @@ told_step p h (e.Snap d name) stands i = told_snap h d name _ (snap_is h d name)
 told_step p h (e.RmSnap t) stands i = told_remove h t _ (remove_is h t) i
 told_step p h (e.Unlease d name) stands i = told_unlease h d name _ (unlease_is h d) i
 told_step p h e.Commit stands i = told_commit h i
+told_step p h e.DropLinks stands i = each_nil _
+told_step p h (e.Failover keep) stands i = each_nil _
 told_step p h _ stands i = i
 
+-- What the client was told is durable is durable.
+
+saved_client : (h : List Entry) (x : Answer) → FirstIs h x → AllTold h → SavedAreDurable h
+    → SavedAreDurable (record { event = e.ToClient; answer = x } ∷ h)
+saved_client h x first_idle told i = i
+saved_client h x (first_cap g seq bits end q is) told i = i
+saved_client h x (first_flush_ack g tid q is) told i = i
+saved_client h x (first_unsafe tid o ttl q is) told i = i
+saved_client h x (first_unlease d name q is) told i = i
+saved_client h x (first_snap number realm now q is) told i = i
+saved_client h x (first_resumed now q is) told i = i
+saved_client h x (first_safe tid q is) told i = λ t.
+    cond_both (tid == t) true (is_saved h t) (λ b. b ≡ true → Member t (asked_tids (asked_of (durable h))))
+    (λ same _. subst (λ n. Member n (asked_tids (asked_of (durable h)))) (eqb-true tid t same)
+    (told (messages.Safe tid) (member_first (messages.Safe tid) q (to_client h) is)))
+    (λ _. i t)
+
+saved_step : (p : ℕ) (h : List Entry) (x : Event) → AllTold h → SavedAreDurable h → SavedAreDurable (entry p h x ∷ h)
+saved_step p h e.ToClient told i = saved_client h _ (first_is h) told i
+saved_step p h e.Commit told i = λ t is. more_tids (durable h) (fresh h) t (i t is)
+saved_step p h (e.Failover keep) told i = λ t is. more_tids (durable h) (take keep (fresh h)) t (i t is)
+saved_step p h _ told i = i
+
+-- All three
+
+pub record AskedAll (h : List Entry) : Type 0 where
+  pub stands : AskedStands h
+  pub told : AllTold h
+  pub saved : SavedAreDurable h
+
+pub asked_all : (p : ℕ) (h : List Entry) → IsRun p h → AskedAll h
+asked_all p h run =
+    of_run p AskedAll (record { stands = stands_first; told = each_nil (λ m. IsTold [] [] m); saved = λ t is. absurd cc })
+    (λ g x fit before i. record {
+      stands = stands_step p g x (run_phase p g before) (asked_alike p g before) (asked_settles p g before) i.saved i.stands;
+      told = told_step p g x i.stands i.told;
+      saved = saved_step p g x i.told i.saved;
+    }) h run
+
+pub asked_stands : (p : ℕ) (h : List Entry) → IsRun p h → AskedStands h
+asked_stands p h run = (asked_all p h run).stands
+
 pub all_told : (p : ℕ) (h : List Entry) → IsRun p h → AllTold h
-all_told p h run = of_run p AllTold (each_nil (λ m. IsTold [] [] m)) (λ g x fit before i. told_step p g x (asked_stands p g before) i) h run
+all_told p h run = (asked_all p h run).told
+
+pub saved_durable : (p : ℕ) (h : List Entry) → IsRun p h → SavedAreDurable h
+saved_durable p h run = (asked_all p h run).saved
+
+-- What it says
+
+-- A request that the server does next is answered as was settled when it was sent.
+pub next_settled : (p : ℕ) (h : List Entry) → IsRun p h → (t : ℕ) (ino : Option ℕ) (op : ReqOp) (q : List Message)
+    → to_server h ≡ messages.Req t ino op ∷ q
+    → greatest_request (stand h) < t → Member (record { tid = t; op = op; answer = answer_on (names h) op }) (asked h)
+next_settled p h run t ino op q is more =
+    let x : Asked = record { tid = t; op = op; answer = answer_on (names h) op } in
+    let next = next_asked h t ino op q (run_phase p h run) (asked_settles p h run) (asked_stands p h run) is more in
+    subst (λ xs. Member x xs) (sym next.front) (member_right x (asked_of (stand h)) (x ∷ next.rest) (inl refl))

@@ -6,6 +6,7 @@ use Rattle.cs_laws.specs.declared.events.Event.{Event}
 use Rattle.cs_laws.specs.declared.events.Event.TheVariants as e
 use Rattle.cs_laws.specs.declared.answers.Answer.{Answer}
 use Rattle.cs_laws.specs.declared.answers.Answer.TheVariants as a
+use Rattle.cs_laws.specs.declared.requests.ReqOp.{ReqOp}
 use Rattle.cs_laws.specs.declared.answers.Entry.{Entry}
 use Rattle.cs_laws.specs.Answers.{answer_made, is_in_use}
 use Rattle.cs_laws.specs.ClientKnows.{client_made}
@@ -22,6 +23,7 @@ use Rattle.cs_laws.specs.Tree.{is_directory, setup_dir}
 use Rattle.cs_theorems.specs.Asked.{Asked, Settles, asked, stage}
 use Rattle.cs_theorems.proofs.Ascending.{member_above}
 use Rattle.cs_theorems.proofs.Asked.{AsksLater, SetupFresh, settle_end}
+use Rattle.cs_theorems.proofs.Inversions.{ReqIs, req_session, req_sent, req_is}
 use Rattle.cs_theorems.proofs.Listed.{Member, each_nil}
 use Rattle.cs_theorems.proofs.Paths.{still_dir}
 use Rattle.cs_theorems.proofs.Runs.{of_run}
@@ -191,8 +193,12 @@ op_found n (x ∷ xs) [] y up i m = absurd m
 abbrev pub AskedAlike : List Entry → Type 0
 AskedAlike h = Alike (requests h) (asked h)
 
+alike_req : (h : List Entry) (c : ℕ) (op : ReqOp) (x : Answer) → ReqIs h x → AskedAlike h → AskedAlike (record { event = e.Req c op; answer = x } ∷ h)
+alike_req h c op x req_session i = i
+alike_req h c op x (req_sent active) i = alike_end (requests h) (asked h) _ _ refl refl i
+
 alike_step : (p : ℕ) (h : List Entry) (x : Event) → AskedAlike h → AskedAlike (entry p h x ∷ h)
-alike_step p h (e.Req c op) i = alike_end (requests h) (asked h) _ _ refl refl i
+alike_step p h (e.Req c op) i = alike_req h c op _ (req_is h) i
 alike_step p h _ i = i
 
 pub asked_alike : (p : ℕ) (h : List Entry) → IsRun p h → AskedAlike h
@@ -203,16 +209,21 @@ asked_alike p h run = of_run p AskedAlike tt (λ g x fit before i. alike_step p 
 abbrev pub AskedSettles : List Entry → Type 0
 AskedSettles h = Settles 0 (setup_names h) (asked h)
 
+settles_req : (h : List Entry) (c : ℕ) (op : ReqOp) (x : Answer) → ReqIs h x → AskedAlike h → AskedSettles h
+    → AskedSettles (record { event = e.Req c op; answer = x } ∷ h)
+settles_req h c op x req_session alike i = i
+settles_req h c op x (req_sent active) alike i =
+    let same : length (requests h) ≡ length (asked h) = alike_length (requests h) (asked h) alike in
+    settle_end 0 (setup_names h) (asked h)
+    (record { tid = length (requests h) + 1; op = op; answer = answer_on (stage (setup_names h) (asked h)) op })
+    (omega (arith, same)) refl i
+
 settles_step : (p : ℕ) (h : List Entry) (x : Event) → CanFollow h x → AskedAlike h → AskedSettles h → AskedSettles (entry p h x ∷ h)
 settles_step p h (e.Dir d q) fit alike i =
     subst (λ xs. Settles 0 (setup_names (entry p h (e.Dir d q) ∷ h)) xs) (sym (asks_later h (fit.setup refl))) tt
 settles_step p h (e.File f q) fit alike i =
     subst (λ xs. Settles 0 (setup_names (entry p h (e.File f q) ∷ h)) xs) (sym (asks_later h (fit.setup refl))) tt
-settles_step p h (e.Req c op) fit alike i =
-    let same : length (requests h) ≡ length (asked h) = alike_length (requests h) (asked h) alike in
-    settle_end 0 (setup_names h) (asked h)
-    (record { tid = length (requests h) + 1; op = op; answer = answer_on (stage (setup_names h) (asked h)) op })
-    (omega (arith, same)) refl i
+settles_step p h (e.Req c op) fit alike i = settles_req h c op _ (req_is h) alike i
 settles_step p h _ fit alike i = i
 
 pub asked_settles : (p : ℕ) (h : List Entry) → IsRun p h → AskedSettles h

@@ -1,5 +1,5 @@
 -- What holds of each message that tells the client of records: of those that become durable, and of a flush or a request that came again.
-use Rattle.std.proofs.Common.{◌≡◌, ℕ, true, List, [], ◌∷◌, ◌++◌}
+use Rattle.std.proofs.Common.{◌≡◌, ℕ, true, List, [], ◌∷◌, ◌++◌, Bool}
 use Rattle.std.proofs.lemmas.Bool.{cond_both}
 use Rattle.cs_snapctx.specs.declared.realm.RealmRecord.{RealmRecord}
 use Rattle.cs_snapctx.specs.Records.{with_records}
@@ -11,7 +11,7 @@ use Rattle.cs_laws.specs.Carried.{realms_of}
 use Rattle.cs_laws.specs.declared.requests.OpAnswer.{OpAnswer}
 use Rattle.cs_laws.specs.Flight.{acked_again, answered_again}
 use Rattle.cs_laws.specs.Realms.{differing, realm_records}
-use Rattle.cs_laws.specs.Standing.{has_flush, has_request, news, news_of, news_on}
+use Rattle.cs_laws.specs.Standing.{has_flush, has_request, news, news_of, news_on, resumption}
 use Rattle.cs_theorems.proofs.Listed.{Each, each_cons, each_nil}
 
 pub each_news : (P : Message → Type 0) → ((before : List Record) (realms : List RealmRecord) (body : RecordBody) → P (news_of before realms body))
@@ -33,3 +33,6 @@ pub each_answered : (P : Message → Type 0) (tid : ℕ) (o : OpAnswer) (ds : Li
 each_answered P tid o ds answered safe =
     each_cons P (messages.Unsafe tid o 0) _ answered
     (cond_both (has_request tid ds) _ _ (λ q. Each P q) (λ _. each_cons P (messages.Safe tid) [] safe (each_nil P)) (λ _. each_nil P))
+
+pub each_resumption : (P : Message → Type 0) (b : Bool) (all : List RealmRecord) → P (messages.Resumed all) → Each P (resumption b all)
+each_resumption P b all own = cond_both b _ _ (λ q. Each P q) (λ _. each_cons P (messages.Resumed all) [] own (each_nil P)) (λ _. each_nil P)

@@ -303,7 +303,7 @@ step_client h x (first_resumed told q is) i =
     (λ j. phase_resumed (client_state h) (server_state h) q (to_server h) told j) i
 
 -- the records of all realms, by what is durable
-abbrev all_realms : List Entry → List RealmRecord
+abbrev pub all_realms : List Entry → List RealmRecord
 all_realms h = realm_records (λ d. server_path h d) (server_dirs h) (durable h)
 
 -- one that may be sent again arrives at the server, which answers so
