@@ -75,9 +75,12 @@ pub record Linked (dir : ℕ → Bool) (up : ℕ → List ℕ) (broken some : Bo
   pub sent : broken ≡ false → AreSent up some ss all
   pub good : GoodLog dir (all ++ fs)
 
+-- by the directories of a history
+abbrev LinkedBy : List Entry → Bool → Bool → List RealmRecord → List RealmRecord → List Message → List Record → List Record → Type 0
+LinkedBy h broken some ss ts q all fs = Linked (λ d. is_directory h d) (λ d. all_path h d) broken some ss ts q all fs
+
 abbrev pub LinkedAt : List Entry → Type 0
-LinkedAt h =
-    Linked (λ d. is_directory h d) (λ d. all_path h d) (is_broken (server_state h)) (told_realms h) (last_sent h) (realms h) (to_client h) (durable h) (fresh h)
+LinkedAt h = LinkedBy h (is_broken (server_state h)) (told_realms h) (last_sent h) (realms h) (to_client h) (durable h) (fresh h)
 
 module _ (dir : ℕ → Bool) (up : ℕ → List ℕ) (broken some : Bool) (ss ts : List RealmRecord) (all : List Record) where
   -- the messages that carry no records may be any
@@ -325,7 +328,7 @@ commit_at dir up dirs false some ss ts q all fs root listed first i =
 
 linked_commit : (p : ℕ) (h : List Entry) → TreeAt h → ListingAt h → Asks h → LinkedAt h → LinkedAt (entry p h e.Commit ∷ h)
 linked_commit p h tree listing asks i =
-    subst (λ new. Linked (λ d. is_directory h d) (λ d. all_path h d) (is_broken (server_state h)) (cond (is_broken (server_state h)) (told_realms h) (told_realms h || changes_realms (fresh h)))
+    subst (λ new. LinkedBy h (is_broken (server_state h)) (cond (is_broken (server_state h)) (told_realms h) (told_realms h || changes_realms (fresh h)))
     (cond (is_broken (server_state h)) (last_sent h) (sent_with new (last_sent h))) (realms h) (cond (is_broken (server_state h)) (to_client h) (to_client h ++ new)) (durable h ++ fresh h) [])
     (sym (news_same (λ d. server_path h d) (λ d. all_path h d) (server_dirs h) (last_sent h) (durable h) (fresh h) (server_paths h tree listing asks)))
     (commit_at (λ d. is_directory h d) (λ d. all_path h d) (server_dirs h) (is_broken (server_state h)) (told_realms h) (last_sent h) (realms h) (to_client h) (durable h) (fresh h) refl
@@ -361,29 +364,29 @@ module _ (h : List Entry) (tree : TreeAt h) (listing : ListingAt h) (asks : Asks
   -- p: what is sent beside, which carries no realms
   abbrev ResumesAt : List Message → Type 0
   ResumesAt p =
-      Linked (λ d. is_directory h d) (λ d. all_path h d) (is_broken (resent (server_state h))) (cond (is_last (server_state h)) true (told_realms h))
+      LinkedBy h (is_broken (resent (server_state h))) (cond (is_last (server_state h)) true (told_realms h))
       (sent_with (resumption (is_last (server_state h)) all_told) (last_sent h)) (realms h) (to_client h ++ (p ++ resumption (is_last (server_state h)) all_told)) (durable h) (fresh h)
 
   resumes_at : (p : List Message) → carried p ≡ [] → ResumesAt p
   resumes_at p none =
       linked_message _ _ _ _ _ _ _ _ _ _ (carried_beside (to_client h) p (resumption (is_last (server_state h)) all_told) none)
-      (subst (λ b. Linked (λ d. is_directory h d) (λ d. all_path h d) b (cond (is_last (server_state h)) true (told_realms h))
+      (subst (λ b. LinkedBy h b (cond (is_last (server_state h)) true (told_realms h))
       (sent_with (resumption (is_last (server_state h)) all_told) (last_sent h)) (realms h) (to_client h ++ resumption (is_last (server_state h)) all_told) (durable h) (fresh h))
       (sym (broken_resent (server_state h)))
-      (subst (λ now. Linked (λ d. is_directory h d) (λ d. all_path h d) (is_broken (server_state h)) (cond (is_last (server_state h)) true (told_realms h))
+      (subst (λ now. LinkedBy h (is_broken (server_state h)) (cond (is_last (server_state h)) true (told_realms h))
       (sent_with (resumption (is_last (server_state h)) now) (last_sent h)) (realms h) (to_client h ++ resumption (is_last (server_state h)) now) (durable h) (fresh h))
       (sym told_same)
       (linked_resumes (λ d. is_directory h d) refl (λ d. all_path h d) (server_dirs h) (last_sent h) (realms h) (to_client h) (durable h) (fresh h) durable_listed
       (all_listing h tree listing asks).first (is_broken (server_state h)) (told_realms h) (is_last (server_state h)) (last_whole (server_state h)) i)))
 
   begins_at : (resends : ℕ)
-      → Linked (λ d. is_directory h d) (λ d. all_path h d) (is_broken (replaying resends)) (resends == 0)
+      → LinkedBy h (is_broken (replaying resends)) (resends == 0)
       (sent_with (resumption (resends == 0) all_told) []) (realms h) (to_client h ++ resumption (resends == 0) all_told) (durable h) (fresh h)
   begins_at resends =
-      subst (λ b. Linked (λ d. is_directory h d) (λ d. all_path h d) b (resends == 0)
+      subst (λ b. LinkedBy h b (resends == 0)
       (sent_with (resumption (resends == 0) all_told) []) (realms h) (to_client h ++ resumption (resends == 0) all_told) (durable h) (fresh h))
       (sym (broken_replaying resends))
-      (subst (λ now. Linked (λ d. is_directory h d) (λ d. all_path h d) false (resends == 0)
+      (subst (λ now. LinkedBy h false (resends == 0)
       (sent_with (resumption (resends == 0) now) []) (realms h) (to_client h ++ resumption (resends == 0) now) (durable h) (fresh h))
       (sym told_same)
       (linked_begins (λ d. is_directory h d) refl (λ d. all_path h d) (server_dirs h) (last_sent h) (realms h) (to_client h) (durable h) (fresh h) durable_listed
@@ -404,12 +407,12 @@ module _ (h : List Entry) (m : Message) (now : List RealmRecord) (q : List Messa
   records_now : with_first (to_client h) (realms h) ≡ with_records now (realms h)
   records_now = ap (λ p. with_first p (realms h)) there ∙ ap (λ o. with_records (unwrap_or o []) (realms h)) carries
 
-  link_told : Linked (λ k. is_directory h k) (λ k. all_path h k) (is_broken (server_state h)) (told_realms h) (last_sent h) (with_first (to_client h) (realms h)) (drop 1 (to_client h))
+  link_told : LinkedBy h (is_broken (server_state h)) (told_realms h) (last_sent h) (with_first (to_client h) (realms h)) (drop 1 (to_client h))
       (durable h) (fresh h)
   link_told =
-      subst (λ ts. Linked (λ k. is_directory h k) (λ k. all_path h k) (is_broken (server_state h)) (told_realms h) (last_sent h) ts (drop 1 (to_client h)) (durable h) (fresh h))
+      subst (λ ts. LinkedBy h (is_broken (server_state h)) (told_realms h) (last_sent h) ts (drop 1 (to_client h)) (durable h) (fresh h))
       (sym records_now)
-      (subst (λ p. Linked (λ k. is_directory h k) (λ k. all_path h k) (is_broken (server_state h)) (told_realms h) (last_sent h) (with_records now (realms h)) (drop 1 p) (durable h) (fresh h))
+      (subst (λ p. LinkedBy h (is_broken (server_state h)) (told_realms h) (last_sent h) (with_records now (realms h)) (drop 1 p) (durable h) (fresh h))
       (sym there)
       (record {
         link = delivers (λ k. all_path h k) (sent_by (is_broken (server_state h)) (last_sent h)) (realms h) now (carried q) (durable h) link_now;
@@ -441,19 +444,19 @@ step_client h x (first_resumed now q there) i = link_told h (messages.Resumed no
 -- a request is done
 linked_request : (h : List Entry) (tid : ℕ) (ino : Option ℕ) (op : ReqOp) (q : List Message) → to_server h ≡ messages.Req tid ino op ∷ q
     → Asks (record { event = e.ToMds; answer = a.Req tid (answer_on (names h) op) } ∷ h) → (b some : Bool) (ss : List RealmRecord) (p : List Message)
-    → Linked (λ k. is_directory h k) (λ k. all_path h k) b some ss (realms h) p (durable h) (fresh h)
-    → Linked (λ k. is_directory h k) (λ k. all_path h k) b some ss (realms h) p (durable h) (fresh h ++ requested (answer_on (names h) op) (to_server h))
+    → LinkedBy h b some ss (realms h) p (durable h) (fresh h)
+    → LinkedBy h b some ss (realms h) p (durable h) (fresh h ++ requested (answer_on (names h) op) (to_server h))
 linked_request h tid ino op q there now b some ss p i =
-    subst (λ m. Linked (λ k. is_directory h k) (λ k. all_path h k) b some ss (realms h) p (durable h) (fresh h ++ requested (answer_on (names h) op) m)) (sym there)
+    subst (λ m. LinkedBy h b some ss (realms h) p (durable h) (fresh h ++ requested (answer_on (names h) op) m)) (sym there)
     (linked_record _ _ _ _ _ _ _ _ _ (record { body = bodies.Request tid op (answer_on (names h) op) }) (good_request h tid ino op q there now) i)
 
 -- a flush is recorded
 linked_flush : (h : List Entry) (y : Flush) (q : List Message) → to_server h ≡ flush_message y ∷ q → (b some : Bool) (ss : List RealmRecord) (p : List Message)
-    → Linked (λ k. is_directory h k) (λ k. all_path h k) b some ss (realms h) p (durable h) (fresh h)
-    → Linked (λ k. is_directory h k) (λ k. all_path h k) b some ss (realms h) p (durable h) (fresh h ++ recorded (to_server h))
+    → LinkedBy h b some ss (realms h) p (durable h) (fresh h)
+    → LinkedBy h b some ss (realms h) p (durable h) (fresh h ++ recorded (to_server h))
 linked_flush h y q there b some ss p i =
-    subst (λ m. Linked (λ k. is_directory h k) (λ k. all_path h k) b some ss (realms h) p (durable h) (fresh h ++ recorded m)) (sym there)
-    (subst (λ rs. Linked (λ k. is_directory h k) (λ k. all_path h k) b some ss (realms h) p (durable h) (fresh h ++ rs)) (sym (recorded_one y))
+    subst (λ m. LinkedBy h b some ss (realms h) p (durable h) (fresh h ++ recorded m)) (sym there)
+    (subst (λ rs. LinkedBy h b some ss (realms h) p (durable h) (fresh h ++ rs)) (sym (recorded_one y))
     (linked_record _ _ _ _ _ _ _ _ _ (flush_record y) tt i))
 
 step_server : (h : List Entry) (x : Answer) → ReceivedIs h x → Asks (record { event = e.ToMds; answer = x } ∷ h) → TreeAt h → ListingAt h → Asks h → LinkedAt h
