@@ -29,7 +29,8 @@ last_sent_of h i = last_sent_is h i.tree i.listing i.asks i.front
 abbrev pub sent_realms : Bool → List RealmRecord → List RealmRecord
 sent_realms some all = cond some all []
 
-looked_up : (some : Bool) (all : List RealmRecord) (d : ℕ) → cond {A = Option RealmRecord} some (record_of d all) None ≡ record_of d (sent_realms some all)
+looked_up : (some : Bool) (all : List RealmRecord) (d : ℕ) → cond {A = Option RealmRecord} some (record_of d all) None ≡ record_of d
+    (sent_realms some all)
 looked_up true all d = refl
 looked_up false all d = refl
 
@@ -42,4 +43,5 @@ pub news_run : (p : ℕ) (h : List Entry) → IsRun p h → is_broken (server_st
     → news (λ d. server_path h d) (server_dirs h) (last_sent h) (durable h) (fresh h)
     ≡ news (λ d. server_path h d) (server_dirs h) (sent_realms (told_realms h) (durable_realms h)) (durable h) (fresh h)
 news_run p h run whole =
-    news_by (λ d. server_path h d) (server_dirs h) (last_sent h) (sent_realms (told_realms h) (durable_realms h)) (durable h) (fresh h) (last_sent_run p h run whole)
+    news_by (λ d. server_path h d) (server_dirs h) (last_sent h) (sent_realms (told_realms h) (durable_realms h)) (durable h) (fresh h)
+    (last_sent_run p h run whole)

@@ -97,21 +97,24 @@ module _ (h : List Entry) (i : Setting h) where
   own_way d is =
       let own = (all_tree h i.tree i.asks).own d (realm_dir d is) in
       ap (λ up. path_context up (realms h)) own.1
-      ∙ ap (λ o. unwrap_or (option_and_then (λ k. realm_context (realms h) k) o) empty_context) (cond-true (is_known d (realms h)) (Some d) (find (λ k. is_known k (realms h)) own.0) is)
+      ∙ ap (λ o. unwrap_or (option_and_then (λ k. realm_context (realms h) k) o) empty_context)
+      (cond-true (is_known d (realms h)) (Some d) (find (λ k. is_known k (realms h)) own.0) is)
 
   pub known_low : (d : ℕ) → is_known d (realms h) ≡ true → (unwrap_or (realm_context (realms h) d) empty_context).seq ≤ greatest_number (durable h)
   known_low d is =
       let tree = all_tree h i.tree i.asks in
       let way : path_context (all_path h d) (realms h) ≡ way_context front (all_path h d)
       = path_is_way (λ k. all_dir h k) (λ k. all_path h k) front (realms h) tree
-      (λ k was. log_realms h i.asks i.front k (front_realm front (durable h) k i.front.link.whole was)) i.front.link.has (all_path h d) (tree.ways d) in
+      (λ k was. log_realms h i.asks i.front k (front_realm front (durable h) k i.front.link.whole was)) i.front.link.has (all_path h d)
+      (tree.ways d) in
       omega (arith, ap (λ (c : Context). c.seq) (own_way d is), ap (λ (c : Context). c.seq) way, way_low front (all_path h d), front_low)
 
   seqs_of : (ds : List ℕ) → ((d : ℕ) → Member d ds → is_known d (realms h) ≡ true)
       → Each (λ (r : RealmSeq). (is_known r.realm (realms h) ≡ true) × (r.seq ≤ greatest_number (durable h))) (map (seq_of (realms h)) ds)
   seqs_of [] known r there = absurd there
   seqs_of (d ∷ ds) known r (inl here) =
-      subst (λ (x : RealmSeq). (is_known x.realm (realms h) ≡ true) × (x.seq ≤ greatest_number (durable h))) here (known d (inl refl), known_low d (known d (inl refl)))
+      subst (λ (x : RealmSeq). (is_known x.realm (realms h) ≡ true) × (x.seq ≤ greatest_number (durable h))) here
+      (known d (inl refl), known_low d (known d (inl refl)))
   seqs_of (d ∷ ds) known r (inr later) = seqs_of ds (λ k m. known k (inr m)) r later
 
   reported : (d : ℕ) → Member d (rising (map (λ r. r.realm) (realms h))) → is_known d (realms h) ≡ true
@@ -146,7 +149,8 @@ dirs_few (r ∷ rs) = omega (arith, at r.body (dirs_few rs))
 
 snapped : (d : ℕ) (rs : List Record) → list_any (λ r. is_snap_of d r.body) rs ≡ true → Member d (snap_dirs rs)
 snapped d [] none = absurd (false≢true none)
-snapped d (r ∷ rs) is = ⊎_elim (λ here. own r.body here) (λ later. more r.body (snapped d rs later)) (or_cases (is_snap_of d r.body) (list_any (λ x. is_snap_of d x.body) rs) is)
+snapped d (r ∷ rs) is = ⊎_elim (λ here. own r.body here) (λ later. more r.body (snapped d rs later))
+    (or_cases (is_snap_of d r.body) (list_any (λ x. is_snap_of d x.body) rs) is)
   where
     own : (b : RecordBody) → is_snap_of d b ≡ true → Member d (dir_more b (snap_dirs rs))
     own (bodies.Snap n k name) same = inl (eqb-true k d same)
@@ -162,7 +166,8 @@ snapped d (r ∷ rs) is = ⊎_elim (λ here. own r.body here) (λ later. more r.
 
 realm_among : (d : ℕ) (rs : List Record) → is_realm rs d ≡ true → Member d (1 ∷ snap_dirs rs)
 realm_among d rs is =
-    ⊎_elim (λ top. inl (let same : d ≡ 1 = eqb-true d 1 top in sym same)) (λ there. inr (snapped d rs there)) (or_cases (d == 1) (list_any (λ r. is_snap_of d r.body) rs) is)
+    ⊎_elim (λ top. inl (let same : d ≡ 1 = eqb-true d 1 top in sym same)) (λ there. inr (snapped d rs there))
+    (or_cases (d == 1) (list_any (λ r. is_snap_of d r.body) rs) is)
 
 -- one record more where a message is delivered
 recorded_one : (q : List Message) → length (recorded q) ≤ 1
@@ -179,13 +184,24 @@ requested_one o (_ ∷ q) = omega arith
 stand_more : (x : Event) (y : Answer) (q : List Message) (fs ds : List Record) (n : ℕ) → length (ds ++ fs) ≤ n
     → length (durable_then x y fs ds ++ fresh_then x y q fs) ≤ n + 1
 stand_more e.ToMds (a.Req tid o) q fs ds n few =
-    omega (arith, few, recorded_one q, requested_one o q, length-append ds fs, length-append ds (fs ++ requested o q), length-append fs (requested o q))
+    omega (
+      arith,
+      few,
+      recorded_one q,
+      requested_one o q,
+      length-append ds fs,
+      length-append ds (fs ++ requested o q),
+      length-append fs
+          (requested o q),
+    )
 stand_more e.ToMds (a.Flushed f tid) q fs ds n few =
     omega (arith, few, recorded_one q, length-append ds fs, length-append ds (fs ++ recorded q), length-append fs (recorded q))
 stand_more (e.Snap d name) (a.Snap number) q fs ds n few =
-    let r : Record = record { body = bodies.Snap number d name } in omega (arith, few, length-append ds fs, length-append ds (fs ++ r ∷ []), length-append fs (r ∷ []))
+    let r : Record = record { body = bodies.Snap number d name } in omega
+    (arith, few, length-append ds fs, length-append ds (fs ++ r ∷ []), length-append fs (r ∷ []))
 stand_more (e.RmSnap s) (a.Removed t number) q fs ds n few =
-    let r : Record = record { body = bodies.Removal s number } in omega (arith, few, length-append ds fs, length-append ds (fs ++ r ∷ []), length-append fs (r ∷ []))
+    let r : Record = record { body = bodies.Removal s number } in omega
+    (arith, few, length-append ds fs, length-append ds (fs ++ r ∷ []), length-append fs (r ∷ []))
 stand_more e.Commit (a.Commit count) q fs ds n few = omega (arith, few, length-append (ds ++ fs) [])
 stand_more (e.Failover keep) (a.Failover kept) q fs ds n few =
     omega (arith, few, length-append ds fs, length-append (ds ++ take keep fs) [], length-append ds (take keep fs), length-take keep fs)
@@ -201,7 +217,8 @@ pub realms_few : (h : List Entry) → Setting h → length (realm_seqs (realms h
 realms_few h i =
     let ds : List ℕ = rising (map (λ r. r.realm) (realms h)) in
     let few : length ds ≤ length (1 ∷ snap_dirs (durable h)) =
-    rise_few ds (1 ∷ snap_dirs (durable h)) (rising_rises (map (λ r. r.realm) (realms h))) (λ d m. realm_among d (durable h) (realm_durable h i d (reported h i d m))) in
+    rise_few ds (1 ∷ snap_dirs (durable h)) (rising_rises (map (λ r. r.realm) (realms h)))
+    (λ d m. realm_among d (durable h) (realm_durable h i d (reported h i d m))) in
     omega (arith, few, dirs_few (durable h), length-map ds (seq_of (realms h)), length-append (durable h) (fresh h))
 
 -- Of every run

@@ -75,7 +75,8 @@ distinct (n ∷ ns) i = (none_again n ns i, distinct_from n ns i)
 pub member_is : (q : ℕ) (ns : List ℕ) → is_member nat_eq ns q ≡ true → Member q ns
 member_is q [] none = absurd (false≢true none)
 member_is q (n ∷ ns) is =
-    ⊎_elim (λ here. inl (let same : q ≡ n = eqb-true q n here in omega (arith, same))) (λ later. inr (member_is q ns later)) (or_cases (nat_eq q n) (list_any (nat_eq q) ns) is)
+    ⊎_elim (λ here. inl (let same : q ≡ n = eqb-true q n here in omega (arith, same))) (λ later. inr (member_is q ns later))
+    (or_cases (nat_eq q n) (list_any (nat_eq q) ns) is)
 
 pub is_among : (q : ℕ) (ns : List ℕ) → Member q ns → is_member nat_eq ns q ≡ true
 is_among q [] there = absurd there
