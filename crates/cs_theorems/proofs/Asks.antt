@@ -28,8 +28,8 @@ use Rattle.cs_laws.specs.declared.answers.Answer.TheVariants as a
 use Rattle.cs_laws.specs.Tree.{is_directory}
 use Rattle.cs_theorems.specs.Asked.{Asked, Settles, asked, asked_made, asked_of, stage}
 use Rattle.cs_theorems.proofs.Asked.{SetupFresh, grown_by, made_append, settle_front}
-use Rattle.cs_theorems.proofs.AskedStands.{asked_stands, asked_tids, same_tid, settles_behind, settles_last, settles_rises, tid_member}
-use Rattle.cs_theorems.proofs.AskedTold.{all_told, more_stand}
+use Rattle.cs_theorems.proofs.AskedStands.{asked_tids, same_tid, settles_behind, settles_last, settles_rises, tid_member}
+use Rattle.cs_theorems.proofs.AskedTold.{all_told, more_stand, asked_stands}
 use Rattle.cs_theorems.proofs.Answered.{NextAnswer, answer_right, asked_answered, client_front, next_answer, server_knows_too}
 use Rattle.cs_theorems.proofs.AsksRun.{asked_alike, asked_settles, op_found, quiet, setup_fresh, was_sent}
 use Rattle.cs_theorems.proofs.Listed.{Each, Member, member_first, member_left, member_right}

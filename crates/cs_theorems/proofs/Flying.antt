@@ -33,7 +33,7 @@ use Rattle.cs_theorems.specs.Asked.{Asked, asked, asked_of, stage}
 use Rattle.cs_theorems.proofs.Answered.{no_unsafe, no_unsafe_news, unsafe_append, unsafe_on, unsafe_tids}
 use Rattle.cs_theorems.proofs.Ascending.{member_upto}
 use Rattle.cs_theorems.proofs.AsksRun.{asked_alike, asked_settles}
-use Rattle.cs_theorems.proofs.AskedStands.{AskedStands, Sending, again_stands, asked_next, asked_stands, asked_tids, flush_no_req, greatest_stands, last_asked, req_append, req_end, req_first, req_on, req_tids, settles_rises, stand_end, stand_same, tids_append}
+use Rattle.cs_theorems.proofs.AskedStands.{AskedStands, Sending, again_stands, asked_next, asked_tids, flush_no_req, greatest_stands, last_asked, req_append, req_end, req_first, req_on, req_tids, settles_rises, stand_end, stand_same, tids_append}
 use Rattle.cs_theorems.proofs.Inversions.{FlushIs, head_unknown, head_session, head_snap, head_clean, head_sent, flush_is, CheckIs, check_unknown, check_session, check_nothing, check_hold, check_ack, check_is, FlushSnapsIs, flush_unknown, flush_session, flush_none, flush_writing, flush_sent, flush_snaps_is, FirstIs, first_idle, first_cap, first_flush_ack, first_unsafe, first_resumed, first_safe, first_unlease, first_snap, first_is, GrantIs, grant_unknown, grant_session, grant_sent, grant_is, revoke_is, ReceivedIs, received_idle, received_ack, received_flush, received_again, received_reconnect, received_req, received_req_again, received_is, SnapIs, snap_unknown, snap_session, snap_exists, snap_taken, snap_is, RemoveIs, remove_none, remove_session, remove_gone, removed, remove_is, UnleaseIs, unlease_unknown, unlease_session, unlease_sent, unlease_is}
 use Rattle.cs_theorems.proofs.Listed.{Each, Member, member_cases, member_first, member_left, member_right}
 use Rattle.cs_theorems.proofs.News.{each_again, each_news}
@@ -41,6 +41,7 @@ use Rattle.cs_theorems.proofs.Rising.{at_first}
 use Rattle.cs_theorems.proofs.Runs.{of_run}
 use Rattle.cs_theorems.proofs.Standing.{recorded_one}
 use Rattle.cs_theorems.proofs.Tests.{any_some, any_true}
+use Rattle.cs_theorems.proofs.AskedTold.{asked_stands}
 
 abbrev pub reply_tids : List Reply → List ℕ
 reply_tids rs = map (λ r. r.tid) rs

@@ -24,8 +24,8 @@ use Rattle.cs_theorems.specs.Asked.{Asked, Settles, asked, asked_of, stage}
 use Rattle.cs_theorems.proofs.Ascending.{member_above}
 use Rattle.cs_theorems.proofs.Asked.{names_stage, settle_front}
 use Rattle.cs_theorems.proofs.AsksRun.{AskedAlike, AskedSettles, alike_member, asked_alike, asked_settles, op_found}
-use Rattle.cs_theorems.proofs.AskedStands.{AskedStands, asked_stands, same_tid, settles_behind, settles_rises}
-use Rattle.cs_theorems.proofs.AskedTold.{AllTold, all_told}
+use Rattle.cs_theorems.proofs.AskedStands.{AskedStands, same_tid, settles_behind, settles_rises}
+use Rattle.cs_theorems.proofs.AskedTold.{AllTold, all_told, asked_stands}
 use Rattle.cs_theorems.proofs.Answered.{answer_stands, reply_stays, reply_there}
 use Rattle.cs_theorems.proofs.Entries.{after_tells, ino_at, stage_leaves}
 use Rattle.cs_theorems.proofs.Inversions.{FirstIs, first_idle, first_cap, first_flush_ack, first_unsafe, first_resumed, first_safe, first_unlease, first_snap, first_is}

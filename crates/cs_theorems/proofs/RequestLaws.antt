@@ -17,8 +17,8 @@ use Rattle.cs_laws.specs.Requests.{is_saved}
 use Rattle.cs_laws.specs.Runs.{IsRun}
 use Rattle.cs_laws.specs.Standing.{durable_then}
 use Rattle.cs_theorems.specs.Asked.{Asked, asked_of}
-use Rattle.cs_theorems.proofs.AskedStands.{answer_found, asked_stands, asked_tids, member_tid, stands_rise, tid_member, tids_are}
-use Rattle.cs_theorems.proofs.AskedTold.{AllTold, all_told, more_stand, more_tids}
+use Rattle.cs_theorems.proofs.AskedStands.{answer_found, asked_tids, member_tid, stands_rise, tid_member, tids_are}
+use Rattle.cs_theorems.proofs.AskedTold.{AllTold, all_told, more_stand, more_tids, asked_stands}
 use Rattle.cs_theorems.proofs.Answered.{answer_stands}
 use Rattle.cs_theorems.proofs.Inversions.{FirstIs, first_idle, first_cap, first_flush_ack, first_unsafe, first_resumed, first_safe, first_unlease, first_snap, first_is}
 use Rattle.cs_theorems.proofs.Leased.{leased_stand}

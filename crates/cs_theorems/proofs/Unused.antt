@@ -25,6 +25,7 @@ use Rattle.cs_theorems.proofs.AskedStands.{asked_stands}
 use Rattle.cs_theorems.proofs.AsksRun.{alike_length, asked_alike, asked_settles, setup_fresh}
 use Rattle.cs_theorems.proofs.Sides.{setup_used}
 use Rattle.cs_theorems.proofs.Trees.{all_are_used, dirs_are, dirs_of, file_used, more_used, used_grow, used_of}
+use Rattle.cs_theorems.proofs.AskedTold.{asked_stands}
 
 -- What is in use
 
