@@ -43,7 +43,8 @@ or_false true = refl
 or_false false = refl
 
 -- nothing was sent of what is no realm
-pub none_sent_of : (up : ℕ → List ℕ) (some : Bool) (ss : List RealmRecord) (ds vs : List Record) (d : ℕ) → IsFront ds vs → AreSent up some ss ds → is_realm vs d ≡ false
+pub none_sent_of : (up : ℕ → List ℕ) (some : Bool) (ss : List RealmRecord) (ds vs : List Record) (d : ℕ) → IsFront ds vs → AreSent up some ss ds
+    → is_realm vs d ≡ false
     → record_of d ss ≡ None
 none_sent_of up some ss ds vs d front i not = i d ∙ at some
   where
@@ -72,7 +73,8 @@ module _ (dir : ℕ → Bool) (root : dir 1 ≡ true) (up : ℕ → List ℕ) (d
       at false none = absurd cc
 
   -- the records that go with a change of realms
-  pub now_is : (ss : List RealmRecord) (vs : List Record) → differing ss (realm_records up dirs vs) ≡ differing_at (λ d. record_of d ss) (realm_at up vs) dirs
+  pub now_is : (ss : List RealmRecord) (vs : List Record) → differing ss (realm_records up dirs vs) ≡ differing_at (λ d. record_of d ss)
+      (realm_at up vs) dirs
   now_is ss vs = differing_is ss (realm_at up vs) dirs (realm_named vs)
 
   -- what was sent last, once the records that differ are sent
@@ -87,7 +89,8 @@ module _ (dir : ℕ → Bool) (root : dir 1 ≡ true) (up : ℕ → List ℕ) (d
 
   told_change : (some : Bool) (ss : List RealmRecord) (q : List (List RealmRecord)) (ds : List Record) (r : Record)
       → ((d : ℕ) → is_realm (ds ++ r ∷ []) d ≡ true → Member d dirs) → ParentsFirst up [] dirs → Told up some ss ts q ds
-      → Told up true (with_records (differing ss (realm_records up dirs (ds ++ r ∷ []))) ss) ts (q ++ differing ss (realm_records up dirs (ds ++ r ∷ [])) ∷ []) (ds ++ r ∷ [])
+      → Told up true (with_records (differing ss (realm_records up dirs (ds ++ r ∷ []))) ss) ts
+      (q ++ differing ss (realm_records up dirs (ds ++ r ∷ [])) ∷ []) (ds ++ r ∷ [])
   told_change some ss q ds r listed first i = record {
     link = subst (λ g. Along up g ts (q ++ now ∷ []) more) (λ j d. sym (has.has d) j)
         (subst (λ list. Along up (realm_at up more) ts (q ++ list ∷ []) more) (sym (now_is ss more))
@@ -106,11 +109,13 @@ module _ (dir : ℕ → Bool) (root : dir 1 ≡ true) (up : ℕ → List ℕ) (d
 
   -- All realms are told. none: what is no realm wasn't sent
   pub told_all : (sent : ℕ → Option RealmRecord) (ss : List RealmRecord) (q : List (List RealmRecord)) (ds : List Record)
-      → ((d : ℕ) → is_realm ds d ≡ true → Member d dirs) → ParentsFirst up [] dirs → ((d : ℕ) → is_realm ds d ≡ false → record_of d ss ≡ None) → Along up sent ts q ds
+      → ((d : ℕ) → is_realm ds d ≡ true → Member d dirs) → ParentsFirst up [] dirs → ((d : ℕ) → is_realm ds d ≡ false → record_of d ss ≡ None)
+      → Along up sent ts q ds
       → Told up true (with_records (realm_records up dirs ds) ss) ts (q ++ realm_records up dirs ds ∷ []) ds
   told_all sent ss q ds listed first none i = record {
     link = subst (λ g. Along up g ts (q ++ realm_records up dirs ds ∷ []) ds) (λ j d. sym (has.has d) j)
-        (subst (λ list. Along up (realm_at up ds) ts (q ++ list ∷ []) ds) all (sends up (λ d. None) ts q ds dirs listed first (forgets up sent ts q ds i)));
+        (subst (λ list. Along up (realm_at up ds) ts (q ++ list ∷ []) ds) all
+        (sends up (λ d. None) ts q ds dirs listed first (forgets up sent ts q ds i)));
     sent = has.has;
   }
     where
@@ -120,14 +125,17 @@ module _ (dir : ℕ → Bool) (root : dir 1 ≡ true) (up : ℕ → List ℕ) (d
       has : HasRealms up ds (with_records (realm_records up dirs ds) ss)
       has = subst (λ now. HasRealms up ds (with_records now ss)) all (has_sent up (λ d. None) ds dirs ss listed none (none_sent ss))
 
-  same_by : (ds : List Record) (b : RecordBody) → is_realm_change b ≡ false → MakesNoRealm ds b → realm_at up (ds ++ record { body = b } ∷ []) ≡ realm_at up ds
+  same_by : (ds : List Record) (b : RecordBody) → is_realm_change b ≡ false → MakesNoRealm ds b
+      → realm_at up (ds ++ record { body = b } ∷ []) ≡ realm_at up ds
   same_by ds b quiet none = λ j d. same_realm (up d) ds (record { body = b }) d (λ k. quiet_stays k ds b quiet (none k)) j
 
-  sent_quiet : (some : Bool) (ss : List RealmRecord) (ds : List Record) (r : Record) → realm_at up (ds ++ r ∷ []) ≡ realm_at up ds → AreSent up some ss ds
+  sent_quiet : (some : Bool) (ss : List RealmRecord) (ds : List Record) (r : Record) → realm_at up (ds ++ r ∷ []) ≡ realm_at up ds
+      → AreSent up some ss ds
       → AreSent up some ss (ds ++ r ∷ [])
   sent_quiet some ss ds r same i = λ d. i d ∙ sym (ap (λ g. cond {A = Option RealmRecord} some (g d) None) same)
 
-  told_quiet : (some : Bool) (ss : List RealmRecord) (q : List (List RealmRecord)) (ds : List Record) (r : Record) → realm_at up (ds ++ r ∷ []) ≡ realm_at up ds
+  told_quiet : (some : Bool) (ss : List RealmRecord) (q : List (List RealmRecord)) (ds : List Record) (r : Record)
+      → realm_at up (ds ++ r ∷ []) ≡ realm_at up ds
       → Told up some ss ts q ds → Told up some ss ts q (ds ++ r ∷ [])
   told_quiet some ss q ds r same i = record {
     link = grows up (λ d. record_of d ss) ts q ds (r ∷ []) i.link;
@@ -141,17 +149,21 @@ module _ (dir : ℕ → Bool) (root : dir 1 ≡ true) (up : ℕ → List ℕ) (d
   told_with ss ds b = differing ss (realm_records up dirs (with_body ds b))
 
   -- what was sent last, once the message on a record is sent
-  pub sent_after : (some : Bool) (ss : List RealmRecord) (ds : List Record) (r : Record) → ((d : ℕ) → is_realm (ds ++ r ∷ []) d ≡ true → Member d dirs)
+  pub sent_after : (some : Bool) (ss : List RealmRecord) (ds : List Record) (r : Record)
+      → ((d : ℕ) → is_realm (ds ++ r ∷ []) d ≡ true → Member d dirs)
       → MakesNoRealm ds r.body → AreSent up some ss ds
       → AreSent up (some || is_realm_change r.body) (with_records (realms_of (news_on up dirs ss ds r)) ss) (ds ++ r ∷ [])
   sent_after some ss ds r listed none has = at r.body listed none
     where
       quiet : (b : RecordBody) → is_realm_change b ≡ false → MakesNoRealm ds b → AreSent up (some || false) ss (with_body ds b)
-      quiet b still bare = subst (λ t. AreSent up t ss (with_body ds b)) (sym (or_false some)) (sent_quiet some ss ds (record { body = b }) (same_by ds b still bare) has)
+      quiet b still bare = subst (λ t. AreSent up t ss (with_body ds b)) (sym (or_false some))
+          (sent_quiet some ss ds (record { body = b }) (same_by ds b still bare) has)
 
-      changed : (b : RecordBody) → ((d : ℕ) → is_realm (with_body ds b) d ≡ true → Member d dirs) → AreSent up (some || true) (with_records (told_with ss ds b) ss) (with_body ds b)
+      changed : (b : RecordBody) → ((d : ℕ) → is_realm (with_body ds b) d ≡ true → Member d dirs)
+          → AreSent up (some || true) (with_records (told_with ss ds b) ss) (with_body ds b)
       changed b inside =
-          subst (λ t. AreSent up t (with_records (told_with ss ds b) ss) (with_body ds b)) (sym (or_true some)) (sent_changed some ss ds (record { body = b }) inside has).has
+          subst (λ t. AreSent up t (with_records (told_with ss ds b) ss) (with_body ds b)) (sym (or_true some))
+          (sent_changed some ss ds (record { body = b }) inside has).has
 
       at : (b : RecordBody) → ((d : ℕ) → is_realm (with_body ds b) d ≡ true → Member d dirs) → MakesNoRealm ds b
           → AreSent up (some || is_realm_change b) (with_records (realms_of (news_on up dirs ss ds (record { body = b }))) ss) (with_body ds b)
@@ -162,15 +174,18 @@ module _ (dir : ℕ → Bool) (root : dir 1 ≡ true) (up : ℕ → List ℕ) (d
 
   -- what holds once these records more are told of; us, p: what was sent last and what flies before them
   abbrev TellsRest : Bool → List RealmRecord → List (List RealmRecord) → List Record → List Record → Type 0
-  TellsRest some us p ds rs = Told up (some || changes_realms rs) (sent_with (news up dirs us ds rs) us) ts (p ++ carried (news up dirs us ds rs)) (ds ++ rs)
+  TellsRest some us p ds rs = Told up (some || changes_realms rs) (sent_with (news up dirs us ds rs) us) ts (p ++ carried (news up dirs us ds rs))
+      (ds ++ rs)
 
-  pub told_commit : (some : Bool) (ss : List RealmRecord) (q : List (List RealmRecord)) (ds rs : List Record) → ((d : ℕ) → is_realm (ds ++ rs) d ≡ true → Member d dirs)
+  pub told_commit : (some : Bool) (ss : List RealmRecord) (q : List (List RealmRecord)) (ds rs : List Record)
+      → ((d : ℕ) → is_realm (ds ++ rs) d ≡ true → Member d dirs)
       → ParentsFirst up [] dirs → GoodLog dir (ds ++ rs) → Told up some ss ts q ds → TellsRest some ss q ds rs
   told_commit some ss q ds [] listed first good i =
       subst (λ t. Told up t ss ts (q ++ []) (ds ++ [])) (sym (or_false some))
       (subst (λ xs. Told up some ss ts (q ++ []) xs) (sym (append-nil ds)) (subst (λ p. Told up some ss ts p ds) (sym (append-nil q)) i))
   told_commit some ss q ds (r ∷ rs) listed first good i =
-      subst (λ xs. Told up (some || changes_realms (r ∷ rs)) (sent_with (news up dirs ss ds (r ∷ rs)) ss) ts (q ++ carried (news up dirs ss ds (r ∷ rs))) xs) assoc
+      subst (λ xs. Told up (some || changes_realms (r ∷ rs)) (sent_with (news up dirs ss ds (r ∷ rs)) ss) ts
+      (q ++ carried (news up dirs ss ds (r ∷ rs))) xs) assoc
       (at r.body rest (makes_no_realm dir ds r rs root good)
       (λ t us p j. told_commit t us p (ds ++ r ∷ []) rs rest first (subst (λ xs. GoodLog dir xs) (sym assoc) good) j))
     where
@@ -181,8 +196,10 @@ module _ (dir : ℕ → Bool) (root : dir 1 ≡ true) (up : ℕ → List ℕ) (d
       rest d is = listed d (subst (λ xs. is_realm xs d ≡ true) assoc is)
 
       changed : (b : RecordBody) → ((d : ℕ) → is_realm (with_body ds b ++ rs) d ≡ true → Member d dirs)
-          → ((t : Bool) (us : List RealmRecord) (p : List (List RealmRecord)) → Told up t us ts p (with_body ds b) → TellsRest t us p (with_body ds b) rs)
-          → Told up (some || true) (sent_with (news up dirs (with_records (told_with ss ds b) ss) (with_body ds b) rs) (with_records (told_with ss ds b) ss)) ts
+          → ((t : Bool) (us : List RealmRecord) (p : List (List RealmRecord)) → Told up t us ts p (with_body ds b)
+          → TellsRest t us p (with_body ds b) rs)
+          → Told up (some || true) (sent_with (news up dirs (with_records (told_with ss ds b) ss) (with_body ds b) rs)
+          (with_records (told_with ss ds b) ss)) ts
           (q ++ told_with ss ds b ∷ carried (news up dirs (with_records (told_with ss ds b) ss) (with_body ds b) rs)) (with_body ds b ++ rs)
       changed b inside go =
           let us : List RealmRecord = with_records (told_with ss ds b) ss in
@@ -190,14 +207,18 @@ module _ (dir : ℕ → Bool) (root : dir 1 ≡ true) (up : ℕ → List ℕ) (d
           subst (λ t. Told up t (sent_with later us) ts (q ++ told_with ss ds b ∷ carried later) (with_body ds b ++ rs)) (sym (or_true some))
           (subst (λ p. Told up true (sent_with later us) ts p (with_body ds b ++ rs)) (append_assoc q (told_with ss ds b ∷ []) (carried later))
           (go true us (q ++ told_with ss ds b ∷ [])
-          (told_change some ss q ds (record { body = b }) (λ d is. inside d (front_realm (with_body ds b) (with_body ds b ++ rs) d (rs, refl) is)) first i)))
+          (told_change some ss q ds (record { body = b }) (λ d is. inside d
+          (front_realm (with_body ds b) (with_body ds b ++ rs) d (rs, refl) is)) first i)))
 
       at : (b : RecordBody) → ((d : ℕ) → is_realm (with_body ds b ++ rs) d ≡ true → Member d dirs) → MakesNoRealm ds b
-          → ((t : Bool) (us : List RealmRecord) (p : List (List RealmRecord)) → Told up t us ts p (with_body ds b) → TellsRest t us p (with_body ds b) rs)
+          → ((t : Bool) (us : List RealmRecord) (p : List (List RealmRecord)) → Told up t us ts p (with_body ds b)
+          → TellsRest t us p (with_body ds b) rs)
           → Told up (some || changes_realms (record { body = b } ∷ rs)) (sent_with (news up dirs ss ds (record { body = b } ∷ rs)) ss) ts
           (q ++ carried (news up dirs ss ds (record { body = b } ∷ rs))) (with_body ds b ++ rs)
-      at (bodies.Request tid op answer) inside bare go = go some ss q (told_quiet some ss q ds _ (same_by ds (bodies.Request tid op answer) refl bare) i)
-      at (bodies.Flush snap f tid follows meta) inside bare go = go some ss q (told_quiet some ss q ds _ (same_by ds (bodies.Flush snap f tid follows meta) refl bare) i)
+      at (bodies.Request tid op answer) inside bare go = go some ss q
+          (told_quiet some ss q ds _ (same_by ds (bodies.Request tid op answer) refl bare) i)
+      at (bodies.Flush snap f tid follows meta) inside bare go = go some ss q
+          (told_quiet some ss q ds _ (same_by ds (bodies.Flush snap f tid follows meta) refl bare) i)
       at (bodies.Snap n e name) inside bare go = changed (bodies.Snap n e name) inside go
       at (bodies.Removal s n) inside bare go = changed (bodies.Removal s n) inside go
 

@@ -61,6 +61,9 @@ pub mod Sent
 pub mod Along
 pub mod Commits
 pub mod Linked
+pub mod LastSent
+pub mod RealmSeqs
+pub mod RisingInodes
 pub mod Settings
 pub mod Applying
 pub mod Contexts

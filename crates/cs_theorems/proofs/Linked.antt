@@ -70,24 +70,40 @@ sent_by broken ss d = cond broken None (record_of d ss)
 -- dir: the directories of the setup lines; up: the path of each directory that was ever asked for; broken: the server's session is; some: the
 -- client was told of realms in it; ss: the realm records that were sent last; ts: the client's; q: the messages to it; all, fs: the durable
 -- records and the others
-pub record Linked (dir : ℕ → Bool) (up : ℕ → List ℕ) (broken some : Bool) (ss ts : List RealmRecord) (q : List Message) (all fs : List Record) : Type 0 where
+pub record Linked (dir : ℕ → Bool) (up : ℕ → List ℕ) (broken some : Bool) (ss ts : List RealmRecord) (q : List Message)
+    (all fs : List Record) : Type 0 where
   pub link : Along up (sent_by broken ss) ts (carried q) all
   pub sent : broken ≡ false → AreSent up some ss all
   pub good : GoodLog dir (all ++ fs)
 
+-- by the directories of a history
+abbrev LinkedBy : List Entry → Bool → Bool → List RealmRecord → List RealmRecord → List Message → List Record → List Record → Type 0
+LinkedBy h broken some ss ts q all fs = Linked (λ d. is_directory h d) (λ d. all_path h d) broken some ss ts q all fs
+
 abbrev pub LinkedAt : List Entry → Type 0
-LinkedAt h =
-    Linked (λ d. is_directory h d) (λ d. all_path h d) (is_broken (server_state h)) (told_realms h) (last_sent h) (realms h) (to_client h) (durable h) (fresh h)
+LinkedAt h = LinkedBy h (is_broken (server_state h)) (told_realms h) (last_sent h) (realms h) (to_client h) (durable h) (fresh h)
 
 module _ (dir : ℕ → Bool) (up : ℕ → List ℕ) (broken some : Bool) (ss ts : List RealmRecord) (all : List Record) where
   -- the messages that carry no records may be any
-  linked_message : (p q : List Message) (fs : List Record) → carried p ≡ carried q → Linked dir up broken some ss ts q all fs → Linked dir up broken some ss ts p all fs
-  linked_message p q fs same i = record { link = subst (λ xs. Along up (sent_by broken ss) ts xs all) (sym same) i.link; sent = i.sent; good = i.good }
+  linked_message : (p q : List Message) (fs : List Record) → carried p ≡ carried q → Linked dir up broken some ss ts q all fs
+      → Linked dir up broken some ss ts p all fs
+  linked_message p q fs same i = record {
+    link = subst (λ xs. Along up (sent_by broken ss) ts xs all)
+        (sym same) i.link;
+    sent = i.sent;
+    good = i.good;
+  }
 
-  linked_record : (q : List Message) (fs : List Record) (r : Record) → GoodRecord (dirs_after (all ++ fs) dir) r.body → Linked dir up broken some ss ts q all fs
+  linked_record : (q : List Message) (fs : List Record) (r : Record) → GoodRecord (dirs_after (all ++ fs) dir) r.body
+      → Linked dir up broken some ss ts q all fs
       → Linked dir up broken some ss ts q all (fs ++ r ∷ [])
   linked_record q fs r of i =
-      record { link = i.link; sent = i.sent; good = subst (λ rs. GoodLog dir rs) (append_assoc all fs (r ∷ [])) (good_end dir (all ++ fs) r i.good of) }
+      record {
+        link = i.link;
+        sent = i.sent;
+        good = subst (λ rs. GoodLog dir rs) (append_assoc all fs (r ∷ []))
+            (good_end dir (all ++ fs) r i.good of);
+      }
 
   -- all messages are lost, and of the records that aren't durable so many are kept
   linked_lost : (q : List Message) (fs kept rest : List Record) → fs ≡ kept ++ rest → Linked dir up broken some ss ts q all fs
@@ -135,8 +151,14 @@ module _ (dir : ℕ → Bool) (root : dir 1 ≡ true) (up : ℕ → List ℕ) (d
   linked_resumes broken some false whole i = linked_message dir up broken some ss ts all (q ++ []) q fs (ap carried (append-nil q)) i
   linked_resumes true some true whole i = absurd (both_ways true (whole refl) refl)
   linked_resumes false some true whole i =
-      let t = told_all dir root up dirs ts (λ d. record_of d ss) ss (carried q) all listed first (λ d not. none_sent_of up some ss all all d (front_self all) (i.sent refl) not) i.link in
-      record { link = subst (λ xs. Along up (λ d. record_of d (with_records told_now ss)) ts xs all) (sym (filter_map-append realms_on q _)) t.link; sent = λ _. t.sent; good = i.good }
+      let t = told_all dir root up dirs ts (λ d. record_of d ss) ss (carried q) all listed first
+      (λ d not. none_sent_of up some ss all all d (front_self all) (i.sent refl) not) i.link in
+      record {
+        link = subst (λ xs. Along up (λ d. record_of d (with_records told_now ss)) ts xs all)
+            (sym (filter_map-append realms_on q _)) t.link;
+        sent = λ _. t.sent;
+        good = i.good;
+      }
 
   -- where a session begins, nothing was sent in it
   linked_begins : (broken some last : Bool) → Linked dir up broken some ss ts q all fs
@@ -148,12 +170,18 @@ module _ (dir : ℕ → Bool) (root : dir 1 ≡ true) (up : ℕ → List ℕ) (d
   }
   linked_begins broken some true i =
       let t = told_all dir root up dirs ts (sent_by broken ss) [] (carried q) all listed first (λ d not. refl) i.link in
-      record { link = subst (λ xs. Along up (λ d. record_of d (with_records told_now [])) ts xs all) (sym (filter_map-append realms_on q _)) t.link; sent = λ _. t.sent; good = i.good }
+      record {
+        link = subst (λ xs. Along up (λ d. record_of d (with_records told_now [])) ts xs all)
+            (sym (filter_map-append realms_on q _)) t.link;
+        sent = λ _. t.sent;
+        good = i.good;
+      }
 
 -- A directory is made
 
 -- inside: each realm is a directory
-linked_one : (base dir : ℕ → Bool) (up : ℕ → List ℕ) (e p : ℕ) (broken some : Bool) (ss ts : List RealmRecord) (q : List Message) (all fs : List Record) → dir e ≡ false
+linked_one : (base dir : ℕ → Bool) (up : ℕ → List ℕ) (e p : ℕ) (broken some : Bool) (ss ts : List RealmRecord) (q : List Message)
+    (all fs : List Record) → dir e ≡ false
     → ((k : ℕ) → is_realm all k ≡ true → dir k ≡ true) → (b : Bool) → Linked base up broken some ss ts q all fs
     → Linked base (λ d. cond (b && (e == d)) (e ∷ up p) (up d)) broken some ss ts q all fs
 linked_one base dir up e p broken some ss ts q all fs new inside true i = record {
@@ -163,7 +191,8 @@ linked_one base dir up e p broken some ss ts q all fs new inside true i = record
 }
 linked_one base dir up e p broken some ss ts q all fs new inside false i = i
 
-linked_made : (base dir used : ℕ → Bool) (ms : List Made) (up : ℕ → List ℕ) (broken some : Bool) (ss ts : List RealmRecord) (q : List Message) (all fs : List Record)
+linked_made : (base dir used : ℕ → Bool) (ms : List Made) (up : ℕ → List ℕ) (broken some : Bool) (ss ts : List RealmRecord) (q : List Message)
+    (all fs : List Record)
     → AreUsed dir used → Grown dir used ms → ((k : ℕ) → is_realm all k ≡ true → dir k ≡ true) → Linked base up broken some ss ts q all fs
     → Linked base (λ d. path_with ms up d) broken some ss ts q all fs
 linked_made base dir used [] up broken some ss ts q all fs in_use grown inside i = i
@@ -179,10 +208,12 @@ module _ (h : List Entry) (d p : ℕ) (new : is_directory h d ≡ false) (early 
   more k = (k == 1) || cond (d == k) true (setup_dir h k)
 
   abbrev Before : List Made → List Record → List Record → Type 0
-  Before ms ds fs = Linked (λ k. is_directory h k) (λ k. path_with ms (λ j. path h j) k) (is_broken (server_state h)) (told_realms h) (last_sent h) (realms h) (to_client h) ds fs
+  Before ms ds fs = Linked (λ k. is_directory h k) (λ k. path_with ms (λ j. path h j) k) (is_broken (server_state h)) (told_realms h) (last_sent h)
+      (realms h) (to_client h) ds fs
 
   abbrev After : List Made → List Record → List Record → Type 0
-  After ms ds fs = Linked more (λ k. path_with ms (λ j. with_path (λ g. path h g) d p j) k) (is_broken (server_state h)) (told_realms h) (last_sent h) (realms h) (to_client h) ds fs
+  After ms ds fs = Linked more (λ k. path_with ms (λ j. with_path (λ g. path h g) d p j) k) (is_broken (server_state h)) (told_realms h)
+      (last_sent h) (realms h) (to_client h) ds fs
 
   none_made : all_made h ≡ []
   none_made = ap asked_made early.asked
@@ -192,7 +223,8 @@ module _ (h : List Entry) (d p : ℕ) (new : is_directory h d ≡ false) (early 
 
   at_none : Before [] [] [] → After [] [] []
   at_none j =
-      let now = linked_one (λ k. is_directory h k) (λ k. is_directory h k) (λ k. path h k) d p (is_broken (server_state h)) (told_realms h) (last_sent h) (realms h) (to_client h) [] []
+      let now = linked_one (λ k. is_directory h k) (λ k. is_directory h k) (λ k. path h k) d p (is_broken (server_state h)) (told_realms h)
+      (last_sent h) (realms h) (to_client h) [] []
       new only_root true j in
       record { link = now.link; sent = now.sent; good = tt }
 
@@ -224,10 +256,13 @@ log_realms h asks i k is =
 step_req : (h : List Entry) (c : ℕ) (op : ReqOp) (tid : ℕ) → Asks h → Asks (record { event = e.Req c op; answer = a.Sent tid } ∷ h) → LinkedAt h
     → LinkedAt (record { event = e.Req c op; answer = a.Sent tid } ∷ h)
 step_req h c op tid asks now i =
-    subst (λ u. Linked (λ d. is_directory h d) u (is_broken (server_state h)) (told_realms h) (last_sent h) (realms h) (to_client h) (durable h) (fresh h)) (λ j d. same d j)
-    (linked_made (λ d. is_directory h d) (λ d. all_dir h d) (λ k. used_of (all_made h) (λ l. is_in_use h l) k) more (λ d. all_path h d) (is_broken (server_state h)) (told_realms h) (last_sent h) (realms h)
+    subst (λ u. Linked (λ d. is_directory h d) u (is_broken (server_state h)) (told_realms h) (last_sent h) (realms h) (to_client h) (durable h)
+    (fresh h)) (λ j d. same d j)
+    (linked_made (λ d. is_directory h d) (λ d. all_dir h d) (λ k. used_of (all_made h) (λ l. is_in_use h l) k) more (λ d. all_path h d)
+    (is_broken (server_state h)) (told_realms h) (last_sent h) (realms h)
     (to_client h) (durable h) (fresh h) (all_are_used (all_made h) (λ d. is_directory h d) (λ l. is_in_use h l) (setup_used h))
-    (grown_behind (λ d. is_directory h d) (λ l. is_in_use h l) (all_made h) more (subst (λ ms. Grown (λ d. is_directory h d) (λ l. is_in_use h l) ms) split now.grown))
+    (grown_behind (λ d. is_directory h d) (λ l. is_in_use h l) (all_made h) more
+    (subst (λ ms. Grown (λ d. is_directory h d) (λ l. is_in_use h l) ms) split now.grown))
     (log_realms h asks i) i)
   where
     more : List Made
@@ -240,7 +275,8 @@ step_req h c op tid asks now i =
     same d = sym (ap (λ ms. path_with ms (λ k. path h k) d) split ∙ paths_append (all_made h) more (λ k. path h k) d)
 
 -- what is made then is new
-made_new : (dir used : ℕ → Bool) (ms rest : List Made) (d : ℕ) → AreUsed dir used → Grown dir used (ms ++ rest) → makes_dir d ms ≡ true → dir d ≡ false
+made_new : (dir used : ℕ → Bool) (ms rest : List Made) (d : ℕ) → AreUsed dir used → Grown dir used (ms ++ rest) → makes_dir d ms ≡ true
+    → dir d ≡ false
 made_new dir used [] rest d in_use grown is = absurd (both_ways false refl is)
 made_new dir used (m ∷ ms) rest d in_use grown is =
     ⊎_elim
@@ -268,15 +304,18 @@ module _ (h : List Entry) (tid : ℕ) (ino : Option ℕ) (op : ReqOp) (q : List 
   whole : all_made h ≡ server_made h ++ ((made_by (Some op) reply ++ []) ++ (server_front later now).0)
   whole =
       (server_front later now).1
-      ∙ (ap (λ ms. ms ++ (server_front later now).0) made_more ∙ append_assoc (server_made h) (made_by (Some op) reply ++ []) (server_front later now).0)
+      ∙ (ap (λ ms. ms ++ (server_front later now).0) made_more ∙ append_assoc (server_made h) (made_by (Some op) reply ++ [])
+      (server_front later now).0)
 
   good_request : GoodRecord (dirs_after (durable h ++ fresh h) (λ d. is_directory h d)) done.body
   good_request d is =
       log_dirs h d
       ∙ (sym (dirs_are (server_made h) (λ k. is_directory h k) d)
-      ∙ made_new (λ k. dirs_of (server_made h) (λ l. is_directory h l) k) (λ k. used_of (server_made h) (λ l. is_in_use h l) k) (made_by (Some op) reply ++ [])
+      ∙ made_new (λ k. dirs_of (server_made h) (λ l. is_directory h l) k) (λ k. used_of (server_made h) (λ l. is_in_use h l) k)
+      (made_by (Some op) reply ++ [])
       (server_front later now).0 d (all_are_used (server_made h) (λ k. is_directory h k) (λ l. is_in_use h l) (setup_used h))
-      (grown_behind (λ k. is_directory h k) (λ l. is_in_use h l) (server_made h) _ (subst (λ ms. Grown (λ k. is_directory h k) (λ l. is_in_use h l) ms) whole now.grown))
+      (grown_behind (λ k. is_directory h k) (λ l. is_in_use h l) (server_made h) _
+      (subst (λ ms. Grown (λ k. is_directory h k) (λ l. is_in_use h l) ms) whole now.grown))
       (ap (makes_dir d) (append-nil (made_by (Some op) reply)) ∙ is))
 
 -- A commit
@@ -290,7 +329,8 @@ news_same up new dirs ss before (r ∷ rs) same =
     (λ d m. ap (λ ps. realm_record ps (before ++ r ∷ []) d) (same d m)) in
     let one : news_on up dirs ss before r ≡ news_on new dirs ss before r = ap (λ ts. news_of before (differing ss ts) r.body) now in
     ap (λ m. m ∷ news up dirs (with_records (realms_of m) ss) (before ++ r ∷ []) rs) one
-    ∙ ap (λ ms. news_on new dirs ss before r ∷ ms) (news_same up new dirs (with_records (realms_of (news_on new dirs ss before r)) ss) (before ++ r ∷ []) rs same)
+    ∙ ap (λ ms. news_on new dirs ss before r ∷ ms) (news_same up new dirs (with_records (realms_of (news_on new dirs ss before r)) ss)
+    (before ++ r ∷ []) rs same)
 
 -- the server's list of directories, by the paths of all that were asked for
 server_paths : (h : List Entry) → TreeAt h → ListingAt h → Asks h → Each (λ d. server_path h d ≡ all_path h d) (server_dirs h)
@@ -306,7 +346,8 @@ listed_realm h tree listing asks i d is =
     (server_listing h tree listing asks).listed d (sym (log_dirs h d) ∙ realm_dir (λ k. is_directory h k) (stand h) d refl i.good is)
 
 -- A broken session tells of nothing.
-commit_at : (dir : ℕ → Bool) (up : ℕ → List ℕ) (dirs : List ℕ) (broken some : Bool) (ss ts : List RealmRecord) (q : List Message) (all fs : List Record) → dir 1 ≡ true
+commit_at : (dir : ℕ → Bool) (up : ℕ → List ℕ) (dirs : List ℕ) (broken some : Bool) (ss ts : List RealmRecord) (q : List Message)
+    (all fs : List Record) → dir 1 ≡ true
     → ((d : ℕ) → is_realm (all ++ fs) d ≡ true → Member d dirs) → ParentsFirst up [] dirs → Linked dir up broken some ss ts q all fs
     → Linked dir up broken (cond broken some (some || changes_realms fs)) (cond broken ss (sent_with (news up dirs ss all fs) ss)) ts
     (cond broken q (q ++ news up dirs ss all fs)) (all ++ fs) []
@@ -318,17 +359,22 @@ commit_at dir up dirs true some ss ts q all fs root listed first i = record {
 commit_at dir up dirs false some ss ts q all fs root listed first i =
     let t = told_commit dir root up dirs ts some ss (carried q) all fs listed first i.good (record { link = i.link; sent = i.sent refl }) in
     record {
-      link = subst (λ xs. Along up (λ d. record_of d (sent_with (news up dirs ss all fs) ss)) ts xs (all ++ fs)) (sym (filter_map-append realms_on q (news up dirs ss all fs))) t.link;
+      link = subst (λ xs. Along up (λ d. record_of d (sent_with (news up dirs ss all fs) ss)) ts xs (all ++ fs))
+          (sym (filter_map-append realms_on q (news up dirs ss all fs))) t.link;
       sent = λ _. t.sent;
       good = subst (λ rs. GoodLog dir rs) (sym (append-nil (all ++ fs))) i.good;
     }
 
 linked_commit : (p : ℕ) (h : List Entry) → TreeAt h → ListingAt h → Asks h → LinkedAt h → LinkedAt (entry p h e.Commit ∷ h)
 linked_commit p h tree listing asks i =
-    subst (λ new. Linked (λ d. is_directory h d) (λ d. all_path h d) (is_broken (server_state h)) (cond (is_broken (server_state h)) (told_realms h) (told_realms h || changes_realms (fresh h)))
-    (cond (is_broken (server_state h)) (last_sent h) (sent_with new (last_sent h))) (realms h) (cond (is_broken (server_state h)) (to_client h) (to_client h ++ new)) (durable h ++ fresh h) [])
-    (sym (news_same (λ d. server_path h d) (λ d. all_path h d) (server_dirs h) (last_sent h) (durable h) (fresh h) (server_paths h tree listing asks)))
-    (commit_at (λ d. is_directory h d) (λ d. all_path h d) (server_dirs h) (is_broken (server_state h)) (told_realms h) (last_sent h) (realms h) (to_client h) (durable h) (fresh h) refl
+    subst (λ new. LinkedBy h (is_broken (server_state h)) (cond (is_broken (server_state h)) (told_realms h)
+    (told_realms h || changes_realms (fresh h)))
+    (cond (is_broken (server_state h)) (last_sent h) (sent_with new (last_sent h))) (realms h)
+    (cond (is_broken (server_state h)) (to_client h) (to_client h ++ new)) (durable h ++ fresh h) [])
+    (sym (news_same (λ d. server_path h d) (λ d. all_path h d) (server_dirs h) (last_sent h) (durable h) (fresh h)
+    (server_paths h tree listing asks)))
+    (commit_at (λ d. is_directory h d) (λ d. all_path h d) (server_dirs h) (is_broken (server_state h)) (told_realms h) (last_sent h) (realms h)
+    (to_client h) (durable h) (fresh h) refl
     (listed_realm h tree listing asks i) (all_listing h tree listing asks).first i)
 
 -- Messages to the server
@@ -361,32 +407,38 @@ module _ (h : List Entry) (tree : TreeAt h) (listing : ListingAt h) (asks : Asks
   -- p: what is sent beside, which carries no realms
   abbrev ResumesAt : List Message → Type 0
   ResumesAt p =
-      Linked (λ d. is_directory h d) (λ d. all_path h d) (is_broken (resent (server_state h))) (cond (is_last (server_state h)) true (told_realms h))
-      (sent_with (resumption (is_last (server_state h)) all_told) (last_sent h)) (realms h) (to_client h ++ (p ++ resumption (is_last (server_state h)) all_told)) (durable h) (fresh h)
+      LinkedBy h (is_broken (resent (server_state h))) (cond (is_last (server_state h)) true (told_realms h))
+      (sent_with (resumption (is_last (server_state h)) all_told) (last_sent h)) (realms h)
+      (to_client h ++ (p ++ resumption (is_last (server_state h)) all_told)) (durable h) (fresh h)
 
   resumes_at : (p : List Message) → carried p ≡ [] → ResumesAt p
   resumes_at p none =
       linked_message _ _ _ _ _ _ _ _ _ _ (carried_beside (to_client h) p (resumption (is_last (server_state h)) all_told) none)
-      (subst (λ b. Linked (λ d. is_directory h d) (λ d. all_path h d) b (cond (is_last (server_state h)) true (told_realms h))
-      (sent_with (resumption (is_last (server_state h)) all_told) (last_sent h)) (realms h) (to_client h ++ resumption (is_last (server_state h)) all_told) (durable h) (fresh h))
+      (subst (λ b. LinkedBy h b (cond (is_last (server_state h)) true (told_realms h))
+      (sent_with (resumption (is_last (server_state h)) all_told) (last_sent h)) (realms h)
+      (to_client h ++ resumption (is_last (server_state h)) all_told) (durable h) (fresh h))
       (sym (broken_resent (server_state h)))
-      (subst (λ now. Linked (λ d. is_directory h d) (λ d. all_path h d) (is_broken (server_state h)) (cond (is_last (server_state h)) true (told_realms h))
-      (sent_with (resumption (is_last (server_state h)) now) (last_sent h)) (realms h) (to_client h ++ resumption (is_last (server_state h)) now) (durable h) (fresh h))
+      (subst (λ now. LinkedBy h (is_broken (server_state h)) (cond (is_last (server_state h)) true (told_realms h))
+      (sent_with (resumption (is_last (server_state h)) now) (last_sent h)) (realms h) (to_client h ++ resumption (is_last (server_state h)) now)
+      (durable h) (fresh h))
       (sym told_same)
-      (linked_resumes (λ d. is_directory h d) refl (λ d. all_path h d) (server_dirs h) (last_sent h) (realms h) (to_client h) (durable h) (fresh h) durable_listed
-      (all_listing h tree listing asks).first (is_broken (server_state h)) (told_realms h) (is_last (server_state h)) (last_whole (server_state h)) i)))
+      (linked_resumes (λ d. is_directory h d) refl (λ d. all_path h d) (server_dirs h) (last_sent h) (realms h) (to_client h) (durable h)
+      (fresh h) durable_listed
+      (all_listing h tree listing asks).first (is_broken (server_state h)) (told_realms h) (is_last (server_state h))
+      (last_whole (server_state h)) i)))
 
   begins_at : (resends : ℕ)
-      → Linked (λ d. is_directory h d) (λ d. all_path h d) (is_broken (replaying resends)) (resends == 0)
+      → LinkedBy h (is_broken (replaying resends)) (resends == 0)
       (sent_with (resumption (resends == 0) all_told) []) (realms h) (to_client h ++ resumption (resends == 0) all_told) (durable h) (fresh h)
   begins_at resends =
-      subst (λ b. Linked (λ d. is_directory h d) (λ d. all_path h d) b (resends == 0)
+      subst (λ b. LinkedBy h b (resends == 0)
       (sent_with (resumption (resends == 0) all_told) []) (realms h) (to_client h ++ resumption (resends == 0) all_told) (durable h) (fresh h))
       (sym (broken_replaying resends))
-      (subst (λ now. Linked (λ d. is_directory h d) (λ d. all_path h d) false (resends == 0)
+      (subst (λ now. LinkedBy h false (resends == 0)
       (sent_with (resumption (resends == 0) now) []) (realms h) (to_client h ++ resumption (resends == 0) now) (durable h) (fresh h))
       (sym told_same)
-      (linked_begins (λ d. is_directory h d) refl (λ d. all_path h d) (server_dirs h) (last_sent h) (realms h) (to_client h) (durable h) (fresh h) durable_listed
+      (linked_begins (λ d. is_directory h d) refl (λ d. all_path h d) (server_dirs h) (last_sent h) (realms h) (to_client h) (durable h)
+      (fresh h) durable_listed
       (all_listing h tree listing asks).first (is_broken (server_state h)) (told_realms h) (resends == 0) i))
 
 -- Steps
@@ -395,21 +447,24 @@ first_gone : (m : Message) (q now : List Message) → now ≡ m ∷ q → realms
 first_gone m q now there none = ap (λ p. carried (drop 1 p)) there ∙ sym (ap carried there ∙ ap (λ o. cons_option o (carried q)) none)
 
 -- m: the first message to the client, which carries realm records
-module _ (h : List Entry) (m : Message) (now : List RealmRecord) (q : List Message) (there : to_client h ≡ m ∷ q) (carries : realms_on m ≡ Some now) (i : LinkedAt h) where
+module _ (h : List Entry) (m : Message) (now : List RealmRecord) (q : List Message) (there : to_client h ≡ m ∷ q) (carries : realms_on m ≡ Some now)
+    (i : LinkedAt h) where
   link_now : Along (λ k. all_path h k) (sent_by (is_broken (server_state h)) (last_sent h)) (realms h) (now ∷ carried q) (durable h)
   link_now =
-      subst (λ o. Along (λ k. all_path h k) (sent_by (is_broken (server_state h)) (last_sent h)) (realms h) (cons_option o (carried q)) (durable h)) carries
+      subst (λ o. Along (λ k. all_path h k) (sent_by (is_broken (server_state h)) (last_sent h)) (realms h) (cons_option o (carried q))
+      (durable h)) carries
       (subst (λ p. Along (λ k. all_path h k) (sent_by (is_broken (server_state h)) (last_sent h)) (realms h) (carried p) (durable h)) there i.link)
 
   records_now : with_first (to_client h) (realms h) ≡ with_records now (realms h)
   records_now = ap (λ p. with_first p (realms h)) there ∙ ap (λ o. with_records (unwrap_or o []) (realms h)) carries
 
-  link_told : Linked (λ k. is_directory h k) (λ k. all_path h k) (is_broken (server_state h)) (told_realms h) (last_sent h) (with_first (to_client h) (realms h)) (drop 1 (to_client h))
+  link_told : LinkedBy h (is_broken (server_state h)) (told_realms h) (last_sent h) (with_first (to_client h) (realms h)) (drop 1 (to_client h))
       (durable h) (fresh h)
   link_told =
-      subst (λ ts. Linked (λ k. is_directory h k) (λ k. all_path h k) (is_broken (server_state h)) (told_realms h) (last_sent h) ts (drop 1 (to_client h)) (durable h) (fresh h))
+      subst (λ ts. LinkedBy h (is_broken (server_state h)) (told_realms h) (last_sent h) ts (drop 1 (to_client h)) (durable h) (fresh h))
       (sym records_now)
-      (subst (λ p. Linked (λ k. is_directory h k) (λ k. all_path h k) (is_broken (server_state h)) (told_realms h) (last_sent h) (with_records now (realms h)) (drop 1 p) (durable h) (fresh h))
+      (subst (λ p. LinkedBy h (is_broken (server_state h)) (told_realms h) (last_sent h) (with_records now (realms h)) (drop 1 p) (durable h)
+      (fresh h))
       (sym there)
       (record {
         link = delivers (λ k. all_path h k) (sent_by (is_broken (server_state h)) (last_sent h)) (realms h) now (carried q) (durable h) link_now;
@@ -417,10 +472,12 @@ module _ (h : List Entry) (m : Message) (now : List RealmRecord) (q : List Messa
         good = i.good;
       }))
 
-  pub told_rises : (f : ℕ) → TreeAt h → Housed h → Asks h → DrawnAt h → Rises (context h f) (path_context (client_file_path h f) (with_first (to_client h) (realms h)))
+  pub told_rises : (f : ℕ) → TreeAt h → Housed h → Asks h → DrawnAt h
+      → Rises (context h f) (path_context (client_file_path h f) (with_first (to_client h) (realms h)))
   told_rises f tree housed asks drawn =
       subst (λ ts. Rises (context h f) (path_context (client_file_path h f) ts)) (sym records_now)
-      (context_rises (λ k. is_directory h k) (λ k. all_dir h k) (λ k. all_path h k) (sent_by (is_broken (server_state h)) (last_sent h)) (realms h) now (carried q) (durable h)
+      (context_rises (λ k. is_directory h k) (λ k. all_dir h k) (λ k. all_path h k) (sent_by (is_broken (server_state h)) (last_sent h))
+      (realms h) now (carried q) (durable h)
       (client_file_path h f) (all_tree h tree asks) (log_realms h asks i) refl (draws_front 0 (durable h) (fresh h) drawn)
       (good_front (λ k. is_directory h k) (durable h) (fresh h) i.good)
       (subst (λ ps. IsWay (λ k. all_path h k) ps) (sym (client_file_way h housed asks f)) ((all_tree h tree asks).ways (client_home h f))) link_now)
@@ -430,33 +487,39 @@ module _ (h : List Entry) (m : Message) (now : List RealmRecord) (q : List Messa
 
 step_client : (h : List Entry) (x : Answer) → FirstIs h x → LinkedAt h → LinkedAt (record { event = e.ToClient; answer = x } ∷ h)
 step_client h x first_idle i = i
-step_client h x (first_cap f seq bits end q there) i = linked_message _ _ _ _ _ _ _ _ _ _ (first_gone (messages.Cap f seq bits end) q (to_client h) there refl) i
-step_client h x (first_flush_ack f tid q there) i = linked_message _ _ _ _ _ _ _ _ _ _ (first_gone (messages.FlushAck f tid) q (to_client h) there refl) i
-step_client h x (first_unsafe tid o ttl q there) i = linked_message _ _ _ _ _ _ _ _ _ _ (first_gone (messages.Unsafe tid o ttl) q (to_client h) there refl) i
+step_client h x (first_cap f seq bits end q there) i = linked_message _ _ _ _ _ _ _ _ _ _
+    (first_gone (messages.Cap f seq bits end) q (to_client h) there refl) i
+step_client h x (first_flush_ack f tid q there) i = linked_message _ _ _ _ _ _ _ _ _ _
+    (first_gone (messages.FlushAck f tid) q (to_client h) there refl) i
+step_client h x (first_unsafe tid o ttl q there) i = linked_message _ _ _ _ _ _ _ _ _ _
+    (first_gone (messages.Unsafe tid o ttl) q (to_client h) there refl) i
 step_client h x (first_safe tid q there) i = linked_message _ _ _ _ _ _ _ _ _ _ (first_gone (messages.Safe tid) q (to_client h) there refl) i
-step_client h x (first_unlease d name q there) i = linked_message _ _ _ _ _ _ _ _ _ _ (first_gone (messages.Unlease d name) q (to_client h) there refl) i
+step_client h x (first_unlease d name q there) i = linked_message _ _ _ _ _ _ _ _ _ _
+    (first_gone (messages.Unlease d name) q (to_client h) there refl) i
 step_client h x (first_snap n d now q there) i = link_told h (messages.Snap n d now) now q there refl i
 step_client h x (first_resumed now q there) i = link_told h (messages.Resumed now) now q there refl i
 
 -- a request is done
 linked_request : (h : List Entry) (tid : ℕ) (ino : Option ℕ) (op : ReqOp) (q : List Message) → to_server h ≡ messages.Req tid ino op ∷ q
     → Asks (record { event = e.ToMds; answer = a.Req tid (answer_on (names h) op) } ∷ h) → (b some : Bool) (ss : List RealmRecord) (p : List Message)
-    → Linked (λ k. is_directory h k) (λ k. all_path h k) b some ss (realms h) p (durable h) (fresh h)
-    → Linked (λ k. is_directory h k) (λ k. all_path h k) b some ss (realms h) p (durable h) (fresh h ++ requested (answer_on (names h) op) (to_server h))
+    → LinkedBy h b some ss (realms h) p (durable h) (fresh h)
+    → LinkedBy h b some ss (realms h) p (durable h) (fresh h ++ requested (answer_on (names h) op) (to_server h))
 linked_request h tid ino op q there now b some ss p i =
-    subst (λ m. Linked (λ k. is_directory h k) (λ k. all_path h k) b some ss (realms h) p (durable h) (fresh h ++ requested (answer_on (names h) op) m)) (sym there)
+    subst (λ m. LinkedBy h b some ss (realms h) p (durable h) (fresh h ++ requested (answer_on (names h) op) m)) (sym there)
     (linked_record _ _ _ _ _ _ _ _ _ (record { body = bodies.Request tid op (answer_on (names h) op) }) (good_request h tid ino op q there now) i)
 
 -- a flush is recorded
-linked_flush : (h : List Entry) (y : Flush) (q : List Message) → to_server h ≡ flush_message y ∷ q → (b some : Bool) (ss : List RealmRecord) (p : List Message)
-    → Linked (λ k. is_directory h k) (λ k. all_path h k) b some ss (realms h) p (durable h) (fresh h)
-    → Linked (λ k. is_directory h k) (λ k. all_path h k) b some ss (realms h) p (durable h) (fresh h ++ recorded (to_server h))
+linked_flush : (h : List Entry) (y : Flush) (q : List Message) → to_server h ≡ flush_message y ∷ q
+    → (b some : Bool) (ss : List RealmRecord) (p : List Message)
+    → LinkedBy h b some ss (realms h) p (durable h) (fresh h)
+    → LinkedBy h b some ss (realms h) p (durable h) (fresh h ++ recorded (to_server h))
 linked_flush h y q there b some ss p i =
-    subst (λ m. Linked (λ k. is_directory h k) (λ k. all_path h k) b some ss (realms h) p (durable h) (fresh h ++ recorded m)) (sym there)
-    (subst (λ rs. Linked (λ k. is_directory h k) (λ k. all_path h k) b some ss (realms h) p (durable h) (fresh h ++ rs)) (sym (recorded_one y))
+    subst (λ m. LinkedBy h b some ss (realms h) p (durable h) (fresh h ++ recorded m)) (sym there)
+    (subst (λ rs. LinkedBy h b some ss (realms h) p (durable h) (fresh h ++ rs)) (sym (recorded_one y))
     (linked_record _ _ _ _ _ _ _ _ _ (flush_record y) tt i))
 
-step_server : (h : List Entry) (x : Answer) → ReceivedIs h x → Asks (record { event = e.ToMds; answer = x } ∷ h) → TreeAt h → ListingAt h → Asks h → LinkedAt h
+step_server : (h : List Entry) (x : Answer) → ReceivedIs h x → Asks (record { event = e.ToMds; answer = x } ∷ h) → TreeAt h → ListingAt h → Asks h
+    → LinkedAt h
     → LinkedAt (record { event = e.ToMds; answer = x } ∷ h)
 step_server h x received_idle now tree listing asks i = i
 step_server h x (received_ack f seq bits q there) now tree listing asks i = i
@@ -471,7 +534,8 @@ step_server h x (received_req_again tid ino op q there again) now tree listing a
     let o : OpAnswer = unwrap_or (answer_kept tid (stand h)) replies.Missing in
     resumes_at h tree listing asks i (answered_again tid o (durable h)) (none_answered tid o (durable h))
 
-step_snap : (h : List Entry) (d : ℕ) (name : List ℕ) (x : Answer) → SnapIs h d name x → Asks h → LinkedAt h → LinkedAt (record { event = e.Snap d name; answer = x } ∷ h)
+step_snap : (h : List Entry) (d : ℕ) (name : List ℕ) (x : Answer) → SnapIs h d name x → Asks h → LinkedAt h
+    → LinkedAt (record { event = e.Snap d name; answer = x } ∷ h)
 step_snap h d name x snap_unknown asks i = i
 step_snap h d name x snap_session asks i = i
 step_snap h d name x snap_exists asks i = i
@@ -488,20 +552,24 @@ step_grant : (h : List Entry) (f : ℕ) (bits : Caps) (end : ℕ) (x : Answer) �
     → LinkedAt (record { event = e.Grant f bits end; answer = x } ∷ h)
 step_grant h f bits end x grant_unknown i = i
 step_grant h f bits end x grant_session i = i
-step_grant h f bits end x (grant_sent active) i = linked_message _ _ _ _ _ _ _ _ _ _ (linked_end (to_client h) (cap_message f (granted (server h f) bits end)) refl) i
+step_grant h f bits end x (grant_sent active) i = linked_message _ _ _ _ _ _ _ _ _ _
+    (linked_end (to_client h) (cap_message f (granted (server h f) bits end)) refl) i
 
 step_revoke : (h : List Entry) (f : ℕ) (bits : Caps) (x : Answer) → GrantIs h f (revoked (server h f) bits) x → LinkedAt h
     → LinkedAt (record { event = e.Revoke f bits; answer = x } ∷ h)
 step_revoke h f bits x grant_unknown i = i
 step_revoke h f bits x grant_session i = i
-step_revoke h f bits x (grant_sent active) i = linked_message _ _ _ _ _ _ _ _ _ _ (linked_end (to_client h) (cap_message f (revoked (server h f) bits)) refl) i
+step_revoke h f bits x (grant_sent active) i = linked_message _ _ _ _ _ _ _ _ _ _
+    (linked_end (to_client h) (cap_message f (revoked (server h f) bits)) refl) i
 
-step_unlease : (h : List Entry) (d : ℕ) (name : List ℕ) (x : Answer) → UnleaseIs h x → LinkedAt h → LinkedAt (record { event = e.Unlease d name; answer = x } ∷ h)
+step_unlease : (h : List Entry) (d : ℕ) (name : List ℕ) (x : Answer) → UnleaseIs h x → LinkedAt h
+    → LinkedAt (record { event = e.Unlease d name; answer = x } ∷ h)
 step_unlease h d name x unlease_unknown i = i
 step_unlease h d name x unlease_session i = i
 step_unlease h d name x (unlease_sent active) i = linked_message _ _ _ _ _ _ _ _ _ _ (linked_end (to_client h) (messages.Unlease d name) refl) i
 
-step_request : (h : List Entry) (c : ℕ) (op : ReqOp) (x : Answer) → ReqIs h x → Asks h → Asks (record { event = e.Req c op; answer = x } ∷ h) → LinkedAt h
+step_request : (h : List Entry) (c : ℕ) (op : ReqOp) (x : Answer) → ReqIs h x → Asks h → Asks (record { event = e.Req c op; answer = x } ∷ h)
+    → LinkedAt h
     → LinkedAt (record { event = e.Req c op; answer = x } ∷ h)
 step_request h c op x req_session asks now i = i
 step_request h c op x (req_sent active) asks now i = step_req h c op _ asks now i
@@ -531,6 +599,8 @@ pub last_sent_is : (h : List Entry) → TreeAt h → ListingAt h → Asks h → 
     ≡ cond {A = Option RealmRecord} (told_realms h) (record_of d (realm_records (λ k. server_path h k) (server_dirs h) (durable h))) None
 last_sent_is h tree listing asks i live d =
     i.sent live d ∙ ap (λ o. cond {A = Option RealmRecord} (told_realms h) o None)
-    (sym (listed_record (λ k. realm_record (all_path h k) (durable h) k) (realm_named (λ k. is_directory h k) refl (λ k. all_path h k) (server_dirs h) [] (durable h)) (server_dirs h) d
-    (λ r is. durable_listed h tree listing asks i d (realm_there (λ k. is_directory h k) refl (λ k. all_path h k) (server_dirs h) [] (durable h) d r is)))
+    (sym (listed_record (λ k. realm_record (all_path h k) (durable h) k)
+    (realm_named (λ k. is_directory h k) refl (λ k. all_path h k) (server_dirs h) [] (durable h)) (server_dirs h) d
+    (λ r is. durable_listed h tree listing asks i d (realm_there (λ k. is_directory h k) refl (λ k. all_path h k) (server_dirs h) []
+    (durable h) d r is)))
     ∙ ap (λ rs. record_of d rs) (sym (told_same h tree listing asks i)))
