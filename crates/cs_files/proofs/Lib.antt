@@ -11,6 +11,5 @@ pub mod Made
 pub mod Owes
 pub mod FileReads
 pub mod Rows
-pub mod Sorted
 pub mod Told
 pub mod Writes

@@ -82,6 +82,8 @@ pub mod QueueAnswers
 pub mod Unsent
 -- Flushes and acknowledgements
 pub mod Replays
+pub mod SnapMetas
+pub mod Sorted
 pub mod Standing
 pub mod Numbered
 pub mod FlushReplays

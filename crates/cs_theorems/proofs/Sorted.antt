@@ -29,7 +29,7 @@ times_permuted n t xs ys same =
     times_sum n t ys ∙ (sum_by-IsPermutation (λ x. cond (n x == t) 1 0) xs ys same ∙ sym (times_sum n t xs))
 
 pub times_append : {X : Type 0} (n : X → ℕ) (t : ℕ) (xs ys : List X) → times n t (xs ++ ys) ≡ times n t xs + times n t ys
-times_append n t [] ys = refl
+times_append n t [] ys = omega arith
 times_append n t (x ∷ xs) ys = omega (arith, times_append n t xs ys)
 
 pub times_member : {X : Type 0} (n : X → ℕ) (t : ℕ) (x : X) (xs : List X) → n x ≡ t → Member x xs → 1 ≤ times n t xs
@@ -73,11 +73,14 @@ sorted_rises n x (y ∷ ys) sorted apart =
     rest : (t : ℕ) → cond (n x == t) 1 0 + times n t (y ∷ ys) ≤ 1 → times n t (y ∷ ys) ≤ 1
     rest t few = omega (arith, few)
 
+    both : (a b : Bool) → a ≡ true → b ≡ true → cond a 1 0 + (cond b 1 0 + times n (n x) ys) ≤ 1 → ⊥
+    both true true p q few = omega (arith, few)
+    both false b p q few = cc p
+    both true false p q few = cc q
+
     twice : n x ≡ n y → cond (n x == n x) 1 0 + (cond (n y == n x) 1 0 + times n (n x) ys) ≤ 1 → n x < n y
     twice same few =
-        let first : cond (n x == n x) 1 0 ≡ 1 = ap (λ b. cond b 1 0) (eq-eqb (n x) (n x) refl) in
-        let second : cond (n y == n x) 1 0 ≡ 1 = ap (λ b. cond b 1 0) (eq-eqb (n y) (n x) (sym same)) in
-        absurd (omega (arith, first, second, few))
+        absurd (both (n x == n x) (n y == n x) (eq-eqb (n x) (n x) refl) (eq-eqb (n y) (n x) (sym same)) few)
 
     less : n x < n y
     less = ⊎_elim (λ same. twice same (apart (n x))) (λ up. up) (eq-or-lt_of_le (sorted 0 1 x (omega arith) (omega arith)))
@@ -89,10 +92,10 @@ pub same_lists : {X : Type 0} (n : X → ℕ) (k : ℕ) (xs ys : List X) → Ris
 same_lists n k [] [] up vp all back = refl
 same_lists n k [] (y ∷ ys) up vp all back = absurd (back y (inl refl))
 same_lists n k (x ∷ xs) [] up vp all back = absurd (all x (inl refl))
-same_lists n k (x ∷ xs) (y ∷ ys) up vp all back =
+same_lists {X = X} n k (x ∷ xs) (y ∷ ys) up vp all back =
     let tails : xs ≡ ys =
     same_lists n (n x) xs ys up.1 (subst (λ z. RisesFrom (n z) (map n ys)) first vp.1)
-    (λ z m. later x y first z up.1 m (all z (inr m))) (λ z m. later y x (sym first) z vp.1 m (back z (inr m))) in
+    (λ z m. later x y first z xs ys up.1 m (all z (inr m))) (λ z m. later y x (sym first) z ys xs vp.1 m (back z (inr m))) in
     λ i. (sym first) i ∷ tails i
   where
     first : y ≡ x
@@ -103,9 +106,9 @@ same_lists n k (x ∷ xs) (y ∷ ys) up vp all back =
         (back y (inl refl)))
         (all x (inl refl))
 
-    later : (a b : _) → b ≡ a → (z : _) → {as bs : List _} → RisesFrom (n a) (map n as) → Member z as → Member z (b ∷ bs) → Member z bs
-    later a b same z {as = as} rises m (inl is) = absurd (omega (arith, member_above n (n a) z as rises m, ap n (sym same ∙ is)))
-    later a b same z rises m (inr o) = o
+    later : (a b : X) → b ≡ a → (z : X) (us bs : List X) → RisesFrom (n a) (map n us) → Member z us → Member z (b ∷ bs) → Member z bs
+    later a b same z us bs rises m (inl is) = absurd (omega (arith, member_above n (n a) z us rises m, ap n (sym same ∙ is)))
+    later a b same z us bs rises m (inr o) = o
 
 from_all : {X : Type 0} (P : X → Type 0) (xs : List X) → All P xs → Each P xs
 from_all P [] all x m = absurd m
@@ -115,7 +118,7 @@ from_all P (y ∷ ys) all x (inr m) = from_all P ys (λ k d within. all (suc k) 
 -- xs has the things of ys, whose numbers rise; so does what comes of sorting xs
 pub sorted_is : {X : Type 0} (n : X → ℕ) (xs ys rs : List X) → RisesFrom 0 (map n ys) → Each (λ x. Member x ys) xs → Each (λ y. Member y xs) ys
     → AreApart n xs → IsPermutation xs rs → IsNonDecreasingBy n rs → rs ≡ ys
-sorted_is n xs ys rs rises all back apart same sorted = same_lists n 0 rs ys (up rs refl) rises within found
+sorted_is {X = X} n xs ys rs rises all back apart same sorted = same_lists n 0 rs ys (up rs refl) rises within found
   where
     within : Each (λ x. Member x ys) rs
     within = from_all (λ x. Member x ys) rs (All-permutation (λ x. Member x ys) xs rs same (each_all (λ x. Member x ys) xs all))
@@ -128,7 +131,7 @@ sorted_is n xs ys rs rises all back apart same sorted = same_lists n 0 rs ys (up
     few : AreApart n rs
     few t = subst (λ k. k ≤ 1) (sym (times_permuted n t xs rs same)) (apart t)
 
-    up : (us : List _) → rs ≡ us → RisesFrom 0 (map n us)
+    up : (us : List X) → rs ≡ us → RisesFrom 0 (map n us)
     up [] is = tt
     up (u ∷ us) is =
         (member_above n 0 u ys rises (subst (λ ws. Each (λ x. Member x ys) ws) is within u (inl refl)),
