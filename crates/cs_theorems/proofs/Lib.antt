@@ -82,6 +82,7 @@ pub mod QueueAnswers
 pub mod Unsent
 -- Flushes and acknowledgements
 pub mod Replays
+pub mod Reports
 pub mod SnapMetas
 pub mod Sorted
 pub mod Standing

@@ -56,13 +56,16 @@ none_low n t k (x ∷ xs) rises low =
     let rest : times n t xs ≡ 0 = none_low n t (n x) xs rises.1 (omega (arith, rises.0, low)) in
     subst (λ b. cond b 1 0 + times n t xs ≡ 0) (sym other) (omega (arith, rest))
 
-pub rises_apart : {X : Type 0} (n : X → ℕ) (k : ℕ) (xs : List X) → RisesFrom k (map n xs) → AreApart n xs
-rises_apart n k [] rises t = omega arith
-rises_apart n k (x ∷ xs) rises t = at (n x == t) refl (rises_apart n (n x) xs rises.1 t)
+pub first_apart : {X : Type 0} (n : X → ℕ) (x : X) (xs : List X) → RisesFrom (n x) (map n xs) → AreApart n xs → AreApart n (x ∷ xs)
+first_apart n x xs rises apart t = at (n x == t) refl
   where
-    at : (b : Bool) → (n x == t) ≡ b → times n t xs ≤ 1 → cond b 1 0 + times n t xs ≤ 1
-    at true is rest = omega (arith, none_low n t (n x) xs rises.1 (omega (arith, eqb-true (n x) t is)))
-    at false is rest = omega (arith, rest)
+    at : (b : Bool) → (n x == t) ≡ b → cond b 1 0 + times n t xs ≤ 1
+    at true is = omega (arith, none_low n t (n x) xs rises (omega (arith, eqb-true (n x) t is)))
+    at false is = omega (arith, apart t)
+
+pub rises_apart : {X : Type 0} (n : X → ℕ) (k : ℕ) (xs : List X) → RisesFrom k (map n xs) → AreApart n xs
+rises_apart n k [] rises = λ t. omega arith
+rises_apart n k (x ∷ xs) rises = first_apart n x xs rises.1 (rises_apart n (n x) xs rises.1)
 
 -- a list in whose order no number falls, and that has none twice
 pub sorted_rises : {X : Type 0} (n : X → ℕ) (x : X) (xs : List X) → IsNonDecreasingBy n (x ∷ xs) → AreApart n (x ∷ xs) → RisesFrom (n x) (map n xs)
