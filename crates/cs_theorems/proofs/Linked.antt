@@ -472,15 +472,18 @@ module _ (h : List Entry) (m : Message) (now : List RealmRecord) (q : List Messa
         good = i.good;
       }))
 
+  pub records_rise : (f : ℕ) → TreeAt h → Housed h → Asks h → DrawnAt h
+      → Rises (context h f) (path_context (client_file_path h f) (with_records now (realms h)))
+  records_rise f tree housed asks drawn =
+      context_rises (λ k. is_directory h k) (λ k. all_dir h k) (λ k. all_path h k) (sent_by (is_broken (server_state h)) (last_sent h)) (realms h) now
+      (carried q) (durable h) (client_file_path h f) (all_tree h tree asks) (log_realms h asks i) refl (draws_front 0 (durable h) (fresh h) drawn)
+      (good_front (λ k. is_directory h k) (durable h) (fresh h) i.good)
+      (subst (λ ps. IsWay (λ k. all_path h k) ps) (sym (client_file_way h housed asks f)) ((all_tree h tree asks).ways (client_home h f))) link_now
+
   pub told_rises : (f : ℕ) → TreeAt h → Housed h → Asks h → DrawnAt h
       → Rises (context h f) (path_context (client_file_path h f) (with_first (to_client h) (realms h)))
   told_rises f tree housed asks drawn =
-      subst (λ ts. Rises (context h f) (path_context (client_file_path h f) ts)) (sym records_now)
-      (context_rises (λ k. is_directory h k) (λ k. all_dir h k) (λ k. all_path h k) (sent_by (is_broken (server_state h)) (last_sent h))
-      (realms h) now (carried q) (durable h)
-      (client_file_path h f) (all_tree h tree asks) (log_realms h asks i) refl (draws_front 0 (durable h) (fresh h) drawn)
-      (good_front (λ k. is_directory h k) (durable h) (fresh h) i.good)
-      (subst (λ ps. IsWay (λ k. all_path h k) ps) (sym (client_file_way h housed asks f)) ((all_tree h tree asks).ways (client_home h f))) link_now)
+      subst (λ ts. Rises (context h f) (path_context (client_file_path h f) ts)) (sym records_now) (records_rise f tree housed asks drawn)
 
   pub told_parents : ParentsAreKnown (realms h) now
   told_parents = link_now.links.4
