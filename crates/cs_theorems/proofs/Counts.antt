@@ -118,13 +118,13 @@ snaps_few p h run = of_run p SnapsAreFew (omega arith) (λ g x fit before i. few
 
 -- The records that aren't durable
 
-recorded_few : (q : List Message) → length (recorded q) ≤ 1
+pub recorded_few : (q : List Message) → length (recorded q) ≤ 1
 recorded_few [] = omega arith
 recorded_few (messages.Flush f tid follows meta ∷ q) = omega arith
 recorded_few (messages.FlushSnap f tid follows meta ∷ q) = omega arith
 recorded_few (_ ∷ q) = omega arith
 
-requested_few : (o : OpAnswer) (q : List Message) → length (requested o q) ≤ 1
+pub requested_few : (o : OpAnswer) (q : List Message) → length (requested o q) ≤ 1
 requested_few o [] = omega arith
 requested_few o (messages.Req tid ino op ∷ q) = omega arith
 requested_few o (_ ∷ q) = omega arith

@@ -29,7 +29,7 @@ use Rattle.cs_laws.specs.Runs.{IsRun}
 use Rattle.cs_laws.specs.Spellings.{most_items, seqs_ascend, seqs_fit}
 use Rattle.cs_laws.specs.Standing.{durable_then, fresh_then, greatest_number, recorded, requested}
 use Rattle.cs_theorems.proofs.Along.{Along}
-use Rattle.cs_theorems.proofs.Counts.{greatest_append, snaps_few}
+use Rattle.cs_theorems.proofs.Counts.{greatest_append, recorded_few, requested_few, snaps_few}
 use Rattle.cs_theorems.proofs.Course.{course_run}
 use Rattle.cs_theorems.proofs.Linked.{log_realms}
 use Rattle.cs_theorems.proofs.Links.{IsFront}
@@ -169,33 +169,22 @@ realm_among d rs is =
     ⊎_elim (λ top. inl (let same : d ≡ 1 = eqb-true d 1 top in sym same)) (λ there. inr (snapped d rs there))
     (or_cases (d == 1) (list_any (λ r. is_snap_of d r.body) rs) is)
 
--- one record more where a message is delivered
-recorded_one : (q : List Message) → length (recorded q) ≤ 1
-recorded_one [] = omega arith
-recorded_one (messages.Flush f tid follows meta ∷ q) = omega arith
-recorded_one (messages.FlushSnap f tid follows meta ∷ q) = omega arith
-recorded_one (_ ∷ q) = omega arith
-
-requested_one : (o : OpAnswer) (q : List Message) → length (requested o q) ≤ 1
-requested_one o [] = omega arith
-requested_one o (messages.Req tid ino op ∷ q) = omega arith
-requested_one o (_ ∷ q) = omega arith
-
+-- one record more at most
 stand_more : (x : Event) (y : Answer) (q : List Message) (fs ds : List Record) (n : ℕ) → length (ds ++ fs) ≤ n
     → length (durable_then x y fs ds ++ fresh_then x y q fs) ≤ n + 1
 stand_more e.ToMds (a.Req tid o) q fs ds n few =
     omega (
       arith,
       few,
-      recorded_one q,
-      requested_one o q,
+      recorded_few q,
+      requested_few o q,
       length-append ds fs,
       length-append ds (fs ++ requested o q),
       length-append fs
           (requested o q),
     )
 stand_more e.ToMds (a.Flushed f tid) q fs ds n few =
-    omega (arith, few, recorded_one q, length-append ds fs, length-append ds (fs ++ recorded q), length-append fs (recorded q))
+    omega (arith, few, recorded_few q, length-append ds fs, length-append ds (fs ++ recorded q), length-append fs (recorded q))
 stand_more (e.Snap d name) (a.Snap number) q fs ds n few =
     let r : Record = record { body = bodies.Snap number d name } in omega
     (arith, few, length-append ds fs, length-append ds (fs ++ r ∷ []), length-append fs (r ∷ []))
