@@ -83,18 +83,18 @@ no_unsafe_news before realms (bodies.Flush snap f tid follows meta) = refl
 no_unsafe_news before realms (bodies.Snap n d name) = refl
 no_unsafe_news before realms (bodies.Removal s n) = refl
 
-one_answer : (tid : ℕ) (o : OpAnswer) (ds : List Record) → unsafe_tids (answered_again tid o ds) ≡ tid ∷ []
+pub one_answer : (tid : ℕ) (o : OpAnswer) (ds : List Record) → unsafe_tids (answered_again tid o ds) ≡ tid ∷ []
 one_answer tid o ds = cond_both (has_request tid ds) _ _ (λ q. unsafe_tids (messages.Unsafe tid o 0 ∷ q) ≡ tid ∷ []) (λ _. refl) (λ _. refl)
 
 pub no_unsafe_resumption : (b : Bool) (all : List RealmRecord) → unsafe_tids (resumption b all) ≡ []
 no_unsafe_resumption b all = no_unsafe (resumption b all) (each_resumption (λ m. unsafe_on m ≡ None) b all refl)
 
 -- messages more, none of which is an answer
-moved_more : (q r : List Message) (ts : List ℕ) → unsafe_tids r ≡ [] → unsafe_tids q ++ ts ≡ unsafe_tids (q ++ r) ++ ts
+pub moved_more : (q r : List Message) (ts : List ℕ) → unsafe_tids r ≡ [] → unsafe_tids q ++ ts ≡ unsafe_tids (q ++ r) ++ ts
 moved_more q r ts none = ap (λ us. us ++ ts) (sym (unsafe_append q r ∙ (ap (λ us. unsafe_tids q ++ us) none ∙ append-nil (unsafe_tids q))))
 
 -- one answer to the request that arrives
-moved_answer : (q r : List Message) (ts : List ℕ) (t : ℕ) → unsafe_tids r ≡ t ∷ [] → unsafe_tids q ++ t ∷ ts ≡ unsafe_tids (q ++ r) ++ ts
+pub moved_answer : (q r : List Message) (ts : List ℕ) (t : ℕ) → unsafe_tids r ≡ t ∷ [] → unsafe_tids q ++ t ∷ ts ≡ unsafe_tids (q ++ r) ++ ts
 moved_answer q r ts t one =
     sym (append_assoc (unsafe_tids q) (t ∷ []) ts) ∙ ap (λ us. us ++ ts) (sym (unsafe_append q r ∙ ap (λ us. unsafe_tids q ++ us) one))
 
@@ -499,10 +499,10 @@ active_all h x phase now stands active =
     (settled (client_state g) (server_state g) (to_client g) (to_server g) active now)
 
 -- what the server tells with the last of what is sent again
-abbrev Goes : List Entry → List Message
+abbrev pub Goes : List Entry → List Message
 Goes h = resumption (is_last (server_state h)) (all_realms h)
 
-none_goes : (h : List Entry) → unsafe_tids (Goes h) ≡ []
+pub none_goes : (h : List Entry) → unsafe_tids (Goes h) ≡ []
 none_goes h = no_unsafe_resumption (is_last (server_state h)) (all_realms h)
 
 step_server : (h : List Entry) (x : Answer) → ReceivedIs h x

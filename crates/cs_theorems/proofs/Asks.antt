@@ -76,14 +76,10 @@ asks_run p h run =
 pub goes_by : (p : ℕ) (h : List Entry) (x : Event) → CanFollow h x → IsRun p h → Goes p h x
 goes_by p h x can run = record { can = can; now = asks_run p (entry p h x ∷ h) ((can, refl), run) }
 
--- nothing is lost yet
-always_active : (h : List Entry) → is_active (server_state h) ≡ true
-always_active [] = refl
-always_active (x ∷ h) = always_active h
-
--- the server knows what the client knows
-pub client_in_server : (p : ℕ) (h : List Entry) → IsRun p h → (f : ℕ) → client_knows h f ≡ true → server_knows h f ≡ true
-client_in_server p h run f known = server_knows_too p h f run (always_active h) known
+-- while its session is active the server knows what the client knows
+pub client_in_server : (p : ℕ) (h : List Entry) → IsRun p h → is_active (server_state h) ≡ true → (f : ℕ) → client_knows h f ≡ true
+    → server_knows h f ≡ true
+client_in_server p h run active f known = server_knows_too p h f run active known
 
 -- what one of these makes
 made_among : (xs : List Asked) (x : Asked) (f : ℕ) → Member x xs → makes_file f (made_by (Some x.op) x.answer) ≡ true → makes_file f (asked_made xs) ≡ true

@@ -49,6 +49,7 @@ pub mod AskedStands
 pub mod AskedTold
 pub mod Answered
 pub mod Flying
+pub mod Repeats
 pub mod Unused
 pub mod Added
 pub mod Asks
