@@ -47,7 +47,7 @@ use Rattle.cs_theorems.specs.Told.{changes_realms, told_realms}
 use Rattle.cs_theorems.proofs.Along.{Along, along_first, breaks, context_rises, delivers, forgets, grows, makes, realms_made}
 use Rattle.cs_theorems.proofs.Asked.{made_append}
 use Rattle.cs_theorems.proofs.Asks.{Asks, Goes, IsEarly}
-use Rattle.cs_theorems.proofs.Commits.{AreSent, Told, none_sent_of, realm_named, realm_there, told_all, told_commit}
+use Rattle.cs_theorems.proofs.Commits.{AreSent, none_sent_of, realm_named, realm_there, told_all, told_commit}
 use Rattle.cs_theorems.proofs.Drawn.{DrawnAt, draws_front}
 use Rattle.cs_theorems.proofs.Fronts.{root_has}
 use Rattle.cs_theorems.proofs.Inversions.{FirstIs, first_idle, first_cap, first_flush_ack, first_unsafe, first_safe, first_unlease, first_snap, first_resumed, first_is, GrantIs, grant_unknown, grant_session, grant_sent, grant_is, ReceivedIs, received_idle, received_ack, received_reconnect, received_flush, received_again, received_req, received_req_again, received_is, ReqIs, req_session, req_sent, req_is, RemoveIs, remove_none, remove_gone, remove_session, removed, remove_is, revoke_is, SnapIs, snap_unknown, snap_session, snap_exists, snap_taken, snap_is, UnleaseIs, unlease_unknown, unlease_session, unlease_sent, unlease_is}
