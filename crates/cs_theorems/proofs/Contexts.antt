@@ -5,7 +5,7 @@ use Rattle.std.proofs.lemmas.Bool.{and_parts, both_ways, le-leb, leb-true, or_ca
 use Rattle.cs_snapctx.specs.declared.realm.RealmRecord.{RealmRecord}
 use Rattle.cs_snapctx.specs.Context.{Context, empty_context, merged}
 use Rattle.cs_snapctx.specs.Contexts.{context as realm_context, context_of}
-use Rattle.cs_snapctx.specs.Records.{is_known, root_record}
+use Rattle.cs_snapctx.specs.Records.{is_known, root_record, with_records}
 use Rattle.cs_laws.specs.declared.events.Event.{Event}
 use Rattle.cs_laws.specs.declared.events.Event.TheVariants as e
 use Rattle.cs_laws.specs.declared.answers.Answer.{Answer}
@@ -13,6 +13,7 @@ use Rattle.cs_laws.specs.declared.answers.Answer.TheVariants as a
 use Rattle.cs_laws.specs.declared.answers.Entry.{Entry}
 use Rattle.cs_laws.specs.declared.messages.Message.{Message}
 use Rattle.cs_laws.specs.declared.messages.Message.TheVariants as messages
+use Rattle.cs_laws.specs.Carried.{realms_on}
 use Rattle.cs_laws.specs.Context.{path_context, realms_then, with_first}
 use Rattle.cs_laws.specs.ClientKnows.{client_knows, client_file_path, client_home, client_made}
 use Rattle.cs_laws.specs.Events.{is_setup, setup_file}
@@ -21,7 +22,7 @@ use Rattle.cs_laws.specs.Journal.{entry}
 use Rattle.cs_laws.specs.Owed.{had_reached}
 use Rattle.cs_laws.specs.Runs.{all_setup}
 use Rattle.cs_theorems.specs.Contexts.{ContextsNeverFall, HadContext, Rises}
-use Rattle.cs_theorems.proofs.Linked.{told_rises, log_realms}
+use Rattle.cs_theorems.proofs.Linked.{log_realms, records_rise, told_rises}
 use Rattle.cs_theorems.proofs.Paths.{path_stays, IsWay, setup_path, setup_home}
 use Rattle.cs_theorems.proofs.Settings.{Setting}
 use Rattle.cs_theorems.proofs.Asks.{Asks, Goes, IsEarly}
@@ -39,6 +40,11 @@ use Rattle.cs_laws.specs.Made.{Made, home_with, made_by, makes_file, path_with}
 use Rattle.cs_laws.specs.Realms.{is_realm, own, since_of}
 use Rattle.cs_laws.specs.Requests.{has_reply, op_of, replies, requests}
 use Rattle.cs_laws.specs.Tree.{home, is_directory, path}
+
+-- m: the first message to the client, which carries realm records
+pub records_move : (h : List Entry) (m : Message) (now : List RealmRecord) (q : List Message) (f : ℕ) → to_client h ≡ m ∷ q → realms_on m ≡ Some now
+    → Setting h → Rises (context h f) (path_context (client_file_path h f) (with_records now (realms h)))
+records_move h m now q f there carries i = records_rise h m now q there carries i.front f i.tree i.housed i.asks i.drawn
 
 -- a snapshot or a removal is told
 pub told_moves : (h : List Entry) (n d : ℕ) (now : List RealmRecord) (q : List Message) (f : ℕ) → to_client h ≡ messages.Snap n d now ∷ q → Setting h

@@ -3,7 +3,6 @@ use Rattle.std.proofs.Common.{◌≡◌, refl, ◌∙◌, ℕ, Bool, true, false
 use Rattle.cs_snapctx.specs.declared.realm.RealmRecord.{RealmRecord}
 use Rattle.cs_snapctx.specs.Records.{record_of}
 use Rattle.cs_laws.specs.declared.answers.Entry.{Entry}
-use Rattle.cs_laws.specs.declared.messages.Message.{Message}
 use Rattle.cs_laws.specs.History.{durable, fresh, last_sent}
 use Rattle.cs_laws.specs.Realms.{realm_records}
 use Rattle.cs_laws.specs.Runs.{IsRun}

@@ -47,7 +47,7 @@ use Rattle.cs_theorems.specs.Told.{changes_realms, told_realms}
 use Rattle.cs_theorems.proofs.Along.{Along, along_first, breaks, context_rises, delivers, forgets, grows, makes, realms_made}
 use Rattle.cs_theorems.proofs.Asked.{made_append}
 use Rattle.cs_theorems.proofs.Asks.{Asks, Goes, IsEarly}
-use Rattle.cs_theorems.proofs.Commits.{AreSent, Told, none_sent_of, realm_named, realm_there, told_all, told_commit}
+use Rattle.cs_theorems.proofs.Commits.{AreSent, none_sent_of, realm_named, realm_there, told_all, told_commit}
 use Rattle.cs_theorems.proofs.Drawn.{DrawnAt, draws_front}
 use Rattle.cs_theorems.proofs.Fronts.{root_has}
 use Rattle.cs_theorems.proofs.Inversions.{FirstIs, first_idle, first_cap, first_flush_ack, first_unsafe, first_safe, first_unlease, first_snap, first_resumed, first_is, GrantIs, grant_unknown, grant_session, grant_sent, grant_is, ReceivedIs, received_idle, received_ack, received_reconnect, received_flush, received_again, received_req, received_req_again, received_is, ReqIs, req_session, req_sent, req_is, RemoveIs, remove_none, remove_gone, remove_session, removed, remove_is, revoke_is, SnapIs, snap_unknown, snap_session, snap_exists, snap_taken, snap_is, UnleaseIs, unlease_unknown, unlease_session, unlease_sent, unlease_is}
@@ -472,15 +472,18 @@ module _ (h : List Entry) (m : Message) (now : List RealmRecord) (q : List Messa
         good = i.good;
       }))
 
+  pub records_rise : (f : ℕ) → TreeAt h → Housed h → Asks h → DrawnAt h
+      → Rises (context h f) (path_context (client_file_path h f) (with_records now (realms h)))
+  records_rise f tree housed asks drawn =
+      context_rises (λ k. is_directory h k) (λ k. all_dir h k) (λ k. all_path h k) (sent_by (is_broken (server_state h)) (last_sent h)) (realms h) now
+      (carried q) (durable h) (client_file_path h f) (all_tree h tree asks) (log_realms h asks i) refl (draws_front 0 (durable h) (fresh h) drawn)
+      (good_front (λ k. is_directory h k) (durable h) (fresh h) i.good)
+      (subst (λ ps. IsWay (λ k. all_path h k) ps) (sym (client_file_way h housed asks f)) ((all_tree h tree asks).ways (client_home h f))) link_now
+
   pub told_rises : (f : ℕ) → TreeAt h → Housed h → Asks h → DrawnAt h
       → Rises (context h f) (path_context (client_file_path h f) (with_first (to_client h) (realms h)))
   told_rises f tree housed asks drawn =
-      subst (λ ts. Rises (context h f) (path_context (client_file_path h f) ts)) (sym records_now)
-      (context_rises (λ k. is_directory h k) (λ k. all_dir h k) (λ k. all_path h k) (sent_by (is_broken (server_state h)) (last_sent h))
-      (realms h) now (carried q) (durable h)
-      (client_file_path h f) (all_tree h tree asks) (log_realms h asks i) refl (draws_front 0 (durable h) (fresh h) drawn)
-      (good_front (λ k. is_directory h k) (durable h) (fresh h) i.good)
-      (subst (λ ps. IsWay (λ k. all_path h k) ps) (sym (client_file_way h housed asks f)) ((all_tree h tree asks).ways (client_home h f))) link_now)
+      subst (λ ts. Rises (context h f) (path_context (client_file_path h f) ts)) (sym records_now) (records_rise f tree housed asks drawn)
 
   pub told_parents : ParentsAreKnown (realms h) now
   told_parents = link_now.links.4

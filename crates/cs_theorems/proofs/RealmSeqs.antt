@@ -1,13 +1,13 @@
 -- The realms that the client reports when it reconnects: each is a realm of the durable log, with a seq up to the greatest number there, and
 -- they come by rising inodes.
-use Rattle.std.proofs.Common.{◌≡◌, ◌⊎◌, refl, sym, ap, ◌∙◌, subst, ℕ, ◌+◌, ◌<◌, ◌≤◌, ◌==◌, ◌||◌, ◌&&◌, Bool, true, false, cond, max, nat_le, nat_lt, List, [], ◌∷◌, ◌++◌, Option, Some, None, is_some, find, length, map, take, unwrap_or, append_assoc, inl, inr, ⊎_elim, arith}
+use Rattle.std.proofs.Common.{◌≡◌, refl, sym, ap, ◌∙◌, subst, ℕ, ◌+◌, ◌<◌, ◌≤◌, ◌==◌, Bool, true, false, cond, nat_le, nat_lt, List, [], ◌∷◌, ◌++◌, Some, None, is_some, find, length, map, take, unwrap_or, inl, inr, ⊎_elim, arith}
 use Rattle.std.specs.List.{list_any}
-use Rattle.std.specs.Option.{option_and_then, option_map}
-use Rattle.std.proofs.lemmas.Bool.{and_from, both_ways, cond-true, eqb-true, eq-eqb, false≢true, le-leb, lt-ltb, or_cases}
-use Rattle.std.proofs.lemmas.List.{append-nil, length-append, length-map, length-take}
+use Rattle.std.specs.Option.{option_and_then}
+use Rattle.std.proofs.lemmas.Bool.{and_from, cond-true, eqb-true, eq-eqb, false≢true, le-leb, lt-ltb, or_cases}
+use Rattle.std.proofs.lemmas.List.{length-append, length-map, length-take}
 use Rattle.cs_snapctx.specs.declared.realm.RealmRecord.{RealmRecord}
 use Rattle.cs_snapctx.specs.Context.{Context, empty_context}
-use Rattle.cs_snapctx.specs.Contexts.{context as realm_context, context_of}
+use Rattle.cs_snapctx.specs.Contexts.{context as realm_context}
 use Rattle.cs_snapctx.specs.Records.{is_known, is_of, record_of}
 use Rattle.cs_laws.specs.declared.events.Event.{Event}
 use Rattle.cs_laws.specs.declared.events.Event.TheVariants as e
@@ -15,26 +15,21 @@ use Rattle.cs_laws.specs.declared.answers.Answer.{Answer}
 use Rattle.cs_laws.specs.declared.answers.Answer.TheVariants as a
 use Rattle.cs_laws.specs.declared.answers.Entry.{Entry}
 use Rattle.cs_laws.specs.declared.messages.Message.{Message}
-use Rattle.cs_laws.specs.declared.messages.Message.TheVariants as messages
 use Rattle.cs_laws.specs.declared.records.Record.{Record}
 use Rattle.cs_laws.specs.declared.records.RecordBody.{RecordBody}
 use Rattle.cs_laws.specs.declared.records.RecordBody.TheVariants as bodies
 use Rattle.cs_laws.specs.declared.reports.RealmSeq.{RealmSeq}
-use Rattle.cs_laws.specs.declared.requests.OpAnswer.{OpAnswer}
 use Rattle.cs_laws.specs.Context.{path_context}
 use Rattle.cs_laws.specs.History.{durable, fresh, realms, stand, to_server}
-use Rattle.cs_laws.specs.Realms.{is_realm, is_snap_of, realm_record}
+use Rattle.cs_laws.specs.Realms.{is_realm, is_snap_of}
 use Rattle.cs_laws.specs.Reports.{realm_seqs, rising, seq_of}
 use Rattle.cs_laws.specs.Runs.{IsRun}
 use Rattle.cs_laws.specs.Spellings.{most_items, seqs_ascend, seqs_fit}
 use Rattle.cs_laws.specs.Standing.{durable_then, fresh_then, greatest_number, recorded, requested}
-use Rattle.cs_theorems.proofs.Along.{Along}
-use Rattle.cs_theorems.proofs.Counts.{greatest_append, snaps_few}
+use Rattle.cs_theorems.proofs.Counts.{greatest_append, recorded_few, requested_few, snaps_few}
 use Rattle.cs_theorems.proofs.Course.{course_run}
 use Rattle.cs_theorems.proofs.Linked.{log_realms}
-use Rattle.cs_theorems.proofs.Links.{IsFront}
 use Rattle.cs_theorems.proofs.Listed.{Each, Member}
-use Rattle.cs_theorems.proofs.Paths.{Tree}
 use Rattle.cs_theorems.proofs.RealmPaths.{path_is_way, way_context}
 use Rattle.cs_theorems.proofs.RisingInodes.{Rise, member_rising, rise_few, rising_rises}
 use Rattle.cs_theorems.proofs.Settings.{Setting}
@@ -169,33 +164,22 @@ realm_among d rs is =
     ⊎_elim (λ top. inl (let same : d ≡ 1 = eqb-true d 1 top in sym same)) (λ there. inr (snapped d rs there))
     (or_cases (d == 1) (list_any (λ r. is_snap_of d r.body) rs) is)
 
--- one record more where a message is delivered
-recorded_one : (q : List Message) → length (recorded q) ≤ 1
-recorded_one [] = omega arith
-recorded_one (messages.Flush f tid follows meta ∷ q) = omega arith
-recorded_one (messages.FlushSnap f tid follows meta ∷ q) = omega arith
-recorded_one (_ ∷ q) = omega arith
-
-requested_one : (o : OpAnswer) (q : List Message) → length (requested o q) ≤ 1
-requested_one o [] = omega arith
-requested_one o (messages.Req tid ino op ∷ q) = omega arith
-requested_one o (_ ∷ q) = omega arith
-
+-- one record more at most
 stand_more : (x : Event) (y : Answer) (q : List Message) (fs ds : List Record) (n : ℕ) → length (ds ++ fs) ≤ n
     → length (durable_then x y fs ds ++ fresh_then x y q fs) ≤ n + 1
 stand_more e.ToMds (a.Req tid o) q fs ds n few =
     omega (
       arith,
       few,
-      recorded_one q,
-      requested_one o q,
+      recorded_few q,
+      requested_few o q,
       length-append ds fs,
       length-append ds (fs ++ requested o q),
       length-append fs
           (requested o q),
     )
 stand_more e.ToMds (a.Flushed f tid) q fs ds n few =
-    omega (arith, few, recorded_one q, length-append ds fs, length-append ds (fs ++ recorded q), length-append fs (recorded q))
+    omega (arith, few, recorded_few q, length-append ds fs, length-append ds (fs ++ recorded q), length-append fs (recorded q))
 stand_more (e.Snap d name) (a.Snap number) q fs ds n few =
     let r : Record = record { body = bodies.Snap number d name } in omega
     (arith, few, length-append ds fs, length-append ds (fs ++ r ∷ []), length-append fs (r ∷ []))

@@ -3,9 +3,9 @@ use Rattle.std.proofs.Common.{◌≡◌, sym, subst, ℕ, ◌<◌, ◌≤◌, tr
 use Rattle.std.specs.List.{list_any}
 use Rattle.std.proofs.lemmas.Bool.{and_parts, ltb-true, or_cases}
 use Rattle.cs_laws.specs.declared.answers.Entry.{Entry}
-use Rattle.cs_laws.specs.Flushes.{Flush, acked, flush_record}
+use Rattle.cs_laws.specs.Flushes.{Flush, acked, flush_record, is_later}
 use Rattle.cs_laws.specs.History.{durable, fresh, sent, stand}
-use Rattle.cs_laws.specs.Owed.{is_acked, is_later}
+use Rattle.cs_laws.specs.Owed.{is_acked}
 use Rattle.cs_laws.specs.Laws.{tids}
 use Rattle.cs_theorems.specs.Flushes.{FlushesReplay, flushes_in}
 use Rattle.cs_theorems.proofs.Acks.{AllAcked}

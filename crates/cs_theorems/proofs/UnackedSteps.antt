@@ -10,10 +10,10 @@ use Rattle.cs_laws.specs.declared.events.Event.{Event}
 use Rattle.cs_laws.specs.declared.events.Event.TheVariants as e
 use Rattle.cs_laws.specs.declared.answers.Answer.{Answer}
 use Rattle.cs_laws.specs.declared.answers.Entry.{Entry}
-use Rattle.cs_laws.specs.Flushes.{Flush, acked, flush_snap}
+use Rattle.cs_laws.specs.Flushes.{Flush, acked, flush_snap, is_later}
 use Rattle.cs_laws.specs.History.{present, queued, sent, writes}
 use Rattle.cs_laws.specs.Journal.{entry}
-use Rattle.cs_laws.specs.Owed.{is_acked, is_later}
+use Rattle.cs_laws.specs.Owed.{is_acked}
 use Rattle.cs_laws.specs.CapSnaps.{queued_mode}
 use Rattle.cs_laws.specs.Runs.{IsRun}
 use Rattle.cs_theorems.specs.Unacked.{sent_of, unacked}
