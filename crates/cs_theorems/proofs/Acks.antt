@@ -1,5 +1,5 @@
 -- What is acknowledged is durable: each acknowledgement of a flush, told or on its way, is of a durable record.
-use Rattle.std.proofs.Common.{◌≡◌, refl, sym, ℕ, Bool, true, cond, ◌==◌, ◌&&◌, List, [], ◌∷◌, ◌++◌, append_assoc, inl, subst}
+use Rattle.std.proofs.Common.{◌≡◌, refl, sym, ℕ, Bool, true, cond, ◌==◌, ◌&&◌, List, [], ◌∷◌, ◌++◌, append_assoc, take, inl, subst}
 use Rattle.std.proofs.lemmas.Bool.{and_parts, cond_both, eqb-true, eq-eqb, true≢false}
 use Rattle.cs_bits.specs.declared.Caps.{Caps}
 use Rattle.cs_snapctx.specs.declared.realm.RealmRecord.{RealmRecord}
@@ -15,18 +15,20 @@ use Rattle.cs_laws.specs.declared.records.RecordBody.{RecordBody}
 use Rattle.cs_laws.specs.declared.records.RecordBody.TheVariants as bodies
 use Rattle.cs_laws.specs.Flight.{acked_again, cap_message, answered_again, unsafe_message}
 use Rattle.cs_laws.specs.Flushes.{acked}
-use Rattle.cs_laws.specs.History.{durable, fresh, last_sent, server, to_client}
+use Rattle.cs_laws.specs.History.{durable, fresh, last_sent, server, stand, to_client}
 use Rattle.cs_laws.specs.Journal.{entry}
 use Rattle.cs_laws.specs.Carried.{realms_of}
-use Rattle.cs_laws.specs.Standing.{news, news_of, news_on}
+use Rattle.cs_laws.specs.Sessions.{is_broken, server_state}
+use Rattle.cs_laws.specs.Standing.{news, news_of, news_on, resumption}
 use Rattle.cs_snapctx.specs.Records.{with_records}
 use Rattle.cs_laws.specs.Realms.{differing, realm_records}
 use Rattle.cs_laws.specs.Laws.{tids}
 use Rattle.cs_laws.specs.Runs.{IsRun}
 use Rattle.cs_theorems.proofs.Listed.{Member, Each, each_nil, each_cons, each_append, each_end, each_tail, member_left, member_right}
-use Rattle.cs_theorems.proofs.News.{each_again, each_answered}
+use Rattle.cs_theorems.proofs.News.{each_again, each_answered, each_resumption}
 use Rattle.cs_theorems.proofs.Rising.{at_first}
-use Rattle.cs_theorems.proofs.Standing.{flush_stands, tids_append}
+use Rattle.cs_theorems.proofs.Standing.{HasTid, flush_stands, tid_has, tids_append}
+use Rattle.cs_theorems.specs.Flushes.{flushes_in}
 use Rattle.cs_theorems.proofs.Runs.{of_run}
 use Rattle.cs_theorems.proofs.Inversions.{FirstIs, first_idle, first_cap, first_flush_ack, first_unsafe, first_resumed, first_safe, first_unlease, first_snap, first_is, GrantIs, grant_unknown, grant_session, grant_sent, grant_is, revoke_is, ReceivedIs, received_idle, received_ack, received_flush, received_again, received_reconnect, received_req, received_req_again, received_is, UnleaseIs, unlease_unknown, unlease_session, unlease_sent, unlease_is}
 use Rattle.cs_laws.specs.declared.requests.OpAnswer.{OpAnswer}
@@ -99,18 +101,27 @@ acks_commit f up dirs ss ds fs q was i = record {
   told = λ n is. stands_left f n ds fs (i.told n is);
 }
 
--- a flush came again
-acks_again : (f g tid : ℕ) (ds : List Record) (q : List Message) (was : ℕ → Bool) → Acks f ds q was → Acks f ds (q ++ acked_again g tid ds) was
-acks_again f g tid ds q was i = record {
-  flying = each_append (λ m. AckStands ds m) q (acked_again g tid ds) i.flying
-      (each_again (λ m. AckStands ds m) g tid ds (λ there. flush_stands g tid ds there));
-  told = i.told;
-}
+-- records become durable, and nothing is told
+acks_longer : (f : ℕ) (ds fs : List Record) (q : List Message) (was : ℕ → Bool) → Acks f ds q was → Acks f (ds ++ fs) q was
+acks_longer f ds fs q was i = record { flying = λ m there. ack_stays ds fs m (i.flying m there); told = λ n is. stands_left f n ds fs (i.told n is) }
 
--- a request did
-acks_answered : (f tid : ℕ) (o : OpAnswer) (ds : List Record) (q : List Message) (was : ℕ → Bool) → Acks f ds q was → Acks f ds (q ++ answered_again tid o ds) was
-acks_answered f tid o ds q was i =
-    record { flying = each_append (λ m. AckStands ds m) q (answered_again tid o ds) i.flying (each_answered (λ m. AckStands ds m) tid o ds tt tt); told = i.told }
+-- what is on its way is lost
+acks_lost : (f : ℕ) (ds : List Record) (q : List Message) (was : ℕ → Bool) → Acks f ds q was → Acks f ds [] was
+acks_lost f ds q was i = record { flying = each_nil (λ m. AckStands ds m); told = i.told }
+
+-- more is sent
+acks_more : (f : ℕ) (ds : List Record) (q new : List Message) (was : ℕ → Bool) → Each (λ m. AckStands ds m) new → Acks f ds q was → Acks f ds (q ++ new) was
+acks_more f ds q new was all i = record { flying = each_append (λ m. AckStands ds m) q new i.flying all; told = i.told }
+
+resumed_stands : (ds : List Record) (b : Bool) (all : List RealmRecord) → Each (λ m. AckStands ds m) (resumption b all)
+resumed_stands ds b all = each_resumption (λ m. AckStands ds m) b all tt
+
+-- a flush came again, or a request
+again_stands : (f tid : ℕ) (ds : List Record) → Each (λ m. AckStands ds m) (acked_again f tid ds)
+again_stands f tid ds = each_again (λ m. AckStands ds m) f tid ds (λ there. flush_stands f tid ds there)
+
+answered_stands : (tid : ℕ) (o : OpAnswer) (ds : List Record) → Each (λ m. AckStands ds m) (answered_again tid o ds)
+answered_stands tid o ds = each_answered (λ m. AckStands ds m) tid o ds tt tt
 
 -- Steps
 
@@ -167,10 +178,20 @@ step_to_client h x (first_snap number realm now q is) i = λ f.
 step_server : (h : List Entry) (x : Answer) → ReceivedIs h x → AllAcked h → AllAcked (record { event = e.ToMds; answer = x } ∷ h)
 step_server h x received_idle i = i
 step_server h x (received_ack g seq bits q is) i = i
-step_server h x (received_flush y q is first) i = i
-step_server h x (received_again y q is again) i = λ f. acks_again f y.file y.tid (durable h) (to_client h) (λ n. acked h f n) (i f)
-step_server h x (received_req tid ino op q is first) i = λ f. acks_message f (durable h) (to_client h) (λ n. acked h f n) (unsafe_message tid (answer_on (names h) op)) tt (i f)
-step_server h x (received_req_again tid ino op q is again) i = λ f. acks_answered f tid _ (durable h) (to_client h) (λ n. acked h f n) (i f)
+step_server h x (received_reconnect caps known resends q is) i = λ f.
+    acks_more f (durable h) (to_client h) _ (λ n. acked h f n) (resumed_stands (durable h) _ _) (i f)
+step_server h x (received_flush y q is first) i = λ f.
+    acks_more f (durable h) (to_client h) _ (λ n. acked h f n) (resumed_stands (durable h) _ _) (i f)
+step_server h x (received_again y q is again) i = λ f.
+    acks_more f (durable h) (to_client h) _ (λ n. acked h f n)
+    (each_append (λ m. AckStands (durable h) m) (acked_again y.file y.tid (durable h)) _ (again_stands y.file y.tid (durable h)) (resumed_stands (durable h) _ _))
+    (i f)
+step_server h x (received_req tid ino op q is first) i = λ f.
+    acks_more f (durable h) (to_client h) _ (λ n. acked h f n)
+    (each_cons (λ m. AckStands (durable h) m) (unsafe_message (server_state h) tid (answer_on (names h) op)) _ tt (resumed_stands (durable h) _ _)) (i f)
+step_server h x (received_req_again tid ino op q is again) i = λ f.
+    acks_more f (durable h) (to_client h) _ (λ n. acked h f n)
+    (each_append (λ m. AckStands (durable h) m) (answered_again tid _ (durable h)) _ (answered_stands tid _ (durable h)) (resumed_stands (durable h) _ _)) (i f)
 
 step_unlease : (h : List Entry) (d : ℕ) (name : List ℕ) (x : Answer) → UnleaseIs h x → AllAcked h → AllAcked (record { event = e.Unlease d name; answer = x } ∷ h)
 step_unlease h d name x unlease_unknown i = i
@@ -183,8 +204,13 @@ acked_step p h (e.Revoke g bits) i = step_revoke h g bits _ (revoke_is h g bits)
 acked_step p h e.ToClient i = step_to_client h _ (first_is h) i
 acked_step p h e.ToMds i = step_server h _ (received_is h) i
 acked_step p h (e.Unlease d name) i = step_unlease h d name _ (unlease_is h d) i
-acked_step p h e.Commit i =
-    λ f. acks_commit f (λ d. server_path h d) (server_dirs h) (last_sent h) (durable h) (fresh h) (to_client h) (λ n. acked h f n) (i f)
+acked_step p h e.Commit i = λ f.
+    cond_both (is_broken (server_state h)) _ _ (λ q. Acks f (durable h ++ fresh h) q (λ n. acked h f n))
+    (λ _. acks_longer f (durable h) (fresh h) (to_client h) (λ n. acked h f n) (i f))
+    (λ _. acks_commit f (λ d. server_path h d) (server_dirs h) (last_sent h) (durable h) (fresh h) (to_client h) (λ n. acked h f n) (i f))
+acked_step p h e.DropLinks i = λ f. acks_lost f (durable h) (to_client h) (λ n. acked h f n) (i f)
+acked_step p h (e.Failover keep) i = λ f.
+    acks_longer f (durable h) (take keep (fresh h)) [] (λ n. acked h f n) (acks_lost f (durable h) (to_client h) (λ n. acked h f n) (i f))
 acked_step p h _ i = i
 
 pub acked_first : AllAcked []
@@ -192,3 +218,9 @@ acked_first f = record { flying = each_nil (λ m. AckStands [] m); told = λ n i
 
 pub run_acked : (p : ℕ) (h : List Entry) → IsRun p h → AllAcked h
 run_acked p h run = of_run p AllAcked acked_first (λ g x fit before i. acked_step p g x i) h run
+
+-- what the client was told of stands
+pub acked_stands : (h : List Entry) → AllAcked h → (f n : ℕ) → acked h f n ≡ true → HasTid f n (flushes_in (stand h))
+acked_stands h acks f n was =
+    tid_has f n (stand h)
+    (subst (λ ns. Member n ns) (sym (tids_append f (durable h) (fresh h))) (member_left n (tids f (durable h)) (tids f (fresh h)) ((acks f).told n was)))

@@ -231,7 +231,7 @@ module _ (p : ℕ) (h : List Entry) (run : IsRun p h) where
           let same : a.0 ≡ b.0 =
           same_member tid_of 0 (unacked_reports h) a.0 b.0 reports_rise
           (kept_among f a.0 (member_left a.0 heads tails a.1)) (kept_among f b.0 (member_right b.0 heads tails b.1)) (a.2 ∙ sym b.2) in
-          both_ways true (ap (λ (r : FlushReport). r.snap) (u.2 ∙ (same ∙ sym v.2)) ∙ refl) refl
+          both_ways true (sym (ap (λ (r : FlushReport). r.snap) (u.2 ∙ (same ∙ sym v.2)))) refl
 
       one : (a b : ℕ) → times tid_of t heads ≡ a → times tid_of t tails ≡ b → a ≤ 1 → b ≤ 1 → a + b ≤ 1
       one zero b is other low high = omega (arith, high)

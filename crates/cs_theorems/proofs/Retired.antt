@@ -1,30 +1,23 @@
 -- Each flush that is acknowledged, by its own number or by that of a later one, stands in the server's log.
-use Rattle.std.proofs.Common.{◌≡◌, sym, subst, ℕ, ◌<◌, ◌≤◌, true, not, ◌==◌, ◌&&◌, nat_lt, List, arith, ⊎_elim}
+use Rattle.std.proofs.Common.{◌≡◌, ℕ, ◌<◌, ◌≤◌, true, not, ◌==◌, ◌&&◌, nat_lt, List, arith, ⊎_elim}
 use Rattle.std.specs.List.{list_any}
 use Rattle.std.proofs.lemmas.Bool.{and_parts, ltb-true, or_cases}
 use Rattle.cs_laws.specs.declared.answers.Entry.{Entry}
 use Rattle.cs_laws.specs.Flushes.{Flush, acked, flush_record, is_later}
-use Rattle.cs_laws.specs.History.{durable, fresh, sent, stand}
+use Rattle.cs_laws.specs.History.{sent, stand}
 use Rattle.cs_laws.specs.Owed.{is_acked}
-use Rattle.cs_laws.specs.Laws.{tids}
 use Rattle.cs_theorems.specs.Flushes.{FlushesReplay, flushes_in}
-use Rattle.cs_theorems.proofs.Acks.{AllAcked}
+use Rattle.cs_theorems.proofs.Acks.{AllAcked, acked_stands}
 use Rattle.cs_theorems.proofs.FlushReplays.{earlier_stands}
-use Rattle.cs_theorems.proofs.Listed.{Member, member_left}
-use Rattle.cs_theorems.proofs.Standing.{HasTid, tid_has, tids_append}
+use Rattle.cs_theorems.proofs.Listed.{Member}
+use Rattle.cs_theorems.proofs.Standing.{HasTid}
 use Rattle.cs_theorems.proofs.Tests.{any_some}
-
--- what the client was told of stands
-pub told_stands : (h : List Entry) → AllAcked h → (f n : ℕ) → acked h f n ≡ true → HasTid f n (flushes_in (stand h))
-told_stands h acks f n was =
-    tid_has f n (stand h)
-    (subst (λ ns. Member n ns) (sym (tids_append f (durable h) (fresh h))) (member_left n (tids f (durable h)) (tids f (fresh h)) ((acks f).told n was)))
 
 -- a flush that was sent before one of which the client was told, or is it, stands
 upto_told : (h : List Entry) → FlushesReplay h → AllAcked h → (x : Flush) (f n : ℕ) → Member x (sent h) → x.tid ≤ n → acked h f n ≡ true
     → Member (flush_record x) (stand h)
 upto_told h i acks x f n there low was =
-    let y : HasTid f n (flushes_in (stand h)) = told_stands h acks f n was in
+    let y : HasTid f n (flushes_in (stand h)) = acked_stands h acks f n was in
     earlier_stands h i x y.flush there y.there (omega (arith, low, y.tid))
 
 pub retired_stands : (h : List Entry) → FlushesReplay h → AllAcked h → (x : Flush) → Member x (sent h) → is_acked h x ≡ true

@@ -21,14 +21,13 @@ use Rattle.cs_laws.specs.References.{named, without_named}
 use Rattle.cs_laws.specs.Runs.{IsRun}
 use Rattle.cs_theorems.specs.Flushes.{FlushesAreNumbered, flushes_in}
 use Rattle.cs_theorems.specs.Queues.{snaps, with_ended}
-use Rattle.cs_theorems.proofs.Acks.{run_acked}
+use Rattle.cs_theorems.proofs.Acks.{acked_stands, run_acked}
 use Rattle.cs_theorems.proofs.FlushReplays.{flushes_numbered}
 use Rattle.cs_theorems.proofs.Inversions.{FlushIs, head_unknown, head_session, head_snap, head_clean, head_sent, flush_is, FlushSnapsIs, flush_unknown, flush_session, flush_none, flush_writing, flush_sent, flush_snaps_is, FirstIs, first_idle, first_cap, first_flush_ack, first_unsafe, first_safe, first_unlease, first_snap, first_resumed, first_is, EndIs, end_unknown, ended, end_is}
 use Rattle.cs_theorems.proofs.Listed.{Member}
 use Rattle.cs_theorems.proofs.QueueAnswers.{queue_first, queue_order}
 use Rattle.cs_theorems.proofs.Queues.{IsFirst}
 use Rattle.cs_theorems.proofs.Numbered.{upto_numbered}
-use Rattle.cs_theorems.proofs.Retired.{told_stands}
 use Rattle.cs_theorems.proofs.Standing.{HasTid, has_record}
 use Rattle.cs_theorems.proofs.Runs.{of_run}
 use Rattle.cs_theorems.proofs.Waiting.{Waiting, waiting_beside, waiting_finished, waiting_first, waiting_left, waiting_made, waiting_sent}
@@ -61,7 +60,7 @@ pub next_unacked : (p : ℕ) (h : List Entry) → IsRun p h → (f : ℕ) → ac
 next_unacked p h run f =
     false_from_ne_true (acked h f (length (sent h) + 1)) (λ told.
     let i : FlushesAreNumbered h = flushes_numbered p h run in
-    let y : HasTid f (length (sent h) + 1) (flushes_in (stand h)) = told_stands h (run_acked p h run) f (length (sent h) + 1) told in
+    let y : HasTid f (length (sent h) + 1) (flushes_in (stand h)) = acked_stands h (run_acked p h run) f (length (sent h) + 1) told in
     let there : Member y.flush (sent h) = i.standing (flush_record y.flush) (has_record y.flush (stand h) y.there) in
     absurd (omega (arith, y.tid, upto_numbered (sent h) i.numbered y.flush there)))
 
