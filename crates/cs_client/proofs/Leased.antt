@@ -1,7 +1,7 @@
 -- The lease that an answer gives, once the answer is noted.
 use Rattle.std.proofs.Common.{◌≡◌, ◌∙◌, refl, sym, ap, ℕ, ◌==◌, ◌&&◌, ◌||◌, not, nat_lt, Bool, true, false, cond, is_some, List, [], ◌∷◌, map, Option, Some, None, Result, Ok, Err}
 use Rattle.std.specs.Borrow.{Bor}
-use Rattle.std.specs.Option.{option_and_then, option_copied, option_map}
+use Rattle.std.specs.Option.{option_and_then, option_copied, option_map, option_map_or}
 use Rattle.std.specs.Result.{OnOk}
 use Rattle.cs_laws.specs.declared.requests.OpAnswer.{OpAnswer}
 use Rattle.cs_laws.specs.declared.requests.ReqOp.{ReqOp}
@@ -10,7 +10,7 @@ use Rattle.cs_laws.specs.Namespace.{names_entry}
 use Rattle.cs_requests.specs.declared.requests.OpenReq.{OpenReq}
 use Rattle.cs_requests.specs.Requests.{answered, named_later, open_at}
 use Rattle.cs_client.specs.Replies.{lease_by}
-use Rattle.cs_client.specs.Requests.{op_without_answer, unanswered}
+use Rattle.cs_client.specs.Requests.{is_resent, op_without_answer, unanswered}
 
 pub on_ok : {T E P Q : Type 0} (r : Result T E) → (P → Q) → OnOk r P → OnOk r Q
 on_ok (Ok x) go p = go p
@@ -49,6 +49,19 @@ later_stays t a d name (r ∷ rs) = at (r.tid == t) (later_stays t a d name rs)
     at true rest = ap (λ k. (nat_lt t r.tid && names_entry r.op d name) || k) rest
     at false rest = ap (λ k. (nat_lt t r.tid && names_entry r.op d name) || k) rest
 
+resent_stays : (t : ℕ) (a : OpAnswer) (rs : List OpenReq) → is_resent t (map (answered t a) rs) ≡ is_resent t rs
+resent_stays t a [] = refl
+resent_stays t a (r ∷ rs) = at (r.tid == t) refl (resent_stays t a rs)
+  where
+    told : Bool → OpenReq
+    told b = cond b (record r { answer = Some a }) r
+
+    at : (b : Bool) → (r.tid == t) ≡ b → is_resent t (map (answered t a) rs) ≡ is_resent t rs
+        → option_map_or (λ (r : OpenReq). r.resent) (cond ((told b).tid == t) (Some (told b)) (open_at t (map (answered t a) rs))) false
+        ≡ option_map_or (λ (r : OpenReq). r.resent) (cond b (Some r) (open_at t rs)) false
+    at true is rest = rw is refl
+    at false is rest = rw is rest
+
 -- a request without an answer is open
 asked : (o : Option OpenReq) → is_some (option_and_then op_without_answer o) ≡ true
     → option_and_then op_without_answer o ≡ option_map (λ (r : OpenReq). r.op) o
@@ -65,7 +78,7 @@ pub first_lease : (t : ℕ) (a : OpAnswer) (rs : List OpenReq) (now d : ℕ) (na
     ≡ lease_by (unanswered t rs) t a rs now d name was
 first_lease t a rs now d name was first =
     let op : option_map (λ (r : OpenReq). r.op) (open_at t (map (answered t a) rs)) ≡ unanswered t rs = op_stays t a rs ∙ sym (asked (open_at t rs) first) in
-    λ j. cond (asks_for (op j) d name && not (later_stays t a d name rs j)) (taken (ino_in a) now was) was
+    λ j. cond (asks_for (op j) d name && not (later_stays t a d name rs j || resent_stays t a rs j)) (taken (ino_in a) now was) was
 
 -- no other answer does
 pub no_lease : (t : ℕ) (a : OpAnswer) (rs : List OpenReq) (now d : ℕ) (name : List ℕ) (was : Option Lease) → is_some (unanswered t rs) ≡ false

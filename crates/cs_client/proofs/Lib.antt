@@ -1,4 +1,6 @@
 pub mod AllTold
+pub mod Capped
+pub mod CapRows
 pub mod Counts
 pub mod Draws
 pub mod Leased
@@ -7,7 +9,10 @@ pub mod Made
 pub mod Makings
 pub mod Nearest
 pub mod Once
+pub mod Owing
 pub mod Puts
+pub mod Restarted
+pub mod Sending
 pub mod Sends
 pub mod Steps
 pub mod TakenIn

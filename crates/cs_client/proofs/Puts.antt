@@ -45,7 +45,7 @@ put_places old new g r i put same = put_read place_of old new g r i put (ap (λ 
 pub put_homes : (old new : Files) (g : ℕ) (r : ClientFile) (i : FileInode) → Puts old new g r i → SameHomes old new
 put_homes old new g r i put = put_read (λ x. x.home) old new g r i put refl
 
-is_mapped : {A B : Type 0} (F : A → B) (o : Option A) → is_some (option_map F o) ≡ is_some o
+pub is_mapped : {A B : Type 0} (F : A → B) (o : Option A) → is_some (option_map F o) ≡ is_some o
 is_mapped F (Some x) = refl
 is_mapped F None = refl
 
@@ -121,7 +121,7 @@ row_drawn rs sent drawn f i more row = record { ino = row.ino; writers = row.wri
 
 -- A row that a function changed, where the whole table is known by it
 
-at_some : (go : FileInode → FileInode) (o : Option ClientFile) (x : ClientFile) → option_map (with_inode go) o ≡ Some x
+pub at_some : (go : FileInode → FileInode) (o : Option ClientFile) (x : ClientFile) → option_map (with_inode go) o ≡ Some x
     → (r : ClientFile) × (o ≡ Some r) × (x ≡ with_inode go r)
 at_some go (Some r) x e = let now : ◌≡◌ {A = ClientFile} (with_inode go r) x = cc in (r, refl, sym now)
 at_some go None x e = absurd (cc)

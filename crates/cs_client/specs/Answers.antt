@@ -13,6 +13,7 @@ use Rattle.cs_laws.specs.declared.events.Event.{Event}
 use Rattle.cs_laws.specs.declared.events.Event.TheVariants as events
 use Rattle.cs_laws.specs.declared.answers.Answer.{Answer}
 use Rattle.cs_laws.specs.declared.answers.Answer.TheVariants as answers
+use Rattle.cs_laws.specs.declared.answers.Why.TheVariants as why
 use Rattle.cs_laws.specs.declared.objects.At.TheVariants as at
 use Rattle.cs_laws.specs.declared.objects.ObjOp.{ObjOp}
 use Rattle.cs_laws.specs.Answers.{answer_write_on, bytes_from, may_change_mode, may_read}
@@ -27,6 +28,10 @@ use Rattle.cs_client.specs.Views.{ClientView, Files}
 abbrev pub of_file : (FileInode → Answer) → Option ClientFile → Answer
 of_file say None = answers.Unknown
 of_file say (Some r) = say r.inode
+
+-- what is said where the session is active
+abbrev pub in_session : Bool → Answer → Answer
+in_session active a = if active then a else answers.Again why.Session
 
 abbrev pub clock_answer : ℕ → ℕ → Answer
 clock_answer t clock = if nat_lt t clock then answers.Back else answers.Now t
@@ -54,18 +59,22 @@ chmod_call_answer None files = answers.Unknown
 chmod_call_answer (Some r) files =
     if may_change_mode r.bits then of_file (λ i. chmod_said (chmod_answer i)) (get nat_cmp files r.file) else answers.NoBit
 
-abbrev pub check_call_answer : ℕ → List Live → Option ClientFile → Answer
-check_call_answer f rs row = of_file (λ i. check_said (check_answer (used_in f rs) i)) row
+abbrev pub check_call_answer : Bool → ℕ → List Live → Option ClientFile → Answer
+check_call_answer active f rs row = of_file (λ i. in_session active (check_said (check_answer (used_in f rs) i))) row
 
 -- count: how many numbers of flushes were drawn
-abbrev pub flush_call_answer : ℕ → Option ClientFile → Answer
-flush_call_answer count row = of_file (λ i. flush_said (flush_answer (count + 1) i)) row
+abbrev pub flush_call_answer : Bool → ℕ → Option ClientFile → Answer
+flush_call_answer active count row = of_file (λ i. in_session active (flush_said (flush_answer (count + 1) i))) row
 
-abbrev pub flush_snaps_call_answer : ℕ → Option ClientFile → Answer
-flush_snaps_call_answer count row = of_file (λ i. snap_said (flush_snaps_answer (count + 1) i)) row
+abbrev pub flush_snaps_call_answer : Bool → ℕ → Option ClientFile → Answer
+flush_snaps_call_answer active count row = of_file (λ i. in_session active (snap_said (flush_snaps_answer (count + 1) i))) row
 
--- The answer to a call, whether the session is active or not: it always is yet. A directory or a file of which the client is
--- told is new to it.
+-- count: how many requests were sent
+abbrev pub send_answer : Bool → ℕ → Answer
+send_answer active count = in_session active (answers.Sent (count + 1))
+
+-- The answer to a call, where the session is active or not: what goes to the server is refused where it isn't. A directory or a file of
+-- which the client is told is new to it.
 abbrev pub call_answer : ClientView → Bool → (ℕ → ℕ → ℕ) → Event → Answer
 call_answer v active head (events.Dir d p) = answers.Made
 call_answer v active head (events.File f p) = answers.Made
@@ -75,9 +84,9 @@ call_answer v active head (events.End caller name) = end_answer (can_end caller 
 call_answer v active head (events.Write caller name off bytes) = answer_write_on (named caller name v.refs.live) off (length bytes)
 call_answer v active head (events.Read caller name off len) = read_answer (named caller name v.refs.live) head off len v.files
 call_answer v active head (events.Chmod caller name mode) = chmod_call_answer (named caller name v.refs.live) v.files
-call_answer v active head (events.Check f) = check_call_answer f v.refs.live (get nat_cmp v.files f)
-call_answer v active head (events.Flush f) = flush_call_answer v.flushes (get nat_cmp v.files f)
-call_answer v active head (events.FlushSnaps f) = flush_snaps_call_answer v.flushes (get nat_cmp v.files f)
+call_answer v active head (events.Check f) = check_call_answer active f v.refs.live (get nat_cmp v.files f)
+call_answer v active head (events.Flush f) = flush_call_answer active v.flushes (get nat_cmp v.files f)
+call_answer v active head (events.FlushSnaps f) = flush_snaps_call_answer active v.flushes (get nat_cmp v.files f)
 call_answer v active head (events.Lookup caller d name) = looked_up (lease_of v.leases d name) v.clock
-call_answer v active head (events.Req caller op) = answers.Sent (v.requests.sent + 1)
+call_answer v active head (events.Req caller op) = send_answer active v.requests.sent
 call_answer v active head _ = answers.Unknown

@@ -2,6 +2,7 @@ pub mod Answers
 pub mod Calls
 pub mod Contexts
 pub mod Messages
+pub mod Reconnects
 pub mod Replies
 pub mod Requests
 pub mod Rows

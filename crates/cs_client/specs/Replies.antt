@@ -18,7 +18,7 @@ use Rattle.cs_client.specs.declared.replies.Making.{Making}
 use Rattle.cs_client.specs.declared.replies.Making.TheVariants as makings
 use Rattle.cs_client.specs.Calls.{IsNewIn}
 use Rattle.cs_client.specs.Contexts.{home_context}
-use Rattle.cs_client.specs.Requests.{unanswered}
+use Rattle.cs_client.specs.Requests.{is_resent, unanswered}
 use Rattle.cs_client.specs.Rows.{new_file}
 use Rattle.cs_client.specs.Views.{Files}
 
@@ -66,10 +66,11 @@ requests_told (messages.Unsafe t a ttl) x = record x { requests = map (answered 
 requests_told (messages.Safe t) x = if is_told t x.requests then record x { requests = without t x.requests } else x
 requests_told _ x = x
 
--- A lease is taken on the entry that the operation of request t makes or looks up, unless an open request behind it names the entry.
--- now: the time; was: the lease on the entry before.
+-- A lease is taken on the entry that the operation of request t makes or looks up, unless an open request behind it names the entry, or
+-- the request was sent again. now: the time; was: the lease on the entry before.
 abbrev pub lease_by : Option ReqOp → ℕ → OpAnswer → List OpenReq → ℕ → ℕ → List ℕ → Option Lease → Option Lease
-lease_by op t a rs now d name was = if asks_for op d name && not (named_later t d name rs) then taken (ino_in a) now was else was
+lease_by op t a rs now d name was =
+    if asks_for op d name && not (named_later t d name rs || is_resent t rs) then taken (ino_in a) now was else was
 
 -- x: the requests before the message; only the first answer to an open one gives a lease
 abbrev pub lease_told : Message → RequestTable → ℕ → ℕ → List ℕ → Option Lease → Option Lease

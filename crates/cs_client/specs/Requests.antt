@@ -1,6 +1,6 @@
 -- The callers' requests, and the leases on the entries that they name.
-use Rattle.std.specs.Prelude.{ℕ, ◌+◌, List, [], ◌∷◌, ◌++◌, Option, Some, None, is_some, if◌then◌else◌}
-use Rattle.std.specs.Option.{option_and_then, option_map}
+use Rattle.std.specs.Prelude.{ℕ, ◌+◌, Bool, false, List, [], ◌∷◌, ◌++◌, Option, Some, None, is_some, if◌then◌else◌}
+use Rattle.std.specs.Option.{option_and_then, option_map, option_map_or}
 use Rattle.cs_laws.specs.declared.events.Event.{Event}
 use Rattle.cs_laws.specs.declared.events.Event.TheVariants as events
 use Rattle.cs_laws.specs.declared.answers.Answer.{Answer}
@@ -28,6 +28,10 @@ op_without_answer r = if is_some r.answer then None else Some r.op
 -- the operation of the open request of a number that has no answer yet
 abbrev pub unanswered : ℕ → List OpenReq → Option ReqOp
 unanswered t rs = option_and_then op_without_answer (open_at t rs)
+
+-- the open request of a number was sent again
+abbrev pub is_resent : ℕ → List OpenReq → Bool
+is_resent t rs = option_map_or (λ r. r.resent) (open_at t rs) false
 
 -- What a call leaves of them, and sends
 

@@ -1,5 +1,5 @@
--- What each call makes of what the client keeps of a file. Functions go by the call first, and then by its answer.
-use Rattle.std.specs.Prelude.{ℕ, ◌+◌, ◌==◌, Option, Some, None, length, if◌then◌else◌}
+-- What each call and each Cap makes of what the client keeps of a file. Functions go by the call first, and then by its answer.
+use Rattle.std.specs.Prelude.{ℕ, ◌+◌, ◌==◌, true, false, Option, Some, None, length, if◌then◌else◌}
 use Rattle.std.specs.BTreeMap.{get}
 use Rattle.std.specs.Option.{option_map}
 use Rattle.std.specs.Ordering.{nat_cmp}
@@ -12,7 +12,7 @@ use Rattle.cs_inode.specs.declared.answers.FlushStep.{FlushStep}
 use Rattle.cs_inode.specs.declared.answers.FlushStep.TheVariants as flush
 use Rattle.cs_inode.specs.declared.answers.SnapStep.{SnapStep}
 use Rattle.cs_inode.specs.declared.answers.SnapStep.TheVariants as snap
-use Rattle.cs_inode.specs.Calls.{acked, started, stopped}
+use Rattle.cs_inode.specs.Calls.{acked, started, stopped, with_caps}
 use Rattle.cs_inode.specs.Inodes.{FileInode, after_flush, after_flush_snaps, new_inode, with_mode, written}
 use Rattle.cs_laws.specs.declared.events.Event.{Event}
 use Rattle.cs_laws.specs.declared.events.Event.TheVariants as events
@@ -25,7 +25,7 @@ use Rattle.cs_client.specs.Views.{ClientView}
 
 -- a file in a directory, under a context, of which nothing was issued, and to which nothing was written
 abbrev pub new_file : ℕ → ℕ → Context → ClientFile
-new_file f home ctx = record { inode = new_inode f ctx; home = home }
+new_file f home ctx = record { inode = new_inode f ctx; home = home; capped = false }
 
 abbrev pub with_inode : (FileInode → FileInode) → ClientFile → ClientFile
 with_inode go r = record r { inode = go r.inode }
@@ -38,6 +38,14 @@ at_file g go f row = if g == f then option_map (with_inode go) row else row
 abbrev pub at_ref : Option Live → (Live → FileInode → FileInode) → ℕ → Option ClientFile → Option ClientFile
 at_ref None go f row = row
 at_ref (Some r) go f row = at_file r.file (go r) f row
+
+-- a message is delivered that gives these bits
+abbrev pub with_cap : Caps → ℕ → ℕ → ClientFile → ClientFile
+with_cap bits seq end r = record r { inode = with_caps bits seq end r.inode; capped = true }
+
+-- the row of f, where the message is of g
+abbrev pub cap_row : ℕ → Caps → ℕ → ℕ → ℕ → Option ClientFile → Option ClientFile
+cap_row g bits seq end f row = if g == f then option_map (with_cap bits seq end) row else row
 
 -- The row of f, by what the file says
 

@@ -5,11 +5,12 @@ ghost use Rattle.std.specs.Option.{option_map};
 ghost use Rattle.std.specs.Ordering.{nat_cmp};
 ghost use Rattle.cs_tree.specs.Directories.{has_directory};
 ghost use Rattle.cs_laws.specs.declared.answers.Answer.TheVariants as answers;
+ghost use Rattle.cs_laws.specs.declared.answers.Why.TheVariants as why;
 ghost use Rattle.cs_laws.specs.declared.events.Event.TheVariants as events;
 ghost use Rattle.cs_laws.specs.Events.{clock_then};
 ghost use Rattle.cs_laws.specs.Fits.{greatest_time};
 ghost use Rattle.cs_inode.specs.Answers.{check_answer};
-ghost use Rattle.cs_client.specs.Answers.{check_call_answer, clock_answer};
+ghost use Rattle.cs_client.specs.Answers.{check_call_answer, clock_answer, of_file};
 ghost use Rattle.cs_client.specs.Calls.{AddsDirectory, check_sent, made_after};
 ghost use Rattle.cs_client.specs.Contexts.{home_context};
 ghost use Rattle.cs_client.specs.Rows.{checked_row, done_row, made_row, new_file};
@@ -21,7 +22,7 @@ use cs_bits::Caps;
 use cs_caps::Done;
 use cs_ids::{Ino, Memory};
 use cs_inode::Inode;
-use cs_laws::{Answer, Message, MessageList};
+use cs_laws::{Answer, Message, MessageList, Why};
 use cs_realms::Realms;
 use cs_refs::Refs;
 use cs_tree::Directories;
@@ -69,7 +70,14 @@ pub fn add_file(
     let context = file_context(alloc, tree, realms, home)?;
     made.reserve(1)?;
     let inode = Inode::new(alloc, file, context);
-    files.insert(file, ClientFile { inode, home })?;
+    files.insert(
+        file,
+        ClientFile {
+            inode,
+            home,
+            capped: false,
+        },
+    )?;
     made.push_reserved(file);
     Ok(Answer::Made)
 }
@@ -89,19 +97,25 @@ pub fn set_clock(clock: &mut u64, time: u64) -> Answer
 }
 
 /// Acknowledges what a file's client end was told, as far as the bits in use allow it: those of its
-/// live references, and those that its dirty metadata needs.
+/// live references, and those that its dirty metadata needs. Nothing is acknowledged while the session
+/// isn't `active`.
 pub fn check(
     files: &mut BTreeMap<Ino, ClientFile>,
     refs: &Refs,
     file: Ino,
+    active: bool,
     out: &mut MessageList,
 ) -> Result<Answer, Memory>
-    ensures answer { IfOk result (λ a. a ≡ check_call_answer file refs.now.live (get nat_cmp files.old file)) }
+    ensures answer { IfOk result
+        (λ a. a ≡ check_call_answer active file refs.now.live (get nat_cmp files.old file)) }
     ensures rows { IfOk result (λ a. RowsAfter (checked_row file a) files.old files.new) }
     ensures sent { IfOk result (λ a. out.new ≡ out.old ++ check_sent file a) }
     ensures tables { KeepsTables files.old files.new }
     ensures places { SamePlaces files.old files.new }
 {
+    if !active {
+        return Ok(refused(files, file));
+    }
     let Some(done) = complete(files, file, refs.used(file)) else {
         return Ok(Answer::Unknown);
     };
@@ -112,6 +126,17 @@ pub fn check(
             out.push(Message::CapAck { file, seq, bits })?;
             Ok(Answer::Ack { seq, bits })
         }
+    }
+}
+
+/// What is said of a file while the session isn't active, in place of what would be sent.
+pub fn refused(files: &BTreeMap<Ino, ClientFile>, file: Ino) -> Answer
+    ensures { result ≡ of_file (λ i. answers.Again why.Session) (get nat_cmp files.now file) }
+{
+    if files.contains_key(&file) {
+        Answer::Again(Why::Session)
+    } else {
+        Answer::Unknown
     }
 }
 

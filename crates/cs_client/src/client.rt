@@ -14,13 +14,15 @@ ghost use Rattle.cs_laws.specs.Leases.{looked_up};
 ghost use Rattle.cs_laws.specs.Made.{made_by};
 ghost use Rattle.cs_laws.specs.References.{can_end, named};
 ghost use Rattle.cs_objstore.specs.Files.{AppliesNew, with_new};
-ghost use Rattle.cs_client.specs.Answers.{begin_answer, call_answer, check_call_answer, chmod_call_answer, clock_answer, end_answer, flush_call_answer, flush_snaps_call_answer, head_byte, read_answer};
+ghost use Rattle.cs_client.specs.Answers.{begin_answer, call_answer, check_call_answer, chmod_call_answer, clock_answer, end_answer, flush_call_answer, flush_snaps_call_answer, head_byte, read_answer, send_answer};
 ghost use Rattle.cs_client.specs.Calls.{Called, HasNumbers, IsNewInode, IsNewTo, call_operations, call_sent, calls_store, check_sent, flush_sent, flush_snaps_sent, is_call, read_calls, write_calls};
-ghost use Rattle.cs_client.specs.Messages.{Accepts, Delivered, TellsRealms, message_answer};
+ghost use Rattle.cs_client.specs.Messages.{Accepts, Delivered, TellsRealms, count_told, message_answer};
+ghost use Rattle.cs_client.specs.Reconnects.{CallsAgain, Restarts};
 ghost use Rattle.cs_client.specs.Replies.{AreNew};
 ghost use Rattle.cs_client.specs.Requests.{lease_of, request_sent, unanswered};
 ghost use Rattle.cs_client.specs.Views.{IsBlank, is_kept};
 
+use crate::again::{call_again, restart};
 use crate::calls::{add_directory, add_file, check, set_clock};
 use crate::file::ClientFile;
 use crate::flushes::{flush, flush_snaps};
@@ -132,7 +134,8 @@ impl Client {
     }
 
     /// Does an event of the client's own, and adds what it sends to the server to `out`. `active` tells
-    /// whether its session is; no event looks at it yet. A write applies its operations to the store, each
+    /// whether its session is: where it isn't, a check, a flush of either kind and a request are answered
+    /// `again session`, and nothing changes. A write applies its operations to the store, each
     /// unless one of its number was applied before, and a read reads the head of the store. A request is
     /// sent under the next number, from 1 on, and the leases on the entries that it names end. A look-up is
     /// answered by the lease on the entry and the clock alone: it takes no memory and changes nothing.
@@ -202,24 +205,25 @@ impl Client {
                 len,
             } => self.read(store, *caller, *name, *off, *len),
             Event::Chmod { caller, name, mode } => Ok(self.chmod(*caller, *name, *mode)),
-            Event::Check { file } => Ok(self.check(*file, out)?),
-            Event::Flush { file } => Ok(self.flush(*file, out)?),
-            Event::FlushSnaps { file } => Ok(self.flush_snaps(*file, out)?),
+            Event::Check { file } => Ok(self.check(*file, active, out)?),
+            Event::Flush { file } => Ok(self.flush(*file, active, out)?),
+            Event::FlushSnaps { file } => Ok(self.flush_snaps(*file, active, out)?),
             Event::Lookup { dir, name, .. } => Ok(self.look_up(*dir, name)),
-            Event::Req { caller, op } => Ok(self.send(*caller, op, out)?),
+            Event::Req { caller, op } => Ok(self.send(*caller, op, active, out)?),
             _ => unreachable!(),
         }
     }
 
     /// Takes a message of the server: what the client may have of a file, that a flush is durable, a
-    /// snapshot or a removal of one with the realm records that it changed, the answer to a request, that a
-    /// request's record is durable, or that the lease on an entry ends.
+    /// snapshot or a removal of one with the realm records that it changed, that the session goes on, with
+    /// the records of all realms, the answer to a request, that a request's record is durable, or that the
+    /// lease on an entry ends.
     ///
     /// The first answer to an open request makes the directory or the file known that the request made. If
     /// it tells of an inode, it gives a lease on the entry that the request makes or looks up, for 60
-    /// seconds, unless an open request behind it names the entry. The same answer to the request again, or
-    /// one to a request that isn't open, changes nothing. A request of which the record is durable isn't
-    /// open any more, if it was answered.
+    /// seconds, unless the request was sent again or an open request behind it names the entry. The same
+    /// answer to the request again, or one to a request that isn't open, changes nothing. A request of which
+    /// the record is durable isn't open any more, if it was answered; told again, that changes nothing.
     ///
     /// After `Memory` a snapshot's realms and the files' contexts may be those of before or the new ones,
     /// and a directory or a file may be known before its request has the answer, or without the lease.
@@ -242,12 +246,40 @@ impl Client {
                 number,
                 realm,
                 realms,
-            } => Ok(self.deliver_realms(*number, *realm, realms)?),
+            } => Ok(self.deliver_snap(*number, *realm, realms)?),
+            Message::Resumed { realms } => Ok(self.deliver_resumed(realms)?),
             Message::Unsafe { tid, answer, .. } => Ok(self.deliver_unsafe(*tid, answer)?),
             Message::Safe { tid } => Ok(self.deliver_safe(*tid)),
             Message::Unlease { dir, name } => Ok(self.deliver_unlease(*dir, name)?),
             _ => unreachable!(),
         }
+    }
+
+    /// Comes back after a loss, as reconnects in Linux's fs/ceph/mds_client.c. It adds to `out` a report of
+    /// what the client has of each file of which a `Cap` was ever delivered and of each realm that it knows,
+    /// both by rising inodes, and how many messages follow: each open request, with the inode that its answer
+    /// told of, and then each unacknowledged flush of a file or a cap snap, both by their numbers. It answers
+    /// how many files it reports and how many requests and flushes it sends again. From then on the messages
+    /// about capabilities are counted anew, the open requests are taken as sent again, and no lease is left.
+    ///
+    /// `Memory` comes also where there are more of them than a u32 counts. After it the client is as before,
+    /// and `out` may have the first ones of the messages.
+    pub fn step_reconnect(&mut self, out: &mut MessageList) -> Result<Answer, Memory>
+        ensures sent { IfOk result (λ a. CallsAgain self.old.files self.old.made self.old.realms
+            self.old.requests.requests a out.old out.new) }
+        ensures after { OnOk result (Restarts self.old self.new) }
+        ensures err { OnErr result (self.new ≡ self.old) }
+    {
+        let answer = call_again(
+            self.alloc,
+            &self.files,
+            self.made.as_slice(),
+            &self.realms,
+            &self.requests,
+            out,
+        )?;
+        restart(&mut self.files, &mut self.requests, &mut self.leases);
+        Ok(answer)
     }
 
     /// Whether the server may not know yet what a file was at a snapshot, or, at None, what it is at
@@ -393,35 +425,50 @@ impl Client {
         chmod(&mut self.files, &self.refs, caller, name, mode)
     }
 
-    fn check(&mut self, file: Ino, out: &mut MessageList) -> Result<Answer, Memory>
+    fn check(
+        &mut self,
+        file: Ino,
+        active: bool,
+        out: &mut MessageList,
+    ) -> Result<Answer, Memory>
         ensures answer { IfOk result
-            (λ a. a ≡ check_call_answer file self.old.refs.live (get nat_cmp self.old.files file)) }
+            (λ a. a ≡ check_call_answer active file self.old.refs.live (get nat_cmp self.old.files file)) }
         ensures after { IfOk result (λ a. Called self.old self.new (events.Check file) a) }
         ensures sent { IfOk result (λ a. out.new ≡ out.old ++ check_sent file a) }
     {
-        check(&mut self.files, &self.refs, file, out)
+        check(&mut self.files, &self.refs, file, active, out)
     }
 
-    fn flush(&mut self, file: Ino, out: &mut MessageList) -> Result<Answer, Memory>
+    fn flush(
+        &mut self,
+        file: Ino,
+        active: bool,
+        out: &mut MessageList,
+    ) -> Result<Answer, Memory>
         requires { HasNumbers self.old }
         ensures answer { IfOk result
-            (λ a. a ≡ flush_call_answer self.old.flushes (get nat_cmp self.old.files file)) }
+            (λ a. a ≡ flush_call_answer active self.old.flushes (get nat_cmp self.old.files file)) }
         ensures after { IfOk result (λ a. Called self.old self.new (events.Flush file) a) }
         ensures sent { IfOk result
             (λ a. out.new ≡ out.old ++ flush_sent file a (get nat_cmp self.old.files file)) }
     {
-        flush(&mut self.files, &mut self.flushes, file, out)
+        flush(&mut self.files, &mut self.flushes, file, active, out)
     }
 
-    fn flush_snaps(&mut self, file: Ino, out: &mut MessageList) -> Result<Answer, Memory>
+    fn flush_snaps(
+        &mut self,
+        file: Ino,
+        active: bool,
+        out: &mut MessageList,
+    ) -> Result<Answer, Memory>
         requires { HasNumbers self.old }
         ensures answer { IfOk result
-            (λ a. a ≡ flush_snaps_call_answer self.old.flushes (get nat_cmp self.old.files file)) }
+            (λ a. a ≡ flush_snaps_call_answer active self.old.flushes (get nat_cmp self.old.files file)) }
         ensures after { IfOk result (λ a. Called self.old self.new (events.FlushSnaps file) a) }
         ensures sent { IfOk result
             (λ a. out.new ≡ out.old ++ flush_snaps_sent file a (get nat_cmp self.old.files file)) }
     {
-        flush_snaps(&mut self.files, &mut self.flushes, file, out)
+        flush_snaps(&mut self.files, &mut self.flushes, file, active, out)
     }
 
     fn look_up(&self, dir: Ino, name: &Name) -> Answer
@@ -431,9 +478,15 @@ impl Client {
         look_up(&self.leases, self.clock, dir, name)
     }
 
-    fn send(&mut self, caller: Caller, op: &ReqOp, out: &mut MessageList) -> Result<Answer, Memory>
+    fn send(
+        &mut self,
+        caller: Caller,
+        op: &ReqOp,
+        active: bool,
+        out: &mut MessageList,
+    ) -> Result<Answer, Memory>
         requires { HasNumbers self.old }
-        ensures answer { IfOk result (λ a. a ≡ answers.Sent (self.old.requests.sent + 1)) }
+        ensures answer { IfOk result (λ a. a ≡ send_answer active self.old.requests.sent) }
         ensures after { IfOk result (λ a. Called self.old self.new (events.Req caller op.now) a) }
         ensures sent { IfOk result (λ a. out.new ≡ out.old ++ request_sent op.now a) }
     {
@@ -443,6 +496,7 @@ impl Client {
             &mut self.leases,
             caller,
             op,
+            active,
             out,
         )
     }
@@ -470,7 +524,24 @@ impl Client {
         Answer::FlushAck { file, tid }
     }
 
-    fn deliver_realms(
+    // Takes realm records in. How many files got a cap snap.
+    fn deliver_realms(&mut self, told: &RealmRecordList) -> Result<u32, Memory>
+        requires { TellsRealms self.old told.now }
+        ensures count { IfOk result (λ n. n ≡ count_told self.old told.now) }
+        ensures after { OnOk result (Delivered self.old self.new (messages.Resumed told.now)) }
+    {
+        deliver_realms(
+            self.alloc,
+            &mut self.files,
+            self.made.as_slice(),
+            &self.tree,
+            &mut self.realms,
+            &mut self.followed,
+            told.as_slice(),
+        )
+    }
+
+    fn deliver_snap(
         &mut self,
         number: Snap,
         realm: Ino,
@@ -480,20 +551,21 @@ impl Client {
         ensures answer { IfOk result (λ a. a ≡ message_answer self.old (messages.Snap number realm told.now)) }
         ensures after { OnOk result (Delivered self.old self.new (messages.Snap number realm told.now)) }
     {
-        let made = deliver_realms(
-            self.alloc,
-            &mut self.files,
-            self.made.as_slice(),
-            &self.tree,
-            &mut self.realms,
-            &mut self.followed,
-            told.as_slice(),
-        )?;
+        let made = self.deliver_realms(told)?;
         Ok(Answer::SnapTold {
             number,
             realm,
             made,
         })
+    }
+
+    fn deliver_resumed(&mut self, told: &RealmRecordList) -> Result<Answer, Memory>
+        requires { TellsRealms self.old told.now }
+        ensures answer { IfOk result (λ a. a ≡ message_answer self.old (messages.Resumed told.now)) }
+        ensures after { OnOk result (Delivered self.old self.new (messages.Resumed told.now)) }
+    {
+        let made = self.deliver_realms(told)?;
+        Ok(Answer::Resumed { made })
     }
 
     fn deliver_unsafe(&mut self, tid: Tid, answer: &OpAnswer) -> Result<Answer, Memory>

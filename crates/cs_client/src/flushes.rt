@@ -11,6 +11,7 @@ ghost use Rattle.cs_inode.specs.Answers.{flush_answer, flush_snaps_answer};
 ghost use Rattle.cs_client.specs.Rows.{flush_row, flushed_row, snap_flushed_row, snap_row};
 ghost use Rattle.cs_client.specs.Views.{AreDrawn, AreTables, IsDrawnBelow, RowsAfter, SamePlaces, SameRows};
 
+use crate::calls::refused;
 use crate::file::ClientFile;
 use cs_flush::Sent;
 use cs_ids::{Ino, Memory, Tid};
@@ -18,16 +19,18 @@ use cs_inode::{FlushStep, SnapStep};
 use cs_laws::{Answer, Message, MessageList, Why};
 use std::collections::BTreeMap;
 
-/// The file's present metadata is sent, if it is dirty.
+/// The file's present metadata is sent, if it is dirty and the session is `active`.
 pub fn flush(
     files: &mut BTreeMap<Ino, ClientFile>,
     flushes: &mut u64,
     file: Ino,
+    active: bool,
     out: &mut MessageList,
 ) -> Result<Answer, Memory>
     requires drawn { AreDrawn files.old flushes.old }
     requires number { flushes.old < 99998 }
-    ensures answer { IfOk result (λ a. a ≡ flush_call_answer flushes.old (get nat_cmp files.old file)) }
+    ensures answer { IfOk result
+        (λ a. a ≡ flush_call_answer active flushes.old (get nat_cmp files.old file)) }
     ensures rows { IfOk result (λ a. RowsAfter (flushed_row file a) files.old files.new) }
     ensures count { IfOk result (λ a. flushes.new ≡ flushes_after (events.Flush file) a flushes.old) }
     ensures sent { IfOk result (λ a. out.new ≡ out.old ++ flush_sent file a (get nat_cmp files.old file)) }
@@ -35,6 +38,9 @@ pub fn flush(
         flushes.new }
     ensures places { SamePlaces files.old files.new }
 {
+    if !active {
+        return Ok(refused(files, file));
+    }
     let Some(step) = start_flush(files, file, Tid::after(*flushes))? else {
         return Ok(Answer::Unknown);
     };
@@ -73,16 +79,18 @@ fn start_flush(
     Ok(Some(row.inode.flush(tid)?))
 }
 
-/// The file's first cap snap that wasn't sent is.
+/// The file's first cap snap that wasn't sent is, where the session is `active`.
 pub fn flush_snaps(
     files: &mut BTreeMap<Ino, ClientFile>,
     flushes: &mut u64,
     file: Ino,
+    active: bool,
     out: &mut MessageList,
 ) -> Result<Answer, Memory>
     requires drawn { AreDrawn files.old flushes.old }
     requires number { flushes.old < 99998 }
-    ensures answer { IfOk result (λ a. a ≡ flush_snaps_call_answer flushes.old (get nat_cmp files.old file)) }
+    ensures answer { IfOk result
+        (λ a. a ≡ flush_snaps_call_answer active flushes.old (get nat_cmp files.old file)) }
     ensures rows { IfOk result (λ a. RowsAfter (snap_flushed_row file a) files.old files.new) }
     ensures count { IfOk result (λ a. flushes.new ≡ flushes_after (events.FlushSnaps file) a flushes.old) }
     ensures sent { IfOk result (λ a. out.new ≡ out.old ++ flush_snaps_sent file a
@@ -91,6 +99,9 @@ pub fn flush_snaps(
         flushes.new }
     ensures places { SamePlaces files.old files.new }
 {
+    if !active {
+        return Ok(refused(files, file));
+    }
     let Some(step) = start_snap_flush(files, file, Tid::after(*flushes)) else {
         return Ok(Answer::Unknown);
     };

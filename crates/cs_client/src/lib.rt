@@ -3,6 +3,7 @@
 //! and no history. The object store is lent to it by each call.
 #![tactic(auto)]
 
+mod again;
 mod calls;
 mod client;
 mod contexts;

@@ -3,12 +3,11 @@ ghost use Rattle.std.specs.Prelude.{◌≡◌, ◌<◌, ◌^◌, ℕ, true, fals
 ghost use Rattle.std.specs.BTreeMap.{get};
 ghost use Rattle.std.specs.Option.{option_map};
 ghost use Rattle.std.specs.Ordering.{nat_cmp};
-ghost use Rattle.cs_inode.specs.Calls.{with_caps};
 ghost use Rattle.cs_inode.specs.Inodes.{after_ack};
 ghost use Rattle.cs_snapctx.specs.Records.{with_records};
 ghost use Rattle.cs_tree.specs.Directories.{path_of};
 ghost use Rattle.cs_client.specs.Messages.{ParentsAreKnown};
-ghost use Rattle.cs_client.specs.Rows.{at_file};
+ghost use Rattle.cs_client.specs.Rows.{at_file, cap_row};
 ghost use Rattle.cs_client.specs.Told.{ContextsRise, count_changed, told_row};
 ghost use Rattle.cs_client.specs.Views.{ContextsFollow, IsEachOnce, KeepsTables, RowsAfter, SameHomes, SamePlaces, is_among, is_kept};
 
@@ -25,7 +24,7 @@ use std::collections::BTreeMap;
 /// The client may have these bits of a file from now on, and it may grow up to `max` bytes.
 pub fn deliver_cap(files: &mut BTreeMap<Ino, ClientFile>, file: Ino, seq: Seq, bits: Caps, max: u32)
     requires { is_kept files.old file ≡ true }
-    ensures rows { RowsAfter (at_file file (with_caps bits seq max)) files.old files.new }
+    ensures rows { RowsAfter (cap_row file bits seq max) files.old files.new }
     ensures tables { KeepsTables files.old files.new }
     ensures places { SamePlaces files.old files.new }
 {
@@ -33,6 +32,7 @@ pub fn deliver_cap(files: &mut BTreeMap<Ino, ClientFile>, file: Ino, seq: Seq, b
         unreachable!()
     };
     row.inode.deliver_cap(bits, seq, max);
+    row.capped = true;
 }
 
 /// The record of a flush is durable: it is done with, and so are those of the file before it, or its cap

@@ -35,7 +35,7 @@ enum Making {
 
 /// A request is answered. The first answer to an open one makes the directory or the file known that the
 /// request made, and gives a lease on the entry that the request makes or looks up, unless a later one
-/// names it.
+/// names it or the request was sent again.
 pub fn deliver_unsafe(
     alloc: Global,
     files: &mut BTreeMap<Ino, ClientFile>,
@@ -167,7 +167,8 @@ fn take_answer(
     take_lease(requests, leases, clock, tid, answer)
 }
 
-// An answer to an open request gives a lease on the entry that the request makes or looks up.
+// An answer to an open request gives a lease on the entry that the request makes or looks up. One that was
+// sent again gets none: the entry may have changed since the server did what it asks for.
 fn take_lease(
     requests: &Requests,
     leases: &mut Leases,
@@ -186,6 +187,9 @@ fn take_lease(
     let Some(request) = requests.find(tid) else {
         return Ok(());
     };
+    if request.resent {
+        return Ok(());
+    }
     match &request.op {
         ReqOp::Mkdir { dir, name } | ReqOp::Create { dir, name } | ReqOp::Lookup { dir, name } =>
             take_unless_named_later(requests, leases, tid, *dir, name, ino, clock + LEASE_TIME),

@@ -9,9 +9,12 @@ use Rattle.cs_inode.specs.Answers.{check_answer}
 use Rattle.cs_laws.specs.declared.events.Event.TheVariants as events
 use Rattle.cs_laws.specs.declared.answers.Answer.TheVariants as answers
 use Rattle.cs_laws.specs.declared.answers.Entry.{Entry}
+use Rattle.cs_laws.specs.declared.answers.Why.TheVariants as why
 use Rattle.cs_laws.specs.Answers.{answer_check, answer_check_of}
 use Rattle.cs_laws.specs.ClientKnows.{client_knows}
 use Rattle.cs_laws.specs.History.{client, live, used}
+use Rattle.cs_laws.specs.Sessions.{client_state, is_client_active}
+use Rattle.cs_files.specs.Laws.{IsActive}
 use Rattle.cs_files.specs.Rows.{inode}
 use Rattle.cs_inode.specs.Said.{check_said}
 use Rattle.cs_inode.specs.Calls.{acked}
@@ -24,10 +27,11 @@ same_tests true d seq issued held = refl
 same_tests false true seq issued held = refl
 same_tests false false seq issued held = refl
 
-pub check_is : (h : List Entry) (f : ℕ) → client_knows h f ≡ true → answer_check h f ≡ check_said (check_answer (used_in f (live h)) (inode h f))
-check_is h f known =
+pub check_is : (h : List Entry) (f : ℕ) → client_knows h f ≡ true → IsActive h → answer_check h f ≡ check_said (check_answer (used_in f (live h)) (inode h f))
+check_is h f known active =
     let held : Caps = held_back (client h f) (used h f) in
-    ap (λ b. cond b (answer_check_of (client h f) (used h f)) answers.Unknown) known
+    ap (λ b. cond b (cond (is_client_active (client_state h)) (answer_check_of (client h f) (used h f)) (answers.Again why.Session)) answers.Unknown) known
+    ∙ ap (λ b. cond b (answer_check_of (client h f) (used h f)) (answers.Again why.Session)) active
     ∙ same_tests (is_complete (client h f)) (is_empty held) (client h f).seq (client h f).issued held
 
 pub check_row : (h : List Entry) (g seq : ℕ) (bits : Caps) (f : ℕ)

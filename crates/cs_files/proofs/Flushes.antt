@@ -23,11 +23,13 @@ use Rattle.cs_laws.specs.Answers.{answer_flush, answer_flush_snaps}
 use Rattle.cs_laws.specs.ClientKnows.{client_knows}
 use Rattle.cs_laws.specs.History.{dirty, present, sent, snap as snap_of}
 use Rattle.cs_laws.specs.Runs.{IsRun}
+use Rattle.cs_laws.specs.Sessions.{client_state, is_client_active}
 use Rattle.cs_theorems.specs.Queues as queues
 use Rattle.cs_theorems.specs.Queues.{snaps}
 use Rattle.cs_theorems.specs.Unacked.{sent_of}
 use Rattle.cs_theorems.proofs.QueueAnswers.{queue_answer, queue_ready, queue_tids, queue_writing}
 use Rattle.cs_theorems.proofs.UnackedSteps.{unacked_tids}
+use Rattle.cs_files.specs.Laws.{IsActive}
 use Rattle.cs_files.specs.Rows.{inode}
 use Rattle.cs_inode.specs.Said.{flush_said, snap_said}
 use Rattle.cs_files.proofs.ByFile.{by_file}
@@ -73,9 +75,12 @@ inode_by true d h f tid = refl
 inode_by false false h f tid = refl
 inode_by false true h f tid = rw (eq-eqb f f refl) refl
 
-known_flushed : (known : Bool) (a : Answer) (tid : ℕ) → answers.Flush tid ≡ cond known a answers.Unknown → known ≡ true
-known_flushed true a tid e = refl
-known_flushed false a tid e = absurd cc
+-- only a file that is known is flushed, in a session that is active
+can_flush : (known active : Bool) (a : Answer) (tid : ℕ) → answers.Flush tid ≡ cond known (cond active a (answers.Again why.Session)) answers.Unknown
+    → (known ≡ true) × (active ≡ true)
+can_flush true true a tid e = (refl, refl)
+can_flush true false a tid e = absurd cc
+can_flush false active a tid e = absurd cc
 
 flush_others : (h : List Entry) (f g tid : ℕ) → (f == g) ≡ false → inode (flushed f (answers.Flush tid) h) g ≡ inode h g
 flush_others h f g tid other = rw other refl
@@ -121,9 +126,11 @@ snap_inode_of : (h : List Entry) (f tid : ℕ) (o : Option CapSnap)
 snap_inode_of h f tid None = refl
 snap_inode_of h f tid (Some x) = snap_inode_by x.writing h f tid x
 
-known_snap : (known : Bool) (a : Answer) (tid follows : ℕ) → answers.FlushSnap tid follows ≡ cond known a answers.Unknown → known ≡ true
-known_snap true a tid follows e = refl
-known_snap false a tid follows e = absurd cc
+can_flush_snap : (known active : Bool) (a : Answer) (tid follows : ℕ)
+    → answers.FlushSnap tid follows ≡ cond known (cond active a (answers.Again why.Session)) answers.Unknown → (known ≡ true) × (active ≡ true)
+can_flush_snap true true a tid follows e = (refl, refl)
+can_flush_snap true false a tid follows e = absurd cc
+can_flush_snap false active a tid follows e = absurd cc
 
 snap_others : (h : List Entry) (f g tid follows : ℕ) → (f == g) ≡ false → inode (snap_flushed f (answers.FlushSnap tid follows) h) g ≡ inode h g
 snap_others h f g tid follows other = rw other refl
@@ -139,11 +146,13 @@ module _ (p : ℕ) (h : List Entry) (run : IsRun p h) where
   pub tids_drawn : (f : ℕ) → greatest_tid (inode h f) ≤ length (sent h)
   tids_drawn f = omega (arith, queue_tids p h run f, unacked_tids p h run f)
 
-  pub flush_is : (f : ℕ) → client_knows h f ≡ true → answer_flush h f ≡ flush_said (flush_answer next (inode h f))
-  flush_is f known = rw (known, sym (queue_writing p h run f)) (flush_by (is_writing (snaps h f)) (is_empty (dirty h f)) (head_sent h f next))
+  pub flush_is : (f : ℕ) → client_knows h f ≡ true → IsActive h → answer_flush h f ≡ flush_said (flush_answer next (inode h f))
+  flush_is f known active = rw (known, active, sym (queue_writing p h run f)) (flush_by (is_writing (snaps h f)) (is_empty (dirty h f)) (head_sent h f next))
 
   flush_told : (f tid : ℕ) → answers.Flush tid ≡ answer_flush h f → answers.Flush tid ≡ flush_said (flush_answer next (inode h f))
-  flush_told f tid is = is ∙ flush_is f (known_flushed (client_knows h f) _ tid is)
+  flush_told f tid is =
+      let able = can_flush (client_knows h f) (is_client_active (client_state h)) _ tid is in
+      is ∙ flush_is f able.0 able.1
 
   -- what is sent is the file's present metadata
   pub flush_sends : (f tid : ℕ) → answers.Flush tid ≡ answer_flush h f → flush_answer tid (inode h f) ≡ flush.Sent (sent_of (present h f tid))
@@ -160,12 +169,15 @@ module _ (p : ℕ) (h : List Entry) (run : IsRun p h) where
       (ap (λ a. inode (flushed g a h) g) told ∙ (done ∙ ap (λ n. after_flush n (inode h g)) (sym same)))
       (flush_others h g f tid)
 
-  pub flush_snaps_is : (f : ℕ) → client_knows h f ≡ true → answer_flush_snaps h f ≡ snap_said (flush_snaps_answer next (inode h f))
-  flush_snaps_is f known = rw known (sym (said_of next (first_unsent (snaps h f)) ∙ queue_answer p h run f (length (sent h))))
+  pub flush_snaps_is : (f : ℕ) → client_knows h f ≡ true → IsActive h
+      → answer_flush_snaps h f ≡ snap_said (flush_snaps_answer next (inode h f))
+  flush_snaps_is f known active = rw (known, active) (sym (said_of next (first_unsent (snaps h f)) ∙ queue_answer p h run f (length (sent h))))
 
   snap_told : (f tid follows : ℕ) → answers.FlushSnap tid follows ≡ answer_flush_snaps h f
       → answers.FlushSnap tid follows ≡ snap_said (flush_snaps_answer next (inode h f))
-  snap_told f tid follows is = is ∙ flush_snaps_is f (known_snap (client_knows h f) _ tid follows is)
+  snap_told f tid follows is =
+      let able = can_flush_snap (client_knows h f) (is_client_active (client_state h)) _ tid follows is in
+      is ∙ flush_snaps_is f able.0 able.1
 
   pub flush_snaps_sends : (f tid follows : ℕ) → answers.FlushSnap tid follows ≡ answer_flush_snaps h f
       → flush_snaps_answer tid (inode h f) ≡ snap.Sent (sent_of (snap_of h f tid follows))

@@ -26,7 +26,7 @@ use Rattle.cs_files.proofs.Delivered.{ack_row, cap_row}
 use Rattle.cs_files.proofs.Ends.{end_row}
 use Rattle.cs_files.proofs.Flushes.{flush_row, flush_snaps_row}
 use Rattle.cs_files.proofs.Made.{dir_row, file_row, new_is, new_under}
-use Rattle.cs_files.proofs.Told.{told_row}
+use Rattle.cs_files.proofs.Told.{resumed_row, told_row}
 use Rattle.cs_files.proofs.Writes.{write_row}
 
 -- what is kept of the file after the event, if it is answered so
@@ -54,6 +54,10 @@ after_check : (h : List Entry) (g : ℕ) (a : Answer) (f : ℕ) → Serves h (ev
 after_check h g (answers.Ack seq bits) f = check_row h g seq bits f
 after_check h g _ f = refl
 
+after_reconnect : (h : List Entry) (a : Answer) (f : ℕ) → Serves h events.Reconnect a f
+after_reconnect h (answers.Reconnect caps requests flushes) f = refl
+after_reconnect h _ f = refl
+
 module _ (p : ℕ) (h : List Entry) (run : IsRun p h) where
   after_end : (c : ℕ) (name : RefName) (a : Answer) (f : ℕ) → a ≡ answer_end h c name → Serves h (events.End c name) a f
   after_end c name answers.Ended f is = end_row p h run c name f is
@@ -71,6 +75,7 @@ module _ (p : ℕ) (h : List Entry) (run : IsRun p h) where
   after_delivery (answers.Cap g seq bits end) f is known = cap_row h g seq bits end f
   after_delivery (answers.FlushAck g tid) f is known = ack_row h g tid f
   after_delivery (answers.SnapTold number realm made) f is known = told_row p h run number realm made f is known
+  after_delivery (answers.Resumed made) f is known = resumed_row p h run made f is known
   after_delivery (answers.Unsafe tid o) f is known = known_stays p h run tid o (answers_next h tid o is) f known
   after_delivery _ f is known = refl
 
@@ -86,6 +91,7 @@ module _ (p : ℕ) (h : List Entry) (run : IsRun p h) where
   known_row (events.Flush g) a is can f known = after_flush g a f is
   known_row (events.FlushSnaps g) a is can f known = after_flush_snaps g a f is
   known_row events.ToClient a is can f known = after_delivery a f is known
+  known_row events.Reconnect a is can f known = after_reconnect h a f
   known_row _ a is can f known = refl
 
   -- of one that becomes known

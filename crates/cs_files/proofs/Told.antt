@@ -1,6 +1,6 @@
 -- The client is told of a snapshot or a removal: which files get a cap snap, and what it makes of what is kept of each.
 use Rattle.std.proofs.Common.{◌≡◌, ◌∙◌, refl, sym, ap, subst, ℕ, ◌+◌, ◌<◌, ◌&&◌, ◌||◌, Bool, true}
-use Rattle.std.proofs.Common.{false, cond, not, List, ◌∷◌, ◌++◌, [], reverse, nat_eq, inl, inr, ⊎_elim, arith}
+use Rattle.std.proofs.Common.{false, cond, not, List, ◌∷◌, ◌++◌, [], reverse, nat_eq, inl, inr, ⊎_elim, arith, Option, unwrap_or}
 use Rattle.std.proofs.Math.Bool.{and_assoc}
 use Rattle.std.proofs.lemmas.Bool.{and_parts, both_ways, eqb-true, not-false}
 use Rattle.std.proofs.lemmas.List.{reverse-append, reverse-reverse}
@@ -25,7 +25,7 @@ use Rattle.cs_laws.specs.Runs.{IsRun}
 use Rattle.cs_theorems.specs.Contexts.{Rises}
 use Rattle.cs_theorems.specs.Queues.{snaps}
 use Rattle.cs_theorems.specs.References.{IsEachOnce}
-use Rattle.cs_theorems.proofs.Contexts.{told_moves}
+use Rattle.cs_theorems.proofs.Linked.{told_rises}
 use Rattle.cs_theorems.proofs.Course.{course_run}
 use Rattle.cs_theorems.proofs.Files.{listed, listed_once}
 use Rattle.cs_theorems.proofs.Listed.{Member, Each, each_end, each_reverse, each_tail}
@@ -33,6 +33,7 @@ use Rattle.cs_theorems.proofs.Order.{not_other}
 use Rattle.cs_theorems.proofs.Orderings.{count_made_any}
 use Rattle.cs_theorems.proofs.Owing.{writer_counted}
 use Rattle.cs_theorems.proofs.QueueAnswers.{queue_makes}
+use Rattle.cs_theorems.proofs.Settings.{Setting}
 use Rattle.cs_files.specs.Rows.{inode}
 use Rattle.cs_files.specs.Laws.{TellsNext, told_context}
 use Rattle.cs_files.proofs.Delivered.{can_deliver}
@@ -77,9 +78,18 @@ rises old new moves other = ⊎_elim (λ same. absurd (both_ways (differs old ne
 abbrev telling : Answer → List Entry → List Entry
 telling a h = record { event = events.ToClient; answer = a } ∷ h
 
-pub context_told : (h : List Entry) (number realm made : ℕ) (told : List RealmRecord) (f : ℕ) → TellsNext h number realm told
+-- the first message has these records
+records_first : (h : List Entry) (told : List RealmRecord) → TellsNext h told → with_first (to_client h) (realms h) ≡ with_records told (realms h)
+records_first h told next =
+    ap (λ q. with_first q (realms h)) next.first ∙ ap (λ (o : Option (List RealmRecord)). with_records (unwrap_or o []) (realms h)) next.realms
+
+pub context_told : (h : List Entry) (number realm made : ℕ) (told : List RealmRecord) (f : ℕ) → TellsNext h told
     → context (telling (answers.SnapTold number realm made) h) f ≡ told_context h told f
-context_told h number realm made told f next = ap (λ q. path_context (client_file_path h f) (with_first q (realms h))) next.first
+context_told h number realm made told f next = ap (λ rs. path_context (client_file_path h f) rs) (records_first h told next)
+
+pub context_resumed : (h : List Entry) (made : ℕ) (told : List RealmRecord) (f : ℕ) → TellsNext h told
+    → context (telling (answers.Resumed made) h) f ≡ told_context h told f
+context_resumed h made told f next = ap (λ rs. path_context (client_file_path h f) rs) (records_first h told next)
 
 -- what is kept under another context, with one cap snap more, or not
 abbrev inode_with : List Entry → ℕ → Context → Bool → FileInode
@@ -129,12 +139,22 @@ module _ (p : ℕ) (h : List Entry) (run : IsRun p h) where
   told_rises : (a : Answer) (f : ℕ) → a ≡ answer_to_client h → client_knows h f ≡ true → Rises (context h f) (context (telling a h) f)
   told_rises a f is known = (course_run p (telling a h) ((can_deliver h, is), run)).contexts.0 f known
 
-  pub context_rises : (number realm : ℕ) (told : List RealmRecord) (f : ℕ) → TellsNext h number realm told
+  pub context_rises : (told : List RealmRecord) (f : ℕ) → TellsNext h told
       → differs (context h f) (told_context h told f) ≡ true → (context h f).seq < (told_context h told f).seq
-  context_rises number realm told f next =
-      let now : with_first (to_client h) (realms h) ≡ with_records told (realms h) = ap (λ q. with_first q (realms h)) next.first in
-      let moves = told_moves h number realm told next.rest f next.first (course_run p h run).setting in
-      rises (context h f) (told_context h told f) (subst (λ ts. Rises (context h f) (path_context (client_file_path h f) ts)) now moves)
+  context_rises told f next =
+      rises (context h f) (told_context h told f)
+      (subst (λ ts. Rises (context h f) (path_context (client_file_path h f) ts)) (records_first h told next)
+      (told_rises h next.message told next.rest next.first next.realms i.front f i.tree i.housed i.asks i.drawn))
+    where
+      i : Setting h
+      i = (course_run p h run).setting
+
+  pub resumed_row : (made f : ℕ) → answers.Resumed made ≡ answer_to_client h → client_knows h f ≡ true
+      → inode (telling (answers.Resumed made) h) f ≡ with_context_at (context (telling (answers.Resumed made) h) f) (inode h f)
+  resumed_row made f is known =
+      let new : Context = context (telling (answers.Resumed made) h) f in
+      ap (λ b. inode_with h f new b) (makes_is f new)
+      ∙ changed h f new (differs (context h f) new) refl (told_rises (answers.Resumed made) f is known)
 
   pub told_row : (number realm made f : ℕ) → answers.SnapTold number realm made ≡ answer_to_client h → client_knows h f ≡ true
       → inode (telling (answers.SnapTold number realm made) h) f ≡ with_context_at (context (telling (answers.SnapTold number realm made) h) f) (inode h f)

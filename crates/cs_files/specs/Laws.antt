@@ -28,6 +28,7 @@ use Rattle.cs_laws.specs.declared.requests.ReqOp.TheVariants as ops
 use Rattle.cs_laws.specs.Answers.{answer_begin, answer_check, answer_chmod, answer_flush, answer_flush_snaps}
 use Rattle.cs_laws.specs.Answers.{answer_read, bytes_from, count_made, may_change_mode, may_read, may_write}
 use Rattle.cs_laws.specs.CapSnaps.{is_writing, makes}
+use Rattle.cs_laws.specs.Carried.{realms_on}
 use Rattle.cs_laws.specs.Context.{differs, path_context}
 use Rattle.cs_laws.specs.ClientKnows.{client_files, client_knows, client_file_path, client_path}
 use Rattle.cs_laws.specs.Events.{begun, clock}
@@ -39,6 +40,7 @@ use Rattle.cs_laws.specs.Owed as history
 use Rattle.cs_laws.specs.References.{named}
 use Rattle.cs_laws.specs.Requests.{has_reply, op_of, replies, requests}
 use Rattle.cs_laws.specs.Runs.{all_setup}
+use Rattle.cs_laws.specs.Sessions.{client_state, is_client_active}
 use Rattle.cs_theorems.specs.Unacked.{sent_of}
 use Rattle.cs_files.specs.Rows.{inode}
 use Rattle.cs_files.specs.Steps.{inode_then}
@@ -73,16 +75,23 @@ pub record FilesAreNew (h : List Entry) : Type 0 where
       → context (record { event = events.ToClient; answer = answers.Unsafe tid (replies_of.Made f) } ∷ h) f ≡ path_context (client_path h d) (realms h)
   pub known : (c : ℕ) (name : RefName) (r : Live) → named c name (live h) ≡ Some r → client_knows h r.file ≡ true
 
--- The answers are those that the file gives, which knows whether a cap snap of it is writing.
+-- the client's session is active
+abbrev pub IsActive : List Entry → Type 0
+IsActive h = is_client_active (client_state h) ≡ true
+
+-- The answers are those that the file gives, which knows whether a cap snap of it is writing. In a session that isn't active nothing
+-- is acknowledged or flushed.
 pub record FilesAnswer (h : List Entry) : Type 0 where
   pub writing : (f : ℕ) → kept.is_writing (inode h f).snaps ≡ is_writing (live h) (queued h f)
   pub begin : (c f : ℕ) (bits : Caps) (end : ℕ) → client_knows h f ≡ true
       → answer_begin h c f bits end ≡ begun_said (length (live h)) (begun h c) (allowance bits end (inode h f))
   pub chmod : (c : ℕ) (name : RefName) (r : Live) → named c name (live h) ≡ Some r → may_change_mode r.bits ≡ true
       → answer_chmod h c name ≡ chmod_said (chmod_answer (inode h r.file))
-  pub check : (f : ℕ) → client_knows h f ≡ true → answer_check h f ≡ check_said (check_answer (used_in f (live h)) (inode h f))
-  pub flush : (f : ℕ) → client_knows h f ≡ true → answer_flush h f ≡ flush_said (flush_answer (length (sent h) + 1) (inode h f))
-  pub flush_snaps : (f : ℕ) → client_knows h f ≡ true
+  pub check : (f : ℕ) → client_knows h f ≡ true → IsActive h
+      → answer_check h f ≡ check_said (check_answer (used_in f (live h)) (inode h f))
+  pub flush : (f : ℕ) → client_knows h f ≡ true → IsActive h
+      → answer_flush h f ≡ flush_said (flush_answer (length (sent h) + 1) (inode h f))
+  pub flush_snaps : (f : ℕ) → client_knows h f ≡ true → IsActive h
       → answer_flush_snaps h f ≡ snap_said (flush_snaps_answer (length (sent h) + 1) (inode h f))
 
 -- What the file sends is what the history sends, and the numbers that it keeps were drawn.
@@ -113,19 +122,23 @@ abbrev pub told_context : List Entry → List RealmRecord → ℕ → Context
 told_context h told f = path_context (client_file_path h f) (with_records told (realms h))
 
 -- The message that is delivered next tells of these realms.
-pub record TellsNext (h : List Entry) (number realm : ℕ) (told : List RealmRecord) : Type 0 where
+pub record TellsNext (h : List Entry) (told : List RealmRecord) : Type 0 where
+  pub message : Message
   pub rest : List Message
-  pub first : to_client h ≡ messages.Snap number realm told ∷ rest
+  pub first : to_client h ≡ message ∷ rest
+  pub realms : realms_on message ≡ Some told
 
 -- A cap snap is made where the file needs one, and so many are as there are such files among those that the client knows, counted
--- in the order in which they were made. Where a snapshot or a removal is told, a context stays or its seq rises.
+-- in the order in which they were made. Where realm records are told, a context stays or its seq rises.
 pub record FilesAreTold (h : List Entry) : Type 0 where
   pub needs : (f : ℕ) (new : Context) → makes f (context h f) new (live h) (dirty h f) (queued h f) ≡ needs_snap_at new (inode h f)
   pub count : (new : ℕ → Context) (needs : ℕ → Bool) → ((f : ℕ) → client_knows h f ≡ true → needs f ≡ needs_snap_at (new f) (inode h f))
       → count_made h new (client_files h) ≡ count_needed needs (reverse (client_files h))
-  pub under : (number realm made : ℕ) (told : List RealmRecord) (f : ℕ) → TellsNext h number realm told
+  pub under : (number realm made : ℕ) (told : List RealmRecord) (f : ℕ) → TellsNext h told
       → context (record { event = events.ToClient; answer = answers.SnapTold number realm made } ∷ h) f ≡ told_context h told f
-  pub rises : (number realm : ℕ) (told : List RealmRecord) (f : ℕ) → TellsNext h number realm told
+  pub resumed : (made : ℕ) (told : List RealmRecord) (f : ℕ) → TellsNext h told
+      → context (record { event = events.ToClient; answer = answers.Resumed made } ∷ h) f ≡ told_context h told f
+  pub rises : (told : List RealmRecord) (f : ℕ) → TellsNext h told
       → differs (context h f) (told_context h told f) ≡ true → (context h f).seq < (told_context h told f).seq
 
 -- the snapshot of a state, or None for the present one

@@ -2,6 +2,7 @@
 -- Functions go by the event first, and then by its answer.
 use Rattle.std.specs.Prelude.{ℕ, ◌+◌, ◌==◌, List, Option, Some, None, length, if◌then◌else◌}
 use Rattle.cs_parts.specs.declared.references.Live.{Live}
+use Rattle.cs_parts.specs.Capabilities.{restarted}
 use Rattle.cs_snapctx.specs.Context.{Context}
 use Rattle.cs_inode.specs.Calls.{acked, started, stopped, with_caps, with_context_at}
 use Rattle.cs_inode.specs.Inodes.{FileInode, after_ack, after_flush, after_flush_snaps, with_mode, written}
@@ -30,4 +31,6 @@ inode_then (events.FlushSnaps g) (answers.FlushSnap tid follows) rs time new f i
 inode_then events.ToClient (answers.Cap g seq bits end) rs time new f i = if g == f then with_caps bits seq end i else i
 inode_then events.ToClient (answers.FlushAck g tid) rs time new f i = if g == f then after_ack tid i else i
 inode_then events.ToClient (answers.SnapTold number realm made) rs time new f i = with_context_at new i
+inode_then events.ToClient (answers.Resumed made) rs time new f i = with_context_at new i
+inode_then events.Reconnect (answers.Reconnect caps requests flushes) rs time new f i = record i { caps = restarted i.caps }
 inode_then _ _ rs time new f i = i

@@ -1,10 +1,10 @@
 // One file's answers, after the CephFS documentation of capabilities and snapshots and the comments of
 // Linux's fs/ceph/caps.c and fs/ceph/snap.c.
 ghost use Rattle.std.specs.Prelude.{◌≡◌, ◌+◌, ◌-◌, ◌<◌, ◌≤◌, ◌++◌, ℕ, true, false, Some, None, length, min, take, IfOk, OnErr, OnOk};
-ghost use Rattle.cs_caps.specs.Client.{completed, restarted};
+ghost use Rattle.cs_caps.specs.Client.{completed};
 ghost use Rattle.cs_capsnap.specs.CapSnaps.{is_writing};
 ghost use Rattle.cs_laws.specs.Fits.{greatest_end, is_write, most_shown};
-ghost use Rattle.cs_parts.specs.Capabilities.{delivered};
+ghost use Rattle.cs_parts.specs.Capabilities.{delivered, restarted};
 ghost use Rattle.cs_inode.specs.declared.answers.WriteStep.TheVariants as write;
 ghost use Rattle.cs_inode.specs.Answers.{allowance, check_answer, chmod_answer, flush_answer, flush_snaps_answer, is_hold, is_wait};
 ghost use Rattle.cs_inode.specs.Inodes.{after_ack, after_chmod, after_flush, after_flush_snaps, greatest_tid, has_any, has_flush_below, is_any_unacked, is_dirty, needs_snap, new_inode, owed, with_context, with_writer, without_writer, write_operations, written};

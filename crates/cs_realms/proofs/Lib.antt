@@ -4,6 +4,7 @@ pub mod Once
 pub mod Places
 pub mod Puts
 pub mod Renewing
+pub mod Rising
 pub mod Stays
 pub mod Steps
 pub mod Ups

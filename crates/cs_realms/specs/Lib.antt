@@ -1,4 +1,5 @@
 pub mod Changes
 pub mod Example
+pub mod Known
 pub mod Renewals
 pub mod Table

@@ -6,9 +6,10 @@ ghost use Rattle.cs_realms.specs.declared.fault.RealmFault.TheVariants as faults
 ghost use Rattle.cs_snapctx.specs.Records.{is_known, is_of, missing_parent, root_record, with_record};
 ghost use Rattle.cs_snapctx.specs.Contexts.{context};
 ghost use Rattle.cs_realms.specs.Changes.{change, changes, is_of_change};
+ghost use Rattle.cs_realms.specs.Known.{known};
 
 use crate::context::context_with;
-use crate::record::{missing_parent, place_of, root_record};
+use crate::record::{known, missing_parent, place_of, root_record};
 use crate::renewal::{Renewed, put_in, renewed_contexts};
 use crate::{Change, Changed, RealmFault};
 use cs_ids::{Ino, Memory};
@@ -151,5 +152,12 @@ impl Realms {
     {
         let place = place_of(self.records.as_slice(), realm)?;
         self.contexts.get(place)
+    }
+
+    /// The realms that are known, by rising inodes.
+    pub fn known(&self) -> Result<Vec<Ino>, Memory>
+        ensures { IfOk result (λ all. all.items ≡ known self.now) }
+    {
+        known(self.alloc, self.records.as_slice())
     }
 }

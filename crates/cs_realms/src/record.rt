@@ -1,10 +1,11 @@
 // The list of the last records.
-ghost use Rattle.std.specs.Prelude.{◌≡◌, length, position};
+ghost use Rattle.std.specs.Prelude.{◌≡◌, length, map, position, IfOk};
 ghost use Rattle.std.specs.Option.{option_copied};
 ghost use Rattle.cs_snapctx.specs.Records.{is_of, missing_parent, parent_record, record_of, root_record, with_record};
+ghost use Rattle.cs_realms.specs.Known.{known, rising};
 ghost use Rattle.cs_realms.specs.Renewals.{newest};
 
-use cs_ids::{Ino, Seq, Snap};
+use cs_ids::{Ino, Memory, Seq, Snap};
 use cs_snapctx::{RealmRecord, SnapList};
 use std::alloc::Global;
 
@@ -94,4 +95,28 @@ pub fn parent_record_with<'a>(
 {
     let parent = from.parent?;
     record_with(records, latest, parent)
+}
+
+// The realms of these records, by rising inodes.
+pub fn known(alloc: Global, records: &[RealmRecord]) -> Result<Vec<Ino>, Memory>
+    ensures { IfOk result (λ all. all.items ≡ known records.now) }
+{
+    let realms = realms_of(alloc, records)?;
+    Ok(rising(realms))
+}
+
+// The realms of these records, in their order.
+fn realms_of(alloc: Global, records: &[RealmRecord]) -> Result<Vec<Ino>, Memory>
+    ensures { IfOk result (λ all. all.items ≡ map (λ r. r.realm) records.now) }
+{
+    Ok(records.iter().map(|r| r.realm).collect(alloc)?)
+}
+
+// The same inodes, rising, each once.
+fn rising(mut inodes: Vec<Ino>) -> Vec<Ino>
+    ensures { result.items ≡ rising inodes.items }
+{
+    inodes.sort_unstable();
+    inodes.dedup();
+    inodes
 }

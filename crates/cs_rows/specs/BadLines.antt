@@ -119,13 +119,25 @@ capabilities_and_flushes =
 abbrev pub first_words : List Row
 first_words =
     (codes " check 100", kinds.Word) ∷
-    (codes "reconnect", kinds.NotBuilt) ∷
     (codes "writeback 100", kinds.NotBuilt) ∷
-    (codes "failover ", kinds.NotBuilt) ∷
+    (codes "osd ", kinds.NotBuilt) ∷
     (codes "osdlose 0 x", kinds.NotBuilt) ∷
     (codes "upgrade", kinds.Word) ∷
     (codes "toserver", kinds.Word) ∷
     (codes "Clock 1", kinds.Word) ∷
+    []
+
+abbrev pub losses : List Row
+losses =
+    (codes "drop 1", kinds.Extra) ∷
+    (codes "drop ", kinds.Extra) ∷
+    (codes "reconnect 1", kinds.Extra) ∷
+    (codes "failover", kinds.Word) ∷
+    (codes "failover ", kinds.Number) ∷
+    (codes "failover 01", kinds.Number) ∷
+    (codes "failover -1", kinds.Number) ∷
+    (codes "failover 10001", kinds.Range) ∷
+    (codes "failover 0 1", kinds.Extra) ∷
     []
 
 abbrev pub requests_and_leases : List Row

@@ -11,7 +11,7 @@ long_line = codes "ceph-script 1\n" ++ replicate 4097 120 ++ codes "\n"
 
 -- an event that isn't built yet, behind a comment
 abbrev pub later_event : List ℕ
-later_event = codes "ceph-script 1\n# a comment\nreconnect\n"
+later_event = codes "ceph-script 1\n# a comment\ninvalidate 100\n"
 
 -- a number with a leading zero
 abbrev pub leading_zero : List ℕ

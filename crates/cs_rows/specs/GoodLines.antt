@@ -58,6 +58,8 @@ rows =
     (codes "req 1 lookup 1 a", events.Req 1 (ops.Lookup 1 (codes "a"))) ∷
     (codes "toclient", events.ToClient) ∷
     (codes "tomds", events.ToMds) ∷
+    (codes "drop", events.DropLinks) ∷
+    (codes "reconnect", events.Reconnect) ∷
     (codes "grant 1 Frw 0", events.Grant 1 (record { 0 = 6144 }) 0) ∷
     (codes "revoke 99999 -", events.Revoke 99999 (record { 0 = 0 })) ∷
     (codes "snap 99999 0-to_9.of-32-bytes-abcdefghijklm", events.Snap 99999 (codes "0-to_9.of-32-bytes-abcdefghijklm")) ∷
@@ -65,6 +67,8 @@ rows =
     (codes "rmsnap 99999", events.RmSnap 99999) ∷
     (codes "unlease 1 0-to_9.of-32-bytes-abcdefghijklm", events.Unlease 1 (codes "0-to_9.of-32-bytes-abcdefghijklm")) ∷
     (codes "commit", events.Commit) ∷
+    (codes "failover 0", events.Failover 0) ∷
+    (codes "failover 10000", events.Failover 10000) ∷
     (codes "show 1 head 0 1", events.Show 1 at.Head 0 1) ∷
     (codes "show 99999 99999 1048575 4096", events.Show 99999 (at.Snap 99999) 1048575 4096) ∷
     (codes "names 1", events.Names 1) ∷

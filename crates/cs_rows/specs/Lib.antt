@@ -5,6 +5,8 @@ pub mod CreateAndLookup
 pub mod Delivered
 pub mod EmptyScript
 pub mod Faults
+pub mod FlushKept
+pub mod FlushLost
 pub mod FullTable
 pub mod GoodLines
 pub mod HeadFlush
@@ -12,11 +14,18 @@ pub mod HoldThenAck
 pub mod LastByte
 pub mod LaterWrites
 pub mod Leases
+pub mod LostSnapshot
 pub mod OneCapSnap
 pub mod RealmBehindASnapshot
 pub mod RealmBetween
+pub mod RealmMadeAnew
 pub mod Realms
 pub mod RefusedEvents
+pub mod ReplayedCreate
+pub mod RevocationOverFailover
+pub mod SafeBeforeUnsafe
+pub mod SafeBeforeUnsafeDropped
+pub mod Sessions
 pub mod TwoObjects
 pub mod UnderAWriter
 pub mod WriteAfterSnapshot

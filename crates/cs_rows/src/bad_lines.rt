@@ -28,6 +28,11 @@ pub fn first_words()
     ensures { AreRefused lines.first_words }
 {}
 
+/// Losses of messages and of the server, and reconnects.
+pub fn losses()
+    ensures { AreRefused lines.losses }
+{}
+
 /// Requests, look-ups and leases, and the names in a directory.
 pub fn requests_and_leases()
     ensures { AreRefused lines.requests_and_leases }

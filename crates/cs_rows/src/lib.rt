@@ -6,4 +6,5 @@
 pub mod bad_lines;
 pub mod faults;
 pub mod good_lines;
+pub mod losses;
 pub mod runs;

@@ -10,11 +10,11 @@ use Rattle.cs_laws.specs.declared.events.Event.{Event}
 use Rattle.cs_laws.specs.declared.events.Event.TheVariants as events
 use Rattle.cs_laws.specs.declared.requests.ReqOp.{ReqOp}
 use Rattle.cs_laws.specs.declared.requests.ReqOp.TheVariants as ops
-use Rattle.cs_laws.specs.Fits.{fits, is_built, is_write, is_shown, is_state, greatest_end, greatest_time, most_written, most_shown}
+use Rattle.cs_laws.specs.Fits.{fits, is_built, is_write, is_shown, is_state, greatest_end, greatest_time, most_kept, most_written, most_shown}
 use Rattle.cs_laws.specs.Grammar.{Words, is_skipped}
 use Rattle.cs_laws.specs.Texts.{event_text, name_text, mode_text}
 use Rattle.cs_script.specs.Spelling.{IsEvent}
-use Rattle.cs_script.proofs.FieldKinds.{Field, inode, made_inode, time, caller, size, offset, count, set, reference, octal, payload, entry_name, state, keyword}
+use Rattle.cs_script.proofs.FieldKinds.{Field, inode, made_inode, time, caller, size, offset, kept, count, set, reference, octal, payload, entry_name, state, keyword}
 use Rattle.cs_script.proofs.FieldLists.{Values, texts_of, AreGood, most_of_all}
 
 pub record Form : Type 0 where
@@ -91,6 +91,12 @@ to_client_form = record { word = codes "toclient"; fields = []; make = λ v. eve
 abbrev pub to_mds_form : Form
 to_mds_form = record { word = codes "tomds"; fields = []; make = λ v. events.ToMds }
 
+abbrev pub drop_form : Form
+drop_form = record { word = codes "drop"; fields = []; make = λ v. events.DropLinks }
+
+abbrev pub reconnect_form : Form
+reconnect_form = record { word = codes "reconnect"; fields = []; make = λ v. events.Reconnect }
+
 abbrev pub grant_form : Form
 grant_form = record { word = codes "grant"; fields = inode ∷ set ∷ size ∷ []; make = λ v. events.Grant v.0 v.1.0 v.1.1.0 }
 
@@ -108,6 +114,9 @@ unlease_form = record { word = codes "unlease"; fields = inode ∷ entry_name �
 
 abbrev pub commit_form : Form
 commit_form = record { word = codes "commit"; fields = []; make = λ v. events.Commit }
+
+abbrev pub failover_form : Form
+failover_form = record { word = codes "failover"; fields = kept ∷ []; make = λ v. events.Failover v.0 }
 
 abbrev pub show_form : Form
 show_form = record { word = codes "show"; fields = inode ∷ state ∷ offset ∷ count ∷ []; make = λ v. events.Show v.0 v.1.0 v.1.1.0 v.1.1.1.0 }
@@ -136,12 +145,15 @@ spelling (events.Req c (ops.Rename d name new)) = (rename_req_form, (c, (tt, (d,
 spelling (events.Req c (ops.Lookup d name)) = (lookup_req_form, (c, (tt, (d, (name, tt)))))
 spelling events.ToClient = (to_client_form, tt)
 spelling events.ToMds = (to_mds_form, tt)
+spelling events.DropLinks = (drop_form, tt)
+spelling events.Reconnect = (reconnect_form, tt)
 spelling (events.Grant f bits max) = (grant_form, (f, (bits, (max, tt))))
 spelling (events.Revoke f bits) = (revoke_form, (f, (bits, tt)))
 spelling (events.Snap d name) = (snap_form, (d, (name, tt)))
 spelling (events.RmSnap s) = (remove_form, (s, tt))
 spelling (events.Unlease d name) = (unlease_form, (d, (name, tt)))
 spelling events.Commit = (commit_form, tt)
+spelling (events.Failover keep) = (failover_form, (keep, tt))
 spelling (events.Show f a off len) = (show_form, (f, (a, (off, (len, tt)))))
 spelling (events.Names d) = (names_form, (d, tt))
 
@@ -195,12 +207,15 @@ spelled_fits (events.Req c (ops.Rename d name new)) s = ((s.0.0, ((s.0.1.1.0, s.
 spelled_fits (events.Req c (ops.Lookup d name)) s = ((s.0.0, (s.0.1.1.0, s.0.1.1.1.0)), refl)
 spelled_fits events.ToClient s = (tt, refl)
 spelled_fits events.ToMds s = (tt, refl)
+spelled_fits events.DropLinks s = (tt, refl)
+spelled_fits events.Reconnect s = (tt, refl)
 spelled_fits (events.Grant f bits max) s = (s.0.0, both _ _ s.0.1.0 (at_most max greatest_end s.0.1.1.0.1))
 spelled_fits (events.Revoke f bits) s = (s.0.0, s.0.1.0)
 spelled_fits (events.Snap d name) s = ((s.0.0, s.0.1.0), refl)
 spelled_fits (events.RmSnap n) s = ((omega arith, s.0.0.1), grind (arith, nat_tests))
 spelled_fits (events.Unlease d name) s = ((s.0.0, s.0.1.0), refl)
 spelled_fits events.Commit s = (tt, refl)
+spelled_fits (events.Failover keep) s = (tt, at_most keep most_kept s.0.0.1)
 spelled_fits (events.Show f a off len) s = ((s.0.0, s.0.1.0.0), both _ _ s.0.1.0.1 (shown off len (omega arith) (omega arith) (omega arith)))
 spelled_fits (events.Names d) s = (s.0.0, refl)
 
@@ -259,6 +274,8 @@ fits_spelled (events.Req c (ops.Rename d name new)) is fit = ((is.0, (tt, (is.1.
 fits_spelled (events.Req c (ops.Lookup d name)) is fit = ((is.0, (tt, (is.1.0, (is.1.1, tt)))), refl)
 fits_spelled events.ToClient is fit = (tt, refl)
 fits_spelled events.ToMds is fit = (tt, refl)
+fits_spelled events.DropLinks is fit = (tt, refl)
+fits_spelled events.Reconnect is fit = (tt, refl)
 fits_spelled (events.Grant f bits max) is fit =
     let set = built_up_to bits max fit in
     ((is, (set.0, (set.1, tt))), refl)
@@ -267,6 +284,7 @@ fits_spelled (events.Snap d name) is fit = ((is.0, (is.1, tt)), refl)
 fits_spelled (events.RmSnap s) is fit = (((leb-true 1 s fit, is.1), tt), refl)
 fits_spelled (events.Unlease d name) is fit = ((is.0, (is.1, tt)), refl)
 fits_spelled events.Commit is fit = (tt, refl)
+fits_spelled (events.Failover keep) is fit = ((up_to most_kept keep fit, tt), refl)
 fits_spelled (events.Show f a off len) is fit =
     let parts = and_parts (is_state a) (is_shown off len) fit in
     let range = shown_range off len parts.1 in
@@ -314,12 +332,15 @@ joined (events.Req c (ops.Rename d name new)) = rename_joined (decimal c) (decim
 joined (events.Req c (ops.Lookup d name)) = request_joined (codes "lookup") (decimal c) (decimal d) name
 joined events.ToClient = refl
 joined events.ToMds = refl
+joined events.DropLinks = refl
+joined events.Reconnect = refl
 joined (events.Grant f bits max) = simp append_assoc
 joined (events.Revoke f bits) = simp append_assoc
 joined (events.Snap d name) = simp append_assoc
 joined (events.RmSnap s) = refl
 joined (events.Unlease d name) = simp append_assoc
 joined events.Commit = refl
+joined (events.Failover keep) = refl
 joined (events.Show f a off len) = simp append_assoc
 joined (events.Names d) = refl
 
@@ -352,12 +373,15 @@ forms_plain (events.Req c (ops.Rename d name new)) = refl
 forms_plain (events.Req c (ops.Lookup d name)) = refl
 forms_plain events.ToClient = refl
 forms_plain events.ToMds = refl
+forms_plain events.DropLinks = refl
+forms_plain events.Reconnect = refl
 forms_plain (events.Grant f bits max) = refl
 forms_plain (events.Revoke f bits) = refl
 forms_plain (events.Snap d name) = refl
 forms_plain (events.RmSnap s) = refl
 forms_plain (events.Unlease d name) = refl
 forms_plain events.Commit = refl
+forms_plain (events.Failover keep) = refl
 forms_plain (events.Show f a off len) = refl
 forms_plain (events.Names d) = refl
 

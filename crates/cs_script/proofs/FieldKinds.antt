@@ -13,7 +13,7 @@ use Rattle.cs_laws.specs.declared.events.RefName.{RefName}
 use Rattle.cs_laws.specs.declared.objects.At.{At}
 use Rattle.cs_laws.specs.declared.faults.Kind.{Kind}
 use Rattle.cs_laws.specs.declared.faults.Kind.TheVariants as kinds
-use Rattle.cs_laws.specs.Fits.{is_built, is_mode, is_state, greatest_end, greatest_time, most_written, most_shown}
+use Rattle.cs_laws.specs.Fits.{is_built, is_mode, is_state, greatest_end, greatest_time, most_kept, most_written, most_shown}
 use Rattle.cs_laws.specs.Grammar.{number_in, set_of, name_of, bytes_of, name_in, at_in, mode_in}
 use Rattle.cs_laws.specs.Texts.{name_text, at_text, mode_text}
 use Rattle.cs_script.specs.Spelling.{IsBytes, IsName, IsAt}
@@ -53,6 +53,9 @@ size = number 0 greatest_end refl
 
 abbrev pub offset : Field
 offset = number 0 1048575 refl
+
+abbrev pub kept : Field
+kept = number 0 most_kept refl
 
 abbrev pub count : Field
 count = number 1 most_shown refl

@@ -12,10 +12,10 @@ use Rattle.cs_laws.specs.declared.faults.Kind.{Kind}
 use Rattle.cs_laws.specs.declared.faults.Kind.TheVariants as kinds
 use Rattle.cs_laws.specs.declared.requests.ReqOp.TheVariants as ops
 use Rattle.cs_laws.specs.Fits.{fits}
-use Rattle.cs_laws.specs.Grammar.{Words, ◌>>=◌, number_in, number_at, word_in, words_in, only, ends_in_file, dir_of, file_of, clock_of, begin_of, end_of, write_of, read_of, chmod_of, check_of, flush_of, flush_snaps_of, grant_of, revoke_of, snap_of, remove_of, show_of, lookup_of, name_req_of, rename_req_of, req_by, req_of, unlease_of, names_of, is_later_word, event_by, event_of, in_time, is_setup, is_skipped, line_event}
+use Rattle.cs_laws.specs.Grammar.{Words, ◌>>=◌, number_in, number_at, word_in, words_in, only, ends_in_file, dir_of, file_of, clock_of, begin_of, end_of, write_of, read_of, chmod_of, check_of, flush_of, flush_snaps_of, grant_of, revoke_of, snap_of, remove_of, show_of, lookup_of, name_req_of, rename_req_of, req_by, req_of, unlease_of, failover_of, names_of, is_later_word, event_by, event_of, in_time, is_setup, is_skipped, line_event}
 use Rattle.cs_laws.specs.Texts.{event_text}
 use Rattle.cs_script.specs.Spelling.{IsEvent}
-use Rattle.cs_script.proofs.EventForms.{Form, dir_form, file_form, clock_form, begin_form, end_form, write_form, read_form, chmod_form, check_form, flush_form, flush_snaps_form, to_client_form, to_mds_form, grant_form, revoke_form, snap_form, remove_form, commit_form, show_form, lookup_form, mkdir_req_form, create_req_form, unlink_req_form, rename_req_form, lookup_req_form, unlease_form, names_form, spelling, words_by, words_of, IsSpelled, spelled_fits, fits_spelled, joined, form_plain}
+use Rattle.cs_script.proofs.EventForms.{Form, dir_form, file_form, clock_form, begin_form, end_form, write_form, read_form, chmod_form, check_form, flush_form, flush_snaps_form, to_client_form, to_mds_form, drop_form, reconnect_form, grant_form, revoke_form, snap_form, remove_form, commit_form, failover_form, show_form, lookup_form, mkdir_req_form, create_req_form, unlink_req_form, rename_req_form, lookup_req_form, unlease_form, names_form, spelling, words_by, words_of, IsSpelled, spelled_fits, fits_spelled, joined, form_plain}
 use Rattle.cs_script.proofs.FieldFacts.{binds, word_is, only_is, ends_is}
 use Rattle.cs_script.proofs.FieldLists.{Values, texts_of, AreGood, read_fields, Begins, with_first, begin_themselves, same_words, length-texts, texts_are_read, words_are_texts, texts_visible, line_few, line_skipped}
 use Rattle.cs_script.proofs.Visible.{AreVisible, word_visible, words_joined, one_line}
@@ -42,7 +42,7 @@ abbrev and_ends : Words → Values write_form.fields → Result Event Kind
 and_ends ws v = plainly write_form ws v >>= ends_in_file v.1.1.0 (length v.1.1.1.0)
 
 event_read : (e : Event) → IsSpelled e → event_of (words_of e) ≡ Ok e
-unfolding event_of event_by dir_of file_of clock_of begin_of end_of write_of read_of chmod_of check_of flush_of flush_snaps_of grant_of revoke_of snap_of remove_of show_of lookup_of req_of req_by name_req_of rename_req_of unlease_of names_of
+unfolding event_of event_by dir_of file_of clock_of begin_of end_of write_of read_of chmod_of check_of flush_of flush_snaps_of grant_of revoke_of snap_of remove_of show_of lookup_of req_of req_by name_req_of rename_req_of unlease_of failover_of names_of
 event_read (events.Dir d p) s = plainly_read dir_form (d, (p, tt)) s.0
 event_read (events.File f p) s = plainly_read file_form (f, (p, tt)) s.0
 event_read (events.Clock t) s = plainly_read clock_form (t, tt) s.0
@@ -62,12 +62,15 @@ event_read (events.Req c (ops.Rename d name new)) s = plainly_read rename_req_fo
 event_read (events.Req c (ops.Lookup d name)) s = plainly_read lookup_req_form (c, (tt, (d, (name, tt)))) s.0
 event_read events.ToClient s = refl
 event_read events.ToMds s = refl
+event_read events.DropLinks s = refl
+event_read events.Reconnect s = refl
 event_read (events.Grant f bits max) s = plainly_read grant_form (f, (bits, (max, tt))) s.0
 event_read (events.Revoke f bits) s = plainly_read revoke_form (f, (bits, tt)) s.0
 event_read (events.Snap d name) s = plainly_read snap_form (d, (name, tt)) s.0
 event_read (events.RmSnap n) s = plainly_read remove_form (n, tt) s.0
 event_read (events.Unlease d name) s = plainly_read unlease_form (d, (name, tt)) s.0
 event_read events.Commit s = refl
+event_read (events.Failover keep) s = plainly_read failover_form (keep, tt) s.0
 event_read (events.Show f a off len) s = plainly_read show_form (f, (a, (off, (len, tt)))) s.0
 event_read (events.Names d) s = plainly_read names_form (d, tt) s.0
 
@@ -181,7 +184,7 @@ request_spells ws first e h =
     request_by_spells ws c.value v.word w.word first v.is v.reads w.is e w.reads
 
 event_by_spells : (ws : Words) (w : List ℕ) → slice_get ws 0 ≡ Some w → Spelling ws (event_by w ws)
-unfolding event_by dir_of file_of clock_of begin_of end_of read_of chmod_of check_of flush_of flush_snaps_of grant_of revoke_of snap_of remove_of show_of lookup_of unlease_of names_of
+unfolding event_by dir_of file_of clock_of begin_of end_of read_of chmod_of check_of flush_of flush_snaps_of grant_of revoke_of snap_of remove_of show_of lookup_of unlease_of failover_of names_of
 event_by_spells ws w first =
     named ws 0 w (codes "dir") _ _ first (plainly_spells dir_form (λ v g. makes _ (dir_form.make v) (g, refl) refl) ws)
     (named ws 0 w (codes "file") _ _ first (plainly_spells file_form (λ v g. makes _ (file_form.make v) (g, refl) refl) ws)
@@ -198,15 +201,18 @@ event_by_spells ws w first =
     (named ws 0 w (codes "req") _ _ first (request_spells ws)
     (named ws 0 w (codes "toclient") _ _ first (plainly_spells to_client_form (λ v g. makes _ (to_client_form.make v) (g, refl) refl) ws)
     (named ws 0 w (codes "tomds") _ _ first (plainly_spells to_mds_form (λ v g. makes _ (to_mds_form.make v) (g, refl) refl) ws)
+    (named ws 0 w (codes "drop") _ _ first (plainly_spells drop_form (λ v g. makes _ (drop_form.make v) (g, refl) refl) ws)
+    (named ws 0 w (codes "reconnect") _ _ first (plainly_spells reconnect_form (λ v g. makes _ (reconnect_form.make v) (g, refl) refl) ws)
     (named ws 0 w (codes "grant") _ _ first (plainly_spells grant_form (λ v g. makes _ (grant_form.make v) (g, refl) refl) ws)
     (named ws 0 w (codes "revoke") _ _ first (plainly_spells revoke_form (λ v g. makes _ (revoke_form.make v) (g, refl) refl) ws)
     (named ws 0 w (codes "snap") _ _ first (plainly_spells snap_form (λ v g. makes _ (snap_form.make v) (g, refl) refl) ws)
     (named ws 0 w (codes "rmsnap") _ _ first (plainly_spells remove_form (λ v g. makes _ (remove_form.make v) (g, refl) refl) ws)
     (named ws 0 w (codes "unlease") _ _ first (plainly_spells unlease_form (λ v g. makes _ (unlease_form.make v) (g, refl) refl) ws)
     (named ws 0 w (codes "commit") _ _ first (plainly_spells commit_form (λ v g. makes _ (commit_form.make v) (g, refl) refl) ws)
+    (named ws 0 w (codes "failover") _ _ first (plainly_spells failover_form (λ v g. makes _ (failover_form.make v) (g, refl) refl) ws)
     (named ws 0 w (codes "show") _ _ first (plainly_spells show_form (λ v g. makes _ (show_form.make v) (g, refl) refl) ws)
     (named ws 0 w (codes "names") _ _ first (plainly_spells names_form (λ v g. makes _ (names_form.make v) (g, refl) refl) ws)
-    (none_spelled ws (is_later_word w))))))))))))))))))))))))
+    (none_spelled ws (is_later_word w)))))))))))))))))))))))))))
 
 event_spells : (ws : Words) → Spelling ws (event_of ws)
 unfolding event_of

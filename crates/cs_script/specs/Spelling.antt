@@ -61,12 +61,15 @@ IsEvent (events.Lookup c d name) = IsCaller c × IsEntry d name
 IsEvent (events.Req c op) = IsCaller c × IsOp op
 IsEvent events.ToClient = Unit {0}
 IsEvent events.ToMds = Unit {0}
+IsEvent events.DropLinks = Unit {0}
+IsEvent events.Reconnect = Unit {0}
 IsEvent (events.Grant f bits max) = IsIno f
 IsEvent (events.Revoke f bits) = IsIno f
 IsEvent (events.Snap d name) = IsEntry d name
 IsEvent (events.RmSnap s) = IsSnap s
 IsEvent (events.Unlease d name) = IsEntry d name
 IsEvent events.Commit = Unit {0}
+IsEvent (events.Failover keep) = Unit {0}
 IsEvent (events.Show f a off len) = IsIno f × IsAt a
 IsEvent (events.Names d) = IsIno d
 

@@ -1,6 +1,6 @@
 // The fields of a line, each at its place among the words.
 ghost use Rattle.std.specs.Prelude.{◌≡◌, ◌≤◌, Some};
-ghost use Rattle.cs_laws.specs.Fits.{greatest_end, greatest_time, most_shown};
+ghost use Rattle.cs_laws.specs.Fits.{greatest_end, greatest_time, most_kept, most_shown};
 ghost use Rattle.cs_laws.specs.Grammar.{number_in, number_at, set_at, name_at, name_of, bytes_of, bytes_at, name_field, at_in, at_field, is_octal, mode_of_digits, mode_in, mode_field, only, ends_in_file};
 ghost use Rattle.cs_script.specs.Reading.{Gives, Spells, texts};
 
@@ -75,6 +75,14 @@ pub fn len_at(words: &[&[u8]], i: usize) -> Result<u32, Kind>
     ensures { Gives (λ x. x) result (number_at i 1 most_shown (texts words.now)) }
 {
     let value = number_at(words, i, 1, 4096)?;
+    Ok(value as u32)
+}
+
+/// How many records are kept beside the durable ones, 0 to 10,000.
+pub fn kept_at(words: &[&[u8]], i: usize) -> Result<u32, Kind>
+    ensures { Gives (λ x. x) result (number_at i 0 most_kept (texts words.now)) }
+{
+    let value = number_at(words, i, 0, 10_000)?;
     Ok(value as u32)
 }
 

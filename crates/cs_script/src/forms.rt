@@ -1,10 +1,10 @@
 // The forms of events, each by the fields behind its first word.
 ghost use Rattle.std.specs.Prelude.{◌≡◌};
-ghost use Rattle.cs_laws.specs.Grammar.{event_by, dir_of, file_of, clock_of, begin_of, end_of, write_of, read_of, chmod_of, check_of, flush_of, flush_snaps_of, grant_of, revoke_of, snap_of, remove_of, show_of, lookup_of, unlease_of, names_of, event_of, is_later_word, is_later_client_word, is_later_server_word};
+ghost use Rattle.cs_laws.specs.Grammar.{event_by, dir_of, file_of, clock_of, begin_of, end_of, write_of, read_of, chmod_of, check_of, flush_of, flush_snaps_of, grant_of, revoke_of, snap_of, remove_of, show_of, lookup_of, unlease_of, failover_of, names_of, event_of, is_later_word};
 ghost use Rattle.cs_script.specs.Reading.{Spells, texts};
 
 use crate::fields::{
-    at_field, bytes_at, caller_at, end_at, ends_in_file, ino_at, len_at, mode_at, name_at,
+    at_field, bytes_at, caller_at, end_at, ends_in_file, ino_at, kept_at, len_at, mode_at, name_at,
     name_field, off_at, only, set_at, snap_at, time_at,
 };
 use crate::line_fault::LineFault;
@@ -212,6 +212,14 @@ fn unlease_from(alloc: Global, words: &[&[u8]]) -> Result<Event, LineFault>
     only(3, Event::Unlease { dir, name }, words)
 }
 
+#[tactic(auto, unfolding(cs_laws::specs::Grammar::failover_of))]
+fn failover_from(words: &[&[u8]]) -> Result<Event, LineFault>
+    ensures { Spells result (failover_of (texts words.now)) }
+{
+    let keep = kept_at(words, 1)?;
+    only(2, Event::Failover { keep }, words)
+}
+
 #[tactic(auto, unfolding(cs_laws::specs::Grammar::names_of))]
 fn names_from(words: &[&[u8]]) -> Result<Event, LineFault>
     ensures { Spells result (names_of (texts words.now)) }
@@ -220,8 +228,8 @@ fn names_from(words: &[&[u8]]) -> Result<Event, LineFault>
     only(2, Event::Names { dir }, words)
 }
 
-fn is_later_client_word(word: &[u8]) -> bool
-    ensures { result ≡ is_later_client_word word.now }
+fn is_later_word(word: &[u8]) -> bool
+    ensures { result ≡ is_later_word word.now }
 {
     word == b"writeback".as_slice()
         || word == b"invalidate".as_slice()
@@ -229,18 +237,6 @@ fn is_later_client_word(word: &[u8]) -> bool
         || word == b"osdack".as_slice()
         || word == b"osdlose".as_slice()
         || word == b"osdresend".as_slice()
-}
-
-fn is_later_server_word(word: &[u8]) -> bool
-    ensures { result ≡ is_later_server_word word.now }
-{
-    word == b"drop".as_slice() || word == b"reconnect".as_slice() || word == b"failover".as_slice()
-}
-
-fn is_later_word(word: &[u8]) -> bool
-    ensures { result ≡ is_later_word word.now }
-{
-    is_later_client_word(word) || is_later_server_word(word)
 }
 
 #[tactic(auto, unfolding(cs_laws::specs::Grammar::event_by))]
@@ -277,6 +273,10 @@ fn event_by(alloc: Global, word: &[u8], words: &[&[u8]]) -> Result<Event, LineFa
         only(1, Event::ToClient, words)
     } else if word == b"tomds".as_slice() {
         only(1, Event::ToMds, words)
+    } else if word == b"drop".as_slice() {
+        only(1, Event::DropLinks, words)
+    } else if word == b"reconnect".as_slice() {
+        only(1, Event::Reconnect, words)
     } else if word == b"grant".as_slice() {
         grant_from(words)
     } else if word == b"revoke".as_slice() {
@@ -289,6 +289,8 @@ fn event_by(alloc: Global, word: &[u8], words: &[&[u8]]) -> Result<Event, LineFa
         unlease_from(alloc, words)
     } else if word == b"commit".as_slice() {
         only(1, Event::Commit, words)
+    } else if word == b"failover".as_slice() {
+        failover_from(words)
     } else if word == b"show".as_slice() {
         show_from(words)
     } else if word == b"names".as_slice() {

@@ -92,7 +92,9 @@ step_client h x (first_cap g seq bits end q is) known i = i
 step_client h x (first_flush_ack g tid q is) known i = i
 step_client h x (first_unsafe tid o ttl q is) known i = λ f unknown. i f (client_before e.ToClient (a.Unsafe tid o) h f unknown)
 step_client h x (first_safe tid q is) known i = i
-step_client h x (first_resumed told_now q is) known i = i
+step_client h x (first_resumed now q is) known i = λ f unknown.
+    let was : BlankAt h f = i f unknown in
+    rw (makes_none f (context h f) (context (record { event = e.ToClient; answer = x } ∷ h) f) (live h) (dirty h f) (queued h f) (no_writer f (live h) (none_live h f unknown known)) was.dirty) was
 step_client h x (first_unlease d name q is) known i = i
 step_client h x (first_snap number d now q is) known i = λ f unknown.
     let was : BlankAt h f = i f unknown in

@@ -5,7 +5,7 @@ use Rattle.std.proofs.lemmas.Bool.{and_parts, both_ways, le-leb, leb-true, or_ca
 use Rattle.cs_snapctx.specs.declared.realm.RealmRecord.{RealmRecord}
 use Rattle.cs_snapctx.specs.Context.{Context, empty_context, merged}
 use Rattle.cs_snapctx.specs.Contexts.{context as realm_context, context_of}
-use Rattle.cs_snapctx.specs.Records.{is_known, root_record}
+use Rattle.cs_snapctx.specs.Records.{is_known, root_record, with_records}
 use Rattle.cs_laws.specs.declared.events.Event.{Event}
 use Rattle.cs_laws.specs.declared.events.Event.TheVariants as e
 use Rattle.cs_laws.specs.declared.answers.Answer.{Answer}
@@ -13,6 +13,7 @@ use Rattle.cs_laws.specs.declared.answers.Answer.TheVariants as a
 use Rattle.cs_laws.specs.declared.answers.Entry.{Entry}
 use Rattle.cs_laws.specs.declared.messages.Message.{Message}
 use Rattle.cs_laws.specs.declared.messages.Message.TheVariants as messages
+use Rattle.cs_laws.specs.Carried.{realms_on}
 use Rattle.cs_laws.specs.Context.{path_context, realms_then, with_first}
 use Rattle.cs_laws.specs.ClientKnows.{client_knows, client_file_path, client_home, client_made}
 use Rattle.cs_laws.specs.Events.{is_setup, setup_file}
@@ -21,7 +22,7 @@ use Rattle.cs_laws.specs.Journal.{entry}
 use Rattle.cs_laws.specs.Owed.{had_reached}
 use Rattle.cs_laws.specs.Runs.{all_setup}
 use Rattle.cs_theorems.specs.Contexts.{ContextsNeverFall, HadContext, Rises}
-use Rattle.cs_theorems.proofs.Linked.{told_rises, log_realms}
+use Rattle.cs_theorems.proofs.Linked.{log_realms, records_rise, told_rises}
 use Rattle.cs_theorems.proofs.Paths.{path_stays, IsWay, setup_path, setup_home}
 use Rattle.cs_theorems.proofs.Settings.{Setting}
 use Rattle.cs_theorems.proofs.Asks.{Asks, Goes, IsEarly}
@@ -31,7 +32,7 @@ use Rattle.cs_theorems.proofs.Trees.{Grown, grown_front, home_of_front, home_unm
 use Rattle.cs_theorems.proofs.Listed.{Member}
 use Rattle.cs_theorems.proofs.RealmPaths.{path_is_way, way_context}
 use Rattle.cs_theorems.proofs.Ways.{front_realm}
-use Rattle.cs_theorems.proofs.Inversions.{FirstIs, first_idle, first_cap, first_flush_ack, first_unsafe, first_safe, first_unlease, first_snap, first_is}
+use Rattle.cs_theorems.proofs.Inversions.{FirstIs, first_idle, first_cap, first_flush_ack, first_unsafe, first_safe, first_unlease, first_snap, first_resumed, first_is}
 use Rattle.cs_laws.specs.declared.requests.OpAnswer.{OpAnswer}
 use Rattle.cs_laws.specs.declared.records.Record.{Record}
 use Rattle.cs_laws.specs.Answers.{is_in_use}
@@ -40,10 +41,20 @@ use Rattle.cs_laws.specs.Realms.{is_realm, own, since_of}
 use Rattle.cs_laws.specs.Requests.{has_reply, op_of, replies, requests}
 use Rattle.cs_laws.specs.Tree.{home, is_directory, path}
 
+-- m: the first message to the client, which carries realm records
+pub records_move : (h : List Entry) (m : Message) (now : List RealmRecord) (q : List Message) (f : ℕ) → to_client h ≡ m ∷ q → realms_on m ≡ Some now
+    → Setting h → Rises (context h f) (path_context (client_file_path h f) (with_records now (realms h)))
+records_move h m now q f there carries i = records_rise h m now q there carries i.front f i.tree i.housed i.asks i.drawn
+
 -- a snapshot or a removal is told
 pub told_moves : (h : List Entry) (n d : ℕ) (now : List RealmRecord) (q : List Message) (f : ℕ) → to_client h ≡ messages.Snap n d now ∷ q → Setting h
     → Rises (context h f) (path_context (client_file_path h f) (with_first (to_client h) (realms h)))
-told_moves h n d now q f there i = told_rises h n d now q there i.front f i.tree i.housed i.asks i.drawn
+told_moves h n d now q f there i = told_rises h (messages.Snap n d now) now q there refl i.front f i.tree i.housed i.asks i.drawn
+
+-- the session goes on, and all realms are told
+pub resumed_moves : (h : List Entry) (now : List RealmRecord) (q : List Message) (f : ℕ) → to_client h ≡ messages.Resumed now ∷ q → Setting h
+    → Rises (context h f) (path_context (client_file_path h f) (with_first (to_client h) (realms h)))
+resumed_moves h now q f there i = told_rises h (messages.Resumed now) now q there refl i.front f i.tree i.housed i.asks i.drawn
 
 or_none : (b : Bool) → (b || false) ≡ b
 or_none true = refl
@@ -110,6 +121,7 @@ goes_on_client p h f x (first_unsafe tid o ttl q there) now i known = inl (known
 goes_on_client p h f x (first_safe tid q there) now i known = inl refl
 goes_on_client p h f x (first_unlease d name q there) now i known = inl refl
 goes_on_client p h f x (first_snap n d told q there) now i known = told_moves h n d told q f there i
+goes_on_client p h f x (first_resumed told q there) now i known = resumed_moves h told q f there i
 
 pub goes_on : (p : ℕ) (h : List Entry) (x : Event) (f : ℕ) → Goes p h x → Setting h → client_knows h f ≡ true
     → Rises (context h f) (context (entry p h x ∷ h) f)
@@ -123,6 +135,7 @@ goes_on p h _ f on i known = inl refl
 -- while all is set up the client knows of no snapshot
 told_nothing : (x : Event) (y : Answer) (q : List Message) (ts : List RealmRecord) → is_setup x ≡ true → realms_then x y q ts ≡ ts
 told_nothing e.ToClient (a.SnapTold n realm made) q ts is = absurd cc
+told_nothing e.ToClient (a.Resumed made) q ts is = absurd cc
 told_nothing _ _ q ts is = refl
 
 setup_realms : (h : List Entry) → all_setup h ≡ true → realms h ≡ root_record ∷ []
@@ -170,7 +183,7 @@ unknown_low : (h : List Entry) (tid : ℕ) (o : OpAnswer) (f : ℕ) → Asks (re
 unknown_low h tid o f now i unknown =
     let later : List Entry = record { event = e.ToClient; answer = a.Unsafe tid o } ∷ h in
     let tree = all_tree h i.tree i.asks in
-    let link = i.front.told.link in
+    let link = i.front.link in
     let inside : (d : ℕ) → is_realm link.front d ≡ true → all_dir h d ≡ true = λ d is. log_realms h i.asks i.front d (front_realm link.front (durable h) d link.whole is) in
     let old : client_file_path h f ≡ all_path h 1 = client_file_way h i.housed i.asks f ∙ ap (λ d. all_path h d) (unknown_home h f unknown) in
     let new : client_file_path later f ≡ all_path h (client_home later f) = client_file_way later i.housed now f in
@@ -201,6 +214,7 @@ seq_told p h f x (first_unsafe tid o ttl q there) now i =
 seq_told p h f x (first_safe tid q there) now i = omega arith
 seq_told p h f x (first_unlease d name q there) now i = omega arith
 seq_told p h f x (first_snap n d told q there) now i = seq_stays _ _ (told_moves h n d told q f there i)
+seq_told p h f x (first_resumed told q there) now i = seq_stays _ _ (resumed_moves h told q f there i)
 
 seq_grows : (p : ℕ) (h : List Entry) (x : Event) → Goes p h x → Setting h → (f : ℕ) → (context h f).seq ≤ (context (entry p h x ∷ h) f).seq
 seq_grows p h (e.Dir d q) on i f = let none = setup_seq h f (on.can.setup refl) in omega arith

@@ -1,5 +1,5 @@
 -- Flushes, snapshots and files are at most as many as the entries.
-use Rattle.std.proofs.Common.{◌≡◌, refl, sym, ap, ◌∙◌, ℕ, ◌+◌, ◌≤◌, max, List, [], ◌∷◌, ◌++◌, length, append_assoc, arith}
+use Rattle.std.proofs.Common.{◌≡◌, refl, sym, ap, ◌∙◌, ℕ, ◌+◌, ◌≤◌, max, List, [], ◌∷◌, ◌++◌, drop, length, take, append_assoc, arith}
 use Rattle.std.proofs.lemmas.List.{append-nil, length-append}
 use Rattle.cs_laws.specs.declared.events.Event.{Event}
 use Rattle.cs_laws.specs.declared.events.Event.TheVariants as e
@@ -17,6 +17,7 @@ use Rattle.cs_laws.specs.Journal.{entry}
 use Rattle.cs_laws.specs.Standing.{recorded, greatest_number, fresh_then, requested}
 use Rattle.cs_laws.specs.Runs.{IsRun}
 use Rattle.cs_theorems.proofs.Inversions.{ReceivedIs, received_idle, received_ack, received_flush, received_again, received_reconnect, received_req, received_req_again, received_is, SnapIs, snap_unknown, snap_session, snap_exists, snap_taken, snap_is, RemoveIs, remove_none, remove_session, remove_gone, removed, remove_is}
+use Rattle.cs_theorems.proofs.Drawn.{cut_is}
 use Rattle.cs_theorems.proofs.Runs.{of_run}
 use Rattle.cs_laws.specs.declared.requests.OpAnswer.{OpAnswer}
 use Rattle.cs_laws.specs.Names.{names}
@@ -88,6 +89,7 @@ step_remove h t x (removed there stays active) i =
 step_to_mds : (h : List Entry) (x : Answer) → ReceivedIs h x → SnapsAreFew h → SnapsAreFew (record { event = e.ToMds; answer = x } ∷ h)
 step_to_mds h x received_idle i = omega (arith, i)
 step_to_mds h x (received_ack g seq bits q is) i = omega (arith, i)
+step_to_mds h x (received_reconnect caps known resends q is) i = omega (arith, i)
 step_to_mds h x (received_flush y q is first) i =
     omega (arith, i, greatest_behind (durable h) (fresh h) (recorded (to_server h)), recorded_none (to_server h))
 step_to_mds h x (received_again y q is again) i = omega (arith, i)
@@ -98,11 +100,17 @@ step_to_mds h x (received_req_again tid ino op q is again) i = omega (arith, i)
 step_commit : (h : List Entry) (x : Answer) → SnapsAreFew h → greatest_number ((durable h ++ fresh h) ++ []) ≤ length h + 1
 step_commit h x i = omega (arith, i, ap greatest_number (append-nil (durable h ++ fresh h)))
 
+step_failover : (h : List Entry) (keep : ℕ) → SnapsAreFew h → greatest_number ((durable h ++ take keep (fresh h)) ++ []) ≤ length h + 1
+step_failover h keep i =
+    let kept : List Record = durable h ++ take keep (fresh h) in
+    omega (arith, i, ap greatest_number (append-nil kept), ap greatest_number (cut_is (durable h) (fresh h) keep), greatest_append kept (drop keep (fresh h)))
+
 few_step : (p : ℕ) (h : List Entry) (x : Event) → SnapsAreFew h → SnapsAreFew (entry p h x ∷ h)
 few_step p h (e.Snap d name) i = step_snap h d name _ (snap_is h d name) i
 few_step p h (e.RmSnap t) i = step_remove h t _ (remove_is h t) i
 few_step p h e.ToMds i = step_to_mds h _ (received_is h) i
 few_step p h e.Commit i = omega (arith, step_commit h a.Idle i)
+few_step p h (e.Failover keep) i = omega (arith, step_failover h keep i)
 few_step p h _ i = omega (arith, i)
 
 pub snaps_few : (p : ℕ) (h : List Entry) → IsRun p h → greatest_number (stand h) ≤ length h
@@ -110,13 +118,13 @@ snaps_few p h run = of_run p SnapsAreFew (omega arith) (λ g x fit before i. few
 
 -- The records that aren't durable
 
-recorded_few : (q : List Message) → length (recorded q) ≤ 1
+pub recorded_few : (q : List Message) → length (recorded q) ≤ 1
 recorded_few [] = omega arith
 recorded_few (messages.Flush f tid follows meta ∷ q) = omega arith
 recorded_few (messages.FlushSnap f tid follows meta ∷ q) = omega arith
 recorded_few (_ ∷ q) = omega arith
 
-requested_few : (o : OpAnswer) (q : List Message) → length (requested o q) ≤ 1
+pub requested_few : (o : OpAnswer) (q : List Message) → length (requested o q) ≤ 1
 requested_few o [] = omega arith
 requested_few o (messages.Req tid ino op ∷ q) = omega arith
 requested_few o (_ ∷ q) = omega arith
@@ -127,6 +135,7 @@ fresh_then_few e.ToMds (a.Req tid o) q rs n few = omega (arith, few, requested_f
 fresh_then_few (e.Snap d name) (a.Snap number) q rs n few = let r : Record = record { body = bodies.Snap number d name } in omega (arith, few, length-append rs (r ∷ []))
 fresh_then_few (e.RmSnap t) (a.Removed s number) q rs n few = let r : Record = record { body = bodies.Removal t number } in omega (arith, few, length-append rs (r ∷ []))
 fresh_then_few e.Commit (a.Commit count) q rs n few = omega arith
+fresh_then_few (e.Failover keep) (a.Failover kept) q rs n few = omega arith
 fresh_then_few _ _ q rs n few = omega (arith, few)
 
 pub fresh_few : (h : List Entry) → length (fresh h) ≤ length h

@@ -13,7 +13,7 @@ use Rattle.cs_laws.specs.declared.events.RefName.{RefName}
 use Rattle.cs_laws.specs.declared.answers.Answer.{Answer}
 use Rattle.cs_laws.specs.declared.answers.Entry.{Entry}
 use Rattle.cs_laws.specs.Answers.{may_write}
-use Rattle.cs_laws.specs.CapSnaps.{CapSnap, is_writing, makes, queued_mode, writers}
+use Rattle.cs_laws.specs.CapSnaps.{CapSnap, is_writing, makes, queued_mode, writers, with_cap_snap}
 use Rattle.cs_laws.specs.Context.{with_first, path_context}
 use Rattle.cs_laws.specs.ClientKnows.{client_file_path, client_knows}
 use Rattle.cs_laws.specs.Events.{begun, clock}
@@ -27,10 +27,10 @@ use Rattle.cs_theorems.specs.Order.{HasOlder}
 use Rattle.cs_theorems.proofs.Begun.{member_without_named}
 use Rattle.cs_theorems.specs.Contexts.{Rises}
 use Rattle.cs_theorems.proofs.Blank.{none_sent}
-use Rattle.cs_theorems.proofs.Contexts.{dir_stays, file_stays, told_moves, told_stays}
+use Rattle.cs_theorems.proofs.Contexts.{dir_stays, file_stays, resumed_moves, told_moves, told_stays}
 use Rattle.cs_theorems.proofs.Course.{Course}
 use Rattle.cs_theorems.proofs.Covers.{Between, Covers, IsCovered, Made, covers_begin, covers_blank, covers_change, covers_fewer, covers_head, covers_made, covers_other, covers_sent, covers_unmade, covers_write}
-use Rattle.cs_theorems.proofs.Inversions.{ChmodIs, chmod_unknown, chmod_no_bit, chmod_snap, chmod_done, chmod_is, FlushIs, head_unknown, head_snap, head_clean, head_sent, flush_is, BeginIs, begin_unknown, begin_caps, begin_snap, begin_max, begin_full, begun_ref, begin_is, EndIs, end_unknown, ended, end_is, WriteIs, write_unknown, write_no_bit, write_past, wrote, write_is, FlushSnapsIs, flush_unknown, flush_none, flush_writing, flush_sent, flush_snaps_is, FirstIs, first_idle, first_cap, first_flush_ack, first_unsafe, first_safe, first_unlease, first_snap, first_is}
+use Rattle.cs_theorems.proofs.Inversions.{ChmodIs, chmod_unknown, chmod_no_bit, chmod_snap, chmod_done, chmod_is, FlushIs, head_unknown, head_session, head_snap, head_clean, head_sent, flush_is, BeginIs, begin_unknown, begin_caps, begin_snap, begin_max, begin_full, begun_ref, begin_is, EndIs, end_unknown, ended, end_is, WriteIs, write_unknown, write_no_bit, write_past, wrote, write_is, FlushSnapsIs, flush_unknown, flush_session, flush_none, flush_writing, flush_sent, flush_snaps_is, FirstIs, first_idle, first_cap, first_flush_ack, first_unsafe, first_safe, first_unlease, first_snap, first_resumed, first_is}
 use Rattle.cs_theorems.proofs.Listed.{Each, Member, each_nil}
 use Rattle.cs_theorems.proofs.Modes.{Change, changes, last_mode, mode_is, with_change}
 use Rattle.cs_theorems.proofs.Numbered.{Numbered, upto_numbered}
@@ -191,6 +191,14 @@ covers_kept h f new o (inr unknown) i =
     let was = o.blank f unknown in
     rw (was.writes, was.changes, was.dirty, was.queued) (covers_blank f new.seq (live h) (sent h) (none_sent h f unknown o.sent_known))
 
+-- realms are told
+told_file : (h : List Entry) (f : ℕ) → Rises (context h f) (path_context (client_file_path h f) (with_first (to_client h) (realms h))) → Course h → CoversAt h f
+    → Covers f (path_context (client_file_path h f) (with_first (to_client h) (realms h))).seq (live h) (writes h f) (changes h f) (dirty h f)
+    (with_cap_snap f (context h f) (path_context (client_file_path h f) (with_first (to_client h) (realms h))) (live h) (dirty h f) (mode h f) (queued h f)) (sent h)
+told_file h f rises o i =
+    covers_moved f _ (context h f) (path_context (client_file_path h f) (with_first (to_client h) (realms h))) (live h) (writes h f) (changes h f) (dirty h f) (mode h f) (queued h f) (sent h)
+    rises (mode_is h f) (o.order.1 f) i
+
 step_client : (h : List Entry) (x : Answer) → FirstIs h x → Asks (record { event = e.ToClient; answer = x } ∷ h) → Course h → AllCovered h
     → AllCovered (record { event = e.ToClient; answer = x } ∷ h)
 step_client h x first_idle now o i = i
@@ -199,9 +207,8 @@ step_client h x (first_flush_ack f tid q there) now o i = i
 step_client h x (first_unsafe tid r ttl q there) now o i = λ f. covers_kept h f _ o (told_stays h tid r f now o.setting) (i f)
 step_client h x (first_safe tid q there) now o i = i
 step_client h x (first_unlease d name q there) now o i = i
-step_client h x (first_snap n d told q there) now o i = λ f.
-    covers_moved f _ (context h f) (path_context (client_file_path h f) (with_first (to_client h) (realms h))) (live h) (writes h f) (changes h f) (dirty h f) (mode h f) (queued h f) (sent h)
-    (told_moves h n d told q f there o.setting) (mode_is h f) (o.order.1 f) (i f)
+step_client h x (first_snap n d told q there) now o i = λ f. told_file h f (told_moves h n d told q f there o.setting) o (i f)
+step_client h x (first_resumed told q there) now o i = λ f. told_file h f (resumed_moves h told q f there o.setting) o (i f)
 
 -- Flushes
 
@@ -222,9 +229,10 @@ next_drawn h numbered z there = omega (arith, upto_numbered (sent h) numbered z 
 step_flush_snaps : (h : List Entry) (g : ℕ) (x : Answer) → FlushSnapsIs h g x → Course h → Numbered (sent h) → AllCovered h
     → AllCovered (record { event = e.FlushSnaps g; answer = x } ∷ h)
 step_flush_snaps h g x flush_unknown o numbered i = i
+step_flush_snaps h g x flush_session o numbered i = i
 step_flush_snaps h g x flush_none o numbered i = i
 step_flush_snaps h g x flush_writing o numbered i = i
-step_flush_snaps h g x (flush_sent y ys known is closed) o numbered i = λ f. at f (g == f) refl
+step_flush_snaps h g x (flush_sent y ys known active is closed) o numbered i = λ f. at f (g == f) refl
   where
     new : Flush
     new = snap h g (length (sent h) + 1) y.follows
@@ -242,9 +250,10 @@ step_flush_snaps h g x (flush_sent y ys known is closed) o numbered i = λ f. at
 step_flush : (h : List Entry) (g : ℕ) (x : Answer) → FlushIs h g x → Course h → Numbered (sent h) → AllCovered h
     → AllCovered (record { event = e.Flush g; answer = x } ∷ h)
 step_flush h g x head_unknown o numbered i = i
+step_flush h g x head_session o numbered i = i
 step_flush h g x head_snap o numbered i = i
 step_flush h g x head_clean o numbered i = i
-step_flush h g x (head_sent known free changed) o numbered i = λ f. at f (g == f) refl
+step_flush h g x (head_sent known active free changed) o numbered i = λ f. at f (g == f) refl
   where
     new : Flush
     new = present h g (length (sent h) + 1)

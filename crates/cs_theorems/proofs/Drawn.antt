@@ -1,7 +1,7 @@
 -- The numbers of snapshots and removals rise along the records.
-use Rattle.std.proofs.Common.{◌≡◌, refl, sym, subst, ℕ, ◌+◌, ◌<◌, ◌≤◌, max, true, false, List, [], ◌∷◌, ◌++◌, append_assoc, arith, ⊎_elim}
+use Rattle.std.proofs.Common.{◌≡◌, refl, sym, ap, ◌∙◌, subst, drop, take, ℕ, ◌+◌, ◌<◌, ◌≤◌, max, true, false, List, [], ◌∷◌, ◌++◌, append_assoc, arith, ⊎_elim}
 use Rattle.std.proofs.lemmas.Bool.{both_ways, eqb-true, or_cases}
-use Rattle.std.proofs.lemmas.List.{append-nil}
+use Rattle.std.proofs.lemmas.List.{append-nil, take-append-drop}
 use Rattle.cs_laws.specs.declared.events.Event.{Event}
 use Rattle.cs_laws.specs.declared.events.Event.TheVariants as e
 use Rattle.cs_laws.specs.declared.answers.Answer.{Answer}
@@ -15,7 +15,7 @@ use Rattle.cs_laws.specs.Names.{names}
 use Rattle.cs_laws.specs.Namespace.{answer_on}
 use Rattle.cs_laws.specs.Standing.{greatest_number, has_snap, is_snap, recorded, requested}
 use Rattle.cs_laws.specs.Realms.{number_of}
-use Rattle.cs_theorems.proofs.Inversions.{ReceivedIs, received_idle, received_ack, received_flush, received_again, received_req, received_req_again, received_is, SnapIs, snap_unknown, snap_exists, snap_taken, snap_is, RemoveIs, remove_none, remove_gone, removed, remove_is}
+use Rattle.cs_theorems.proofs.Inversions.{ReceivedIs, received_idle, received_ack, received_reconnect, received_flush, received_again, received_req, received_req_again, received_is, SnapIs, snap_unknown, snap_session, snap_exists, snap_taken, snap_is, RemoveIs, remove_none, remove_gone, remove_session, removed, remove_is}
 use Rattle.cs_laws.specs.Flushes.{flush_record}
 use Rattle.cs_theorems.proofs.Standing.{recorded_one}
 
@@ -49,6 +49,11 @@ draws_end g (x ∷ xs) r i d = (
       (same_draws (max g (max (number_of x.body) (greatest_number xs))) (max (max g (number_of x.body)) (greatest_number xs)) r.body (omega arith) d),
 )
 
+-- the numbers rise along a front
+pub draws_front : (g : ℕ) (us ws : List Record) → AllDraw g (us ++ ws) → AllDraw g us
+draws_front g [] ws draws = tt
+draws_front g (r ∷ us) ws draws = (draws.0, draws_front (max g (number_of r.body)) us ws draws.1)
+
 -- a snapshot that stands has a number up to the greatest
 is_low : (s : ℕ) (b : RecordBody) → is_snap s b ≡ true → s ≤ number_of b
 is_low s (bodies.Request tid op answer) is = absurd (both_ways false refl is)
@@ -60,6 +65,10 @@ snap_low : (s : ℕ) (rs : List Record) → has_snap s rs ≡ true → s ≤ gre
 snap_low s [] is = absurd (both_ways false refl is)
 snap_low s (r ∷ rs) is =
     ⊎_elim (λ here. omega (arith, is_low s r.body here)) (λ there. omega (arith, snap_low s rs there)) (or_cases (is_snap s r.body) (has_snap s rs) is)
+
+-- of the records that aren't durable so many are kept, and the others are lost
+pub cut_is : (ds fs : List Record) (keep : ℕ) → ds ++ fs ≡ (ds ++ take keep fs) ++ drop keep fs
+cut_is ds fs keep = ap (λ rs. ds ++ rs) (sym (take-append-drop keep fs)) ∙ sym (append_assoc ds (take keep fs) (drop keep fs))
 
 -- Steps
 
@@ -74,6 +83,7 @@ more h r d i =
 step_server : (h : List Entry) (x : Answer) → ReceivedIs h x → DrawnAt h → DrawnAt (record { event = e.ToMds; answer = x } ∷ h)
 step_server h x received_idle i = i
 step_server h x (received_ack f seq bits q there) i = i
+step_server h x (received_reconnect caps known resends q there) i = i
 step_server h x (received_flush y q there first) i =
     subst (λ p. AllDraw 0 (durable h ++ (fresh h ++ recorded p))) (sym there)
     (subst (λ rs. AllDraw 0 (durable h ++ (fresh h ++ rs))) (sym (recorded_one y)) (more h (flush_record y) tt i))
@@ -85,18 +95,25 @@ step_server h x (received_req_again tid ino op q there again) i = i
 
 step_snap : (h : List Entry) (d : ℕ) (name : List ℕ) (x : Answer) → SnapIs h d name x → DrawnAt h → DrawnAt (record { event = e.Snap d name; answer = x } ∷ h)
 step_snap h d name x snap_unknown i = i
+step_snap h d name x snap_session i = i
 step_snap h d name x snap_exists i = i
-step_snap h d name x (snap_taken directory free) i = more h (record { body = bodies.Snap (greatest_number (stand h) + 1) d name }) (omega arith) i
+step_snap h d name x (snap_taken directory active free) i = more h (record { body = bodies.Snap (greatest_number (stand h) + 1) d name }) (omega arith) i
 
 step_remove : (h : List Entry) (s : ℕ) (x : Answer) → RemoveIs h s x → DrawnAt h → DrawnAt (record { event = e.RmSnap s; answer = x } ∷ h)
 step_remove h s x remove_none i = i
 step_remove h s x remove_gone i = i
-step_remove h s x (removed there stays) i = more h (record { body = bodies.Removal s (greatest_number (stand h) + 1) }) (snap_low s (stand h) there, omega arith) i
+step_remove h s x remove_session i = i
+step_remove h s x (removed there stays active) i = more h (record { body = bodies.Removal s (greatest_number (stand h) + 1) }) (snap_low s (stand h) there, omega arith) i
+
+-- a front of the records stands
+draws_cut : (h : List Entry) (keep : ℕ) → DrawnAt h → AllDraw 0 (durable h ++ take keep (fresh h))
+draws_cut h keep i = draws_front 0 (durable h ++ take keep (fresh h)) (drop keep (fresh h)) (subst (λ rs. AllDraw 0 rs) (cut_is (durable h) (fresh h) keep) i)
 
 pub drawn_step : (p : ℕ) (h : List Entry) (x : Event) → DrawnAt h → DrawnAt (entry p h x ∷ h)
 drawn_step p h e.ToMds i = step_server h _ (received_is h) i
 drawn_step p h (e.Snap d name) i = step_snap h d name _ (snap_is h d name) i
 drawn_step p h (e.RmSnap s) i = step_remove h s _ (remove_is h s) i
+drawn_step p h (e.Failover keep) i = subst (λ rs. AllDraw 0 rs) (sym (append-nil (durable h ++ take keep (fresh h)))) (draws_cut h keep i)
 drawn_step p h e.Commit i = subst (λ rs. AllDraw 0 rs) (sym (append-nil (stand h))) i
 drawn_step p h _ i = i
 

@@ -14,10 +14,13 @@ use Rattle.cs_theorems.proofs.FlushReplays.{replay_first, replay_step}
 use Rattle.cs_theorems.proofs.Images.{HoldsAt, holds_first, holds_step}
 use Rattle.cs_theorems.proofs.Modes.{ModesAt, modes_first, modes_step}
 use Rattle.cs_theorems.proofs.Numbered.{Numbered, numbered_step}
+use Rattle.cs_theorems.specs.Phases.{PhaseAt}
+use Rattle.cs_theorems.proofs.Phase.{phase_first, phase_step}
 use Rattle.cs_theorems.proofs.Runs.{of_run}
 use Rattle.cs_theorems.proofs.Asks.{Asks, Goes, asks_run, goes_by}
 
 pub record Footing (h : List Entry) : Type 0 where
+  pub phase : PhaseAt h
   pub course : Course h
   pub covered : AllCovered h
   pub numbered : Numbered (sent h)
@@ -29,6 +32,7 @@ pub record Footing (h : List Entry) : Type 0 where
 
 footing_first : Asks [] → Footing []
 footing_first asks = record {
+  phase = phase_first;
   course = course_first asks;
   covered = covered_first;
   numbered = refl;
@@ -41,10 +45,11 @@ footing_first asks = record {
 
 footing_step : (p : ℕ) (h : List Entry) (x : Event) → Goes p h x → Footing h → Footing (entry p h x ∷ h)
 footing_step p h x on i = record {
+  phase = phase_step p h x i.phase;
   course = course_step p h x on i.course;
   covered = covered_step p h x on i.course i.numbered i.covered;
   numbered = numbered_step p h x i.numbered;
-  replay = replay_step p h x i.numbered i.replay;
+  replay = replay_step p h x i.numbered i.phase i.acked i.replay;
   acked = acked_step p h x i.acked;
   reached = reached_step p h x on i.course.setting i.reached;
   modes = modes_step h x _ (λ f. (i.covered f).changes_low) i.reached (has_reached h) i.modes;

@@ -63,6 +63,9 @@ pub mod Sent
 pub mod Along
 pub mod Commits
 pub mod Linked
+pub mod LastSent
+pub mod RealmSeqs
+pub mod RisingInodes
 pub mod Settings
 pub mod Applying
 pub mod Contexts
@@ -81,6 +84,9 @@ pub mod QueueAnswers
 pub mod Unsent
 -- Flushes and acknowledgements
 pub mod Replays
+pub mod Reports
+pub mod SnapMetas
+pub mod Sorted
 pub mod Standing
 pub mod Numbered
 pub mod FlushReplays

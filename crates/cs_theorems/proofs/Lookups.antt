@@ -2,7 +2,7 @@
 use Rattle.std.proofs.Common.{◌≡◌, ◌⊎◌, refl, sym, ap, ◌∙◌, subst, ℕ, ◌==◌, Bool, true, false, cond, nat_eq, List, [], ◌∷◌, Option, Some, None, inl, inr, ⊎_elim}
 use Rattle.std.specs.Cmp.Lexicographic.{pointwise, same_text}
 use Rattle.std.specs.List.{cons_option, filter_map}
-use Rattle.std.proofs.lemmas.Bool.{and_parts, cond-true, cond-false, eq-eqb, eqb-true, true≢false, false_from_ne_true}
+use Rattle.std.proofs.lemmas.Bool.{and_parts, both_ways, cond-true, cond-false, eq-eqb, eqb-true, true≢false, false_from_ne_true}
 use Rattle.cs_snapctx.specs.declared.realm.RealmRecord.{RealmRecord}
 use Rattle.cs_snapctx.specs.Records.{changed_record, is_as_before, is_of, is_same_parent, is_same_record, record_of, with_record, with_records}
 use Rattle.cs_realms.proofs.Stays.{record_of-with}
@@ -61,6 +61,33 @@ module _ (g : ℕ → Option RealmRecord) (named : (d : ℕ) (r : RealmRecord) �
           (λ m. ⊎_elim (λ same. rest (with_record t ts) (inr (here t gives same))) (λ more. rest (with_record t ts) (inl more)) m)
           (λ was. rest (with_record t ts) (inr (still t gives was)))
           there
+
+  -- g d is the record of d in the list of all, if the list has d wherever there is one
+  pub listed_record : (ds : List ℕ) (d : ℕ) → ((r : RealmRecord) → g d ≡ Some r → Member d ds) → record_of d (filter_map g ds) ≡ g d
+  listed_record [] d listed = at (g d) refl
+    where
+      at : (o : Option RealmRecord) → g d ≡ o → None ≡ o
+      at None is = refl
+      at (Some r) is = absurd (listed r is)
+  listed_record (x ∷ xs) d listed = at (x == d) refl (λ more. listed_record xs d more)
+    where
+      -- x is another directory
+      rest : (x == d) ≡ false → (r : RealmRecord) → g d ≡ Some r → Member d xs
+      rest other r is = ⊎_elim (λ same. absurd (both_ways (x == d) other (eq-eqb x d same))) (λ more. more) (listed r is)
+
+      left : (o : Option RealmRecord) → g x ≡ o → (x == d) ≡ false → record_of d (filter_map g xs) ≡ g d → record_of d (cons_option o (filter_map g xs)) ≡ g d
+      left None is other more = more
+      left (Some t) is other more = cond-false (is_of d t) (Some t) (record_of d (filter_map g xs)) (ap (λ k. k == d) (named x t is) ∙ other) ∙ more
+
+      own : (o : Option RealmRecord) → g x ≡ o → x ≡ d → (((r : RealmRecord) → g d ≡ Some r → Member d xs) → record_of d (filter_map g xs) ≡ g d)
+          → record_of d (cons_option o (filter_map g xs)) ≡ g d
+      own None is same again = again (λ r some. absurd (let both : None ≡ Some r = sym is ∙ (ap g same ∙ some) in cc))
+      own (Some t) is same again = cond-true (is_of d t) (Some t) (record_of d (filter_map g xs)) (eq-eqb t.realm d (named x t is ∙ same)) ∙ (sym is ∙ ap g same)
+
+      at : (b : Bool) → (x == d) ≡ b → (((r : RealmRecord) → g d ≡ Some r → Member d xs) → record_of d (filter_map g xs) ≡ g d)
+          → record_of d (cons_option (g x) (filter_map g xs)) ≡ g d
+      at true same again = own (g x) refl (eqb-true x d same) again
+      at false other again = left (g x) refl other (again (rest other))
 
 -- Records that differ
 

@@ -82,6 +82,9 @@ queued_then_fit : (x : Event) (y : Answer) (f : ℕ) (old new : Context) (rs : L
 queued_then_fit e.ToClient (a.SnapTold number realm made) f old new rs d m xs fit i =
     let x : CapSnap = record { follows = old.seq; mode = m; writers = writers f rs } in
     cond_both (makes f old new rs d xs) (xs ++ x ∷ []) xs ModesFit (λ _. each_end (λ z. is_mode z.mode ≡ true) xs x i fit) (λ _. i)
+queued_then_fit e.ToClient (a.Resumed made) f old new rs d m xs fit i =
+    let x : CapSnap = record { follows = old.seq; mode = m; writers = writers f rs } in
+    cond_both (makes f old new rs d xs) (xs ++ x ∷ []) xs ModesFit (λ _. each_end (λ z. is_mode z.mode ≡ true) xs x i fit) (λ _. i)
 queued_then_fit (e.FlushSnaps g) (a.FlushSnap tid follows) f old new rs d m xs fit i =
     cond_both (g == f) _ xs ModesFit (λ _. each_drop (λ z. is_mode z.mode ≡ true) xs i) (λ _. i)
 queued_then_fit _ _ f old new rs d m xs fit i = i

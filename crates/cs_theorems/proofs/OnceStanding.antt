@@ -7,9 +7,9 @@ use Rattle.cs_laws.specs.declared.events.Event.TheVariants as e
 use Rattle.cs_laws.specs.declared.answers.Answer.{Answer}
 use Rattle.cs_laws.specs.declared.answers.Answer.TheVariants as a
 use Rattle.cs_laws.specs.declared.answers.Entry.{Entry}
-use Rattle.cs_laws.specs.Flushes.{Flush, acked, acked_then, sent_then}
+use Rattle.cs_laws.specs.Flushes.{Flush, acked, acked_then, is_later, sent_then}
 use Rattle.cs_laws.specs.History.{present, sent, snap, stand}
-use Rattle.cs_laws.specs.Owed.{is_acked, is_later}
+use Rattle.cs_laws.specs.Owed.{is_acked}
 use Rattle.cs_laws.specs.Laws.{AckedStandOnce, FlushesRise, FlushesStandOnce, InEveryPrefix, tids}
 use Rattle.cs_laws.specs.Runs.{IsRun}
 use Rattle.cs_theorems.proofs.Runs.{in_every_prefix}

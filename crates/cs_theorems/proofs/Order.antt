@@ -14,7 +14,7 @@ use Rattle.cs_laws.specs.declared.events.RefName.{RefName}
 use Rattle.cs_laws.specs.declared.answers.Answer.{Answer}
 use Rattle.cs_laws.specs.declared.answers.Entry.{Entry}
 use Rattle.cs_laws.specs.Answers.{may_write}
-use Rattle.cs_laws.specs.CapSnaps.{CapSnap, has_writer, is_open, is_writing, makes, writers}
+use Rattle.cs_laws.specs.CapSnaps.{CapSnap, has_writer, is_open, is_writing, makes, with_cap_snap, writers}
 use Rattle.cs_laws.specs.Context.{differs, with_first, path_context}
 use Rattle.cs_laws.specs.Events.{begun, clock}
 use Rattle.cs_laws.specs.History.{context, dirty, live, mode, queued, realms, to_client, writes}
@@ -26,8 +26,8 @@ use Rattle.cs_theorems.specs.Order.{HasOlder}
 use Rattle.cs_theorems.proofs.Begun.{member_without_named}
 use Rattle.cs_theorems.specs.Contexts.{Rises}
 use Rattle.cs_theorems.proofs.Blank.{AllBlank, none_live}
-use Rattle.cs_theorems.proofs.Contexts.{dir_stays, file_stays, told_moves, told_stays}
-use Rattle.cs_theorems.proofs.Inversions.{BeginIs, begin_unknown, begin_caps, begin_snap, begin_max, begin_full, begun_ref, begin_is, EndIs, end_unknown, ended, end_is, WriteIs, write_unknown, write_no_bit, write_past, wrote, write_is, FlushSnapsIs, flush_unknown, flush_none, flush_writing, flush_sent, flush_snaps_is, FirstIs, first_idle, first_cap, first_flush_ack, first_unsafe, first_safe, first_unlease, first_snap, first_is}
+use Rattle.cs_theorems.proofs.Contexts.{dir_stays, file_stays, resumed_moves, told_moves, told_stays}
+use Rattle.cs_theorems.proofs.Inversions.{BeginIs, begin_unknown, begin_caps, begin_snap, begin_max, begin_full, begun_ref, begin_is, EndIs, end_unknown, ended, end_is, WriteIs, write_unknown, write_no_bit, write_past, wrote, write_is, FlushSnapsIs, flush_unknown, flush_session, flush_none, flush_writing, flush_sent, flush_snaps_is, FirstIs, first_idle, first_cap, first_flush_ack, first_unsafe, first_safe, first_unlease, first_snap, first_resumed, first_is}
 use Rattle.cs_theorems.proofs.Listed.{Each, Member, each_nil}
 use Rattle.cs_theorems.proofs.Opens.{Names, IsNew, Opens, names_begin, names_fewer, older_opens, open_has, opens_begin, opens_fewer, opens_made, opens_sent}
 use Rattle.cs_theorems.proofs.Known.{LiveAreKnown}
@@ -239,6 +239,14 @@ in_order_kept h f s known blank (inr unknown) i =
 seq_stays : (f : ℕ) (known : Bool) (old new : Context) → (new ≡ old) ⊎ (known ≡ false) → (new.seq ≡ old.seq) ⊎ (known ≡ false)
 seq_stays f known old new stays = ⊎_elim (λ same. inl (ap (λ (c : Context). c.seq) same)) (λ unknown. inr unknown) stays
 
+-- realms are told
+told_file : (h : List Entry) (f : ℕ) → Rises (context h f) (path_context (client_file_path h f) (with_first (to_client h) (realms h))) → Ordered h
+    → InOrder f (path_context (client_file_path h f) (with_first (to_client h) (realms h))).seq (λ c. begun h c) (live h) (writes h f)
+    (with_cap_snap f (context h f) (path_context (client_file_path h f) (with_first (to_client h) (realms h))) (live h) (dirty h f) (mode h f) (queued h f))
+told_file h f rises i =
+    in_order_moved f (λ c. begun h c) (context h f) (path_context (client_file_path h f) (with_first (to_client h) (realms h))) (live h) (writes h f) (queued h f) (dirty h f) (mode h f)
+    rises i.0 (i.1 f)
+
 step_client : (h : List Entry) (x : Answer) → FirstIs h x → Asks (record { event = e.ToClient; answer = x } ∷ h) → Setting h → LiveAreKnown h → AllBlank h → Ordered h
     → Ordered (record { event = e.ToClient; answer = x } ∷ h)
 step_client h x first_idle now setting known blank i = i
@@ -248,12 +256,8 @@ step_client h x (first_unsafe tid o ttl q there) now setting known blank i =
     (i.0, λ f. in_order_kept h f _ known blank (seq_stays f _ _ _ (told_stays h tid o f now setting)) (i.1 f))
 step_client h x (first_safe tid q there) now setting known blank i = i
 step_client h x (first_unlease d name q there) now setting known blank i = i
-step_client h x (first_snap n d told q there) now setting known blank i = (
-  i.0,
-  λ f.
-      in_order_moved f (λ c. begun h c) (context h f) (path_context (client_file_path h f) (with_first (to_client h) (realms h))) (live h) (writes h f) (queued h f) (dirty h f) (mode h f)
-      (told_moves h n d told q f there setting) i.0 (i.1 f),
-)
+step_client h x (first_snap n d told q there) now setting known blank i = (i.0, λ f. told_file h f (told_moves h n d told q f there setting) i)
+step_client h x (first_resumed told q there) now setting known blank i = (i.0, λ f. told_file h f (resumed_moves h told q f there setting) i)
 
 -- Flushes
 
@@ -268,9 +272,10 @@ in_order_sent f s n rs ws x xs now there closed i =
 step_flush_snaps : (h : List Entry) (g : ℕ) (x : Answer) → FlushSnapsIs h g x → Ordered h
     → Ordered (record { event = e.FlushSnaps g; answer = x } ∷ h)
 step_flush_snaps h g x flush_unknown i = i
+step_flush_snaps h g x flush_session i = i
 step_flush_snaps h g x flush_none i = i
 step_flush_snaps h g x flush_writing i = i
-step_flush_snaps h g x (flush_sent y ys known there closed) i = (
+step_flush_snaps h g x (flush_sent y ys known active there closed) i = (
   i.0,
   λ f.
       cond_both (g == f) (drop 1 (queued h f)) (queued h f) (λ zs. InOrder f (context h f).seq (λ c. begun h c) (live h) (writes h f) zs)

@@ -14,10 +14,10 @@ use Rattle.cs_laws.specs.declared.answers.Entry.{Entry}
 use Rattle.cs_laws.specs.declared.objects.At.{At}
 use Rattle.cs_laws.specs.declared.objects.At.TheVariants as at
 use Rattle.cs_laws.specs.CapSnaps.{CapSnap, has_writer}
-use Rattle.cs_laws.specs.Flushes.{Flush, acked}
+use Rattle.cs_laws.specs.Flushes.{Flush, acked, is_later}
 use Rattle.cs_laws.specs.History.{context, dirty, live, queued, sent, writes}
 use Rattle.cs_laws.specs.Image.{Write}
-use Rattle.cs_laws.specs.Owed.{is_acked, is_later, is_unacked, is_written, owed}
+use Rattle.cs_laws.specs.Owed.{is_acked, is_unacked, is_written, owed}
 use Rattle.cs_laws.specs.Shown.{is_before}
 use Rattle.cs_laws.specs.Runs.{IsRun}
 use Rattle.cs_laws.specs.ClientKnows.{client_knows}

@@ -23,9 +23,10 @@ use Rattle.cs_theorems.proofs.Runs.{entry_is, run_before}
 use Rattle.cs_theorems.specs.Snapshots.{FinishedSnapsKeepTheirWrites}
 use Rattle.cs_theorems.proofs.Begun.{member_without_named}
 use Rattle.cs_theorems.proofs.Blank.{AllBlank}
-use Rattle.cs_theorems.proofs.Contexts.{dir_stays, file_stays, told_moves, told_stays}
+use Rattle.cs_theorems.specs.Contexts.{Rises}
+use Rattle.cs_theorems.proofs.Contexts.{dir_stays, file_stays, resumed_moves, told_moves, told_stays}
 use Rattle.cs_theorems.proofs.Course.{Course, course_run}
-use Rattle.cs_theorems.proofs.Inversions.{BeginIs, begin_unknown, begin_caps, begin_snap, begin_max, begin_full, begun_ref, begin_is, EndIs, end_unknown, ended, end_is, WriteIs, write_unknown, write_no_bit, write_past, wrote, write_is, FirstIs, first_idle, first_cap, first_flush_ack, first_unsafe, first_safe, first_unlease, first_snap, first_is}
+use Rattle.cs_theorems.proofs.Inversions.{BeginIs, begin_unknown, begin_caps, begin_snap, begin_max, begin_full, begun_ref, begin_is, EndIs, end_unknown, ended, end_is, WriteIs, write_unknown, write_no_bit, write_past, wrote, write_is, FirstIs, first_idle, first_cap, first_flush_ack, first_unsafe, first_safe, first_unlease, first_snap, first_resumed, first_is}
 use Rattle.cs_theorems.proofs.Listed.{Member, Each, each_end}
 use Rattle.cs_theorems.proofs.Settings.{Setting}
 use Rattle.cs_theorems.proofs.Uses.{named_is}
@@ -68,6 +69,14 @@ past_kept : (f q : ℕ) (old new : Context) (rs : List Live) (was known : Bool) 
 past_kept f q old new rs was known (inl same) is i = record { known = is; seq = subst (λ (c : Context). q < c.seq) (sym same) i.seq; writers = i.writers }
 past_kept f q old new rs was known (inr unknown) is i = absurd (both_ways was unknown i.known)
 
+-- realms are told
+past_told : (f q : ℕ) (old new : Context) (rs : List Live) (known : Bool) → Rises old new → IsPast f q old.seq rs known → IsPast f q new.seq rs known
+past_told f q old new rs known rises i = record {
+  known = i.known;
+  seq = ⊎_elim (λ same. subst (λ (c : Context). q < c.seq) (sym same) i.seq) (λ up. omega (arith, i.seq, up)) rises;
+  writers = i.writers;
+}
+
 past_client : (f q : ℕ) (h : List Entry) (x : Answer) → FirstIs h x → Asks (record { event = e.ToClient; answer = x } ∷ h) → Setting h → IsPastAt f q h
     → IsPastAt f q (record { event = e.ToClient; answer = x } ∷ h)
 past_client f q h x first_idle now setting i = i
@@ -77,14 +86,8 @@ past_client f q h x (first_unsafe tid o ttl rest there) now setting i =
     past_kept f q _ _ _ _ _ (told_stays h tid o f now setting) (client_grows e.ToClient (a.Unsafe tid o) h f i.known) i
 past_client f q h x (first_safe tid rest there) now setting i = i
 past_client f q h x (first_unlease d name rest there) now setting i = i
-past_client f q h x (first_snap n d told rest there) now setting i = record {
-  known = i.known;
-  seq = ⊎_elim
-      (λ same. subst (λ (c : Context). q < c.seq) (sym same) i.seq)
-      (λ rises. omega (arith, i.seq, rises))
-      (told_moves h n d told rest f there setting);
-  writers = i.writers;
-}
+past_client f q h x (first_snap n d told rest there) now setting i = past_told f q _ _ _ _ (told_moves h n d told rest f there setting) i
+past_client f q h x (first_resumed told rest there) now setting i = past_told f q _ _ _ _ (resumed_moves h told rest f there setting) i
 
 past_step : (p f q : ℕ) (h : List Entry) (x : Event) → Goes p h x → Setting h → IsPastAt f q h → IsPastAt f q (entry p h x ∷ h)
 past_step p f q h (e.Dir d k) on setting i = past_kept f q _ _ _ _ _ (dir_stays p h d k f on setting) i.known i

@@ -31,7 +31,7 @@ use Rattle.cs_theorems.specs.Order.{HasOlder}
 use Rattle.cs_theorems.specs.Queues.{snaps, with_ended}
 use Rattle.cs_theorems.proofs.Begun.{member_without_named}
 use Rattle.cs_theorems.proofs.Course.{Course, course_run, course_step}
-use Rattle.cs_theorems.proofs.Inversions.{BeginIs, begin_unknown, begin_caps, begin_snap, begin_max, begin_full, begun_ref, begin_is, EndIs, end_unknown, ended, end_is, WriteIs, write_unknown, write_no_bit, write_past, wrote, write_is, FlushIs, head_unknown, head_snap, head_clean, head_sent, flush_is, FlushSnapsIs, flush_unknown, flush_none, flush_writing, flush_sent, flush_snaps_is, FirstIs, first_idle, first_cap, first_flush_ack, first_unsafe, first_safe, first_unlease, first_snap, first_is}
+use Rattle.cs_theorems.proofs.Inversions.{BeginIs, begin_unknown, begin_caps, begin_snap, begin_max, begin_full, begun_ref, begin_is, EndIs, end_unknown, ended, end_is, WriteIs, write_unknown, write_no_bit, write_past, wrote, write_is, FlushIs, head_unknown, head_session, head_snap, head_clean, head_sent, flush_is, FlushSnapsIs, flush_unknown, flush_session, flush_none, flush_writing, flush_sent, flush_snaps_is, FirstIs, first_idle, first_cap, first_flush_ack, first_unsafe, first_safe, first_unlease, first_snap, first_resumed, first_is}
 use Rattle.cs_theorems.proofs.Listed.{Member, Each, each_end, member_left}
 use Rattle.cs_theorems.proofs.Opens.{Names, Opens, older_opens, open_has, opens_made}
 use Rattle.cs_theorems.proofs.Order.{InOrder, Ordered, made_free}
@@ -267,22 +267,27 @@ step_client h x (first_unlease d name q there) before i = i
 step_client h x (first_snap n d now q there) before i = λ f.
     queue_told f _ _ (context h f) (path_context (client_file_path h f) (with_first (to_client h) (realms h))) (live h) (writes h f) (queued h f) (snaps h f) (dirty h f) (mode h f)
     before.0 (before.1 f) _ refl (i f)
+step_client h x (first_resumed now q there) before i = λ f.
+    queue_told f _ _ (context h f) (path_context (client_file_path h f) (with_first (to_client h) (realms h))) (live h) (writes h f) (queued h f) (snaps h f) (dirty h f) (mode h f)
+    before.0 (before.1 f) _ refl (i f)
 
 step_flush_snaps : (h : List Entry) (g : ℕ) (x : Answer) → FlushSnapsIs h g x → AllQueue h
     → AllQueue (record { event = e.FlushSnaps g; answer = x } ∷ h)
 step_flush_snaps h g x flush_unknown i = i
+step_flush_snaps h g x flush_session i = i
 step_flush_snaps h g x flush_none i = i
 step_flush_snaps h g x flush_writing i = i
-step_flush_snaps h g x (flush_sent q qs known there closed) i = λ f.
+step_flush_snaps h g x (flush_sent q qs known active there closed) i = λ f.
     queue_flushed f g (length (sent h)) _ (live h) (writes h f) q qs (queued h f) (snaps h f) (g == f)
     (length-append (sent h) (_ ∷ []))
     (λ same. subst (λ k. queued h k ≡ q ∷ qs) (eqb-true g f same) there) closed (i f)
 
 step_flush : (h : List Entry) (g : ℕ) (x : Answer) → FlushIs h g x → AllQueue h → AllQueue (record { event = e.Flush g; answer = x } ∷ h)
 step_flush h g x head_unknown i = i
+step_flush h g x head_session i = i
 step_flush h g x head_snap i = i
 step_flush h g x head_clean i = i
-step_flush h g x (head_sent known free changed) i = λ f.
+step_flush h g x (head_sent known active free changed) i = λ f.
     let y : Flush = present h g (length (sent h) + 1) in
     queue_more (length (sent h)) (length (sent h ++ y ∷ [])) (live h) (writes h f) (queued h f) (snaps h f) (omega (arith, length-append (sent h) (y ∷ []))) (i f)
 

@@ -24,11 +24,18 @@ use Rattle.cs_laws.specs.ClientKnows.{client_file_path, client_knows, client_hom
 use Rattle.cs_laws.specs.Tree.{directories, directories_then, home, home_then, path, path_then, setup_dir, setup_dir_then}
 use Rattle.cs_laws.specs.Events.{setup_file, setup_file_then, files, files_then, begun, begun_then, clock, clock_then}
 use Rattle.cs_laws.specs.Flight.{to_client_then, to_server_then}
-use Rattle.cs_laws.specs.Flushes.{Flush, acked, acked_then, sent_then}
+use Rattle.cs_laws.specs.declared.reports.CapReport.{CapReport}
+use Rattle.cs_laws.specs.declared.sessions.ClientState.{ClientState}
+use Rattle.cs_laws.specs.declared.sessions.ServerState.{ServerState}
+use Rattle.cs_laws.specs.Carried.{first_reports}
+use Rattle.cs_laws.specs.Realms.{realm_records}
+use Rattle.cs_laws.specs.Reports.{calling, capped, capped_then, flushes_again, realm_seqs, reports, requests_again}
+use Rattle.cs_laws.specs.Sessions.{client_state, client_state_then, server_state, server_state_then}
+use Rattle.cs_laws.specs.Flushes.{Flush, acked, acked_then, is_later, sent_then}
 use Rattle.cs_laws.specs.History.{client, server, to_client, to_server, durable, fresh, last_sent, realms, context, live, writes, mode, dirty, present, queued, sent, snap}
 use Rattle.cs_laws.specs.Image.{Write}
 use Rattle.cs_laws.specs.Operations.{begun_under, begun_under_then, brought, drawn_then, operations_drawn, applied}
-use Rattle.cs_laws.specs.Owed.{had_reached, is_changed, is_later, is_untold, is_written, mode_at, owed}
+use Rattle.cs_laws.specs.Owed.{had_reached, is_changed, is_untold, is_written, mode_at, owed}
 use Rattle.cs_laws.specs.Shown.{is_before}
 use Rattle.cs_laws.specs.References.{live_then, mode_then, dirty_then}
 use Rattle.cs_laws.specs.Standing.{durable_then, fresh_then, last_sent_then, news}
@@ -38,7 +45,7 @@ use Rattle.cs_laws.specs.ServerKnows.{server_dirs, server_made, server_path}
 use Rattle.cs_laws.specs.Made.{Made, dirs_with, home_with, made_in, makes_dir, makes_file, path_with, with_files}
 use Rattle.cs_laws.specs.Names.{names_after, setup_names, setup_names_then}
 use Rattle.cs_laws.specs.Namespace.{Names}
-use Rattle.cs_laws.specs.Requests.{Reply, Request, is_closed, is_closed_then, is_saved, is_saved_then, replies, replies_then, requests, requests_then}
+use Rattle.cs_laws.specs.Requests.{Reply, Request, is_closed, is_closed_then, is_open, is_resent, is_resent_then, is_saved, is_saved_then, replies, replies_then, requests, requests_then}
 use Rattle.cs_laws.specs.Leases.{Lease, lease, lease_then}
 use Rattle.cs_theorems.specs.Refusals.{IsAsBefore}
 
@@ -53,46 +60,80 @@ listed _ _ fs r = refl
 clients : (x : Event) (y : Answer) (f : ℕ) (c : ClientCaps) → is_refusal x y ≡ true → client_then x y f c ≡ c
 clients e.ToClient (a.Cap g seq bits end) f c r = cc
 clients (e.Check g) (a.Ack seq bits) f c r = cc
+clients e.Reconnect (a.Reconnect caps requests flushes) f c r = cc
 clients _ _ f c r = refl
 
-servers : (x : Event) (y : Answer) (f : ℕ) (s : ServerCaps) → is_refusal x y ≡ true → server_then x y f s ≡ s
-servers (e.Grant g bits end) (a.SentCap seq held) f s r = cc
-servers (e.Revoke g bits) (a.SentCap seq held) f s r = cc
-servers e.ToMds (a.CapAck g seq held) f s r = cc
-servers _ _ f s r = refl
+servers : (x : Event) (y : Answer) (rs : List CapReport) (f : ℕ) (s : ServerCaps) → is_refusal x y ≡ true → server_then x y rs f s ≡ s
+servers (e.Grant g bits end) (a.SentCap seq held) rs f s r = cc
+servers (e.Revoke g bits) (a.SentCap seq held) rs f s r = cc
+servers e.ToMds (a.CapAck g seq held) rs f s r = cc
+servers e.ToMds (a.Reconnected caps resends) rs f s r = cc
+servers (e.Failover keep) (a.Failover kept) rs f s r = cc
+servers _ _ rs f s r = refl
 
-clients_way : (x : Event) (y : Answer) (s : ℕ → ServerCaps) (ds : List Record) (news q : List Message) → is_refusal x y ≡ true
-    → to_client_then x y s ds news q ≡ q
-clients_way (e.Grant g bits end) (a.SentCap seq held) s ds news q r = cc
-clients_way (e.Revoke g bits) (a.SentCap seq held) s ds news q r = cc
-clients_way e.Commit (a.Commit count) s ds news q r = cc
-clients_way e.ToMds (a.FlushDup f tid) s ds news q r = cc
-clients_way e.ToClient (a.Cap g seq bits end) s ds news q r = cc
-clients_way e.ToClient (a.FlushAck g tid) s ds news q r = cc
-clients_way e.ToClient (a.SnapTold number realm count) s ds news q r = cc
-clients_way e.ToClient (a.Unsafe tid o) s ds news q r = cc
-clients_way e.ToClient (a.Safe tid) s ds news q r = cc
-clients_way e.ToClient (a.Unlease d name) s ds news q r = cc
-clients_way e.ToMds (a.Req tid o) s ds news q r = cc
-clients_way e.ToMds (a.ReqDup tid o) s ds news q r = cc
-clients_way (e.Unlease d name) a.SentUnlease s ds news q r = cc
-clients_way _ _ s ds news q r = refl
+client_states : (x : Event) (y : Answer) (s : ClientState) → is_refusal x y ≡ true → client_state_then x y s ≡ s
+client_states e.DropLinks (a.DroppedLinks lost left) s r = cc
+client_states (e.Failover keep) (a.Failover kept) s r = cc
+client_states e.Reconnect (a.Reconnect caps requests flushes) s r = cc
+client_states e.ToClient (a.Resumed made) s r = cc
+client_states _ _ s r = refl
 
-servers_way : (x : Event) (y : Answer) (now : ℕ → ℕ → Flush) (old : ℕ → ℕ → ℕ → Flush) (q : List Message) → is_refusal x y ≡ true
-    → to_server_then x y now old q ≡ q
-servers_way (e.Check g) (a.Ack seq bits) now old q r = cc
-servers_way (e.Flush g) (a.Flush tid) now old q r = cc
-servers_way (e.FlushSnaps g) (a.FlushSnap tid follows) now old q r = cc
-servers_way e.ToMds (a.CapAck g seq held) now old q r = cc
-servers_way e.ToMds (a.Flushed g tid) now old q r = cc
-servers_way e.ToMds (a.FlushDup g tid) now old q r = cc
-servers_way e.ToMds (a.Req tid o) now old q r = cc
-servers_way e.ToMds (a.ReqDup tid o) now old q r = cc
-servers_way (e.Req c op) (a.Sent tid) now old q r = cc
-servers_way _ _ now old q r = refl
+server_states : (x : Event) (y : Answer) (s : ServerState) → is_refusal x y ≡ true → server_state_then x y s ≡ s
+server_states e.DropLinks (a.DroppedLinks lost left) s r = cc
+server_states (e.Failover keep) (a.Failover kept) s r = cc
+server_states e.ToMds (a.Reconnected caps resends) s r = cc
+server_states e.ToMds (a.Req tid o) s r = cc
+server_states e.ToMds (a.ReqDup tid o) s r = cc
+server_states e.ToMds (a.Flushed f tid) s r = cc
+server_states e.ToMds (a.FlushDup f tid) s r = cc
+server_states _ _ s r = refl
+
+capped_files : (x : Event) (y : Answer) (fs : List ℕ) → is_refusal x y ≡ true → capped_then x y fs ≡ fs
+capped_files e.ToClient (a.Cap f seq bits end) fs r = cc
+capped_files _ _ fs r = refl
+
+clients_way : (x : Event) (y : Answer) (st : ServerState) (s : ℕ → ServerCaps) (ds : List Record) (all : List RealmRecord) (news q : List Message)
+    → is_refusal x y ≡ true → to_client_then x y st s ds all news q ≡ q
+clients_way (e.Grant g bits end) (a.SentCap seq held) st s ds all news q r = cc
+clients_way (e.Revoke g bits) (a.SentCap seq held) st s ds all news q r = cc
+clients_way e.Commit (a.Commit count) st s ds all news q r = cc
+clients_way (e.Unlease d name) a.SentUnlease st s ds all news q r = cc
+clients_way e.ToMds (a.Req tid o) st s ds all news q r = cc
+clients_way e.ToMds (a.ReqDup tid o) st s ds all news q r = cc
+clients_way e.ToMds (a.Flushed f tid) st s ds all news q r = cc
+clients_way e.ToMds (a.FlushDup f tid) st s ds all news q r = cc
+clients_way e.ToMds (a.Reconnected caps resends) st s ds all news q r = cc
+clients_way e.ToClient (a.Cap g seq bits end) st s ds all news q r = cc
+clients_way e.ToClient (a.FlushAck g tid) st s ds all news q r = cc
+clients_way e.ToClient (a.SnapTold number realm count) st s ds all news q r = cc
+clients_way e.ToClient (a.Unsafe tid o) st s ds all news q r = cc
+clients_way e.ToClient (a.Safe tid) st s ds all news q r = cc
+clients_way e.ToClient (a.Unlease d name) st s ds all news q r = cc
+clients_way e.ToClient (a.Resumed count) st s ds all news q r = cc
+clients_way e.DropLinks (a.DroppedLinks lost left) st s ds all news q r = cc
+clients_way (e.Failover keep) (a.Failover kept) st s ds all news q r = cc
+clients_way _ _ st s ds all news q r = refl
+
+servers_way : (x : Event) (y : Answer) (now : ℕ → ℕ → Flush) (old : ℕ → ℕ → ℕ → Flush) (again q : List Message) → is_refusal x y ≡ true
+    → to_server_then x y now old again q ≡ q
+servers_way (e.Check g) (a.Ack seq bits) now old again q r = cc
+servers_way (e.Flush g) (a.Flush tid) now old again q r = cc
+servers_way (e.FlushSnaps g) (a.FlushSnap tid follows) now old again q r = cc
+servers_way (e.Req c op) (a.Sent tid) now old again q r = cc
+servers_way e.Reconnect (a.Reconnect caps requests flushes) now old again q r = cc
+servers_way e.ToMds (a.CapAck g seq held) now old again q r = cc
+servers_way e.ToMds (a.Flushed g tid) now old again q r = cc
+servers_way e.ToMds (a.FlushDup g tid) now old again q r = cc
+servers_way e.ToMds (a.Req tid o) now old again q r = cc
+servers_way e.ToMds (a.ReqDup tid o) now old again q r = cc
+servers_way e.ToMds (a.Reconnected caps resends) now old again q r = cc
+servers_way e.DropLinks (a.DroppedLinks lost left) now old again q r = cc
+servers_way (e.Failover keep) (a.Failover kept) now old again q r = cc
+servers_way _ _ now old again q r = refl
 
 durables : (x : Event) (y : Answer) (fs ds : List Record) → is_refusal x y ≡ true → durable_then x y fs ds ≡ ds
 durables e.Commit (a.Commit count) fs ds r = cc
+durables (e.Failover keep) (a.Failover kept) fs ds r = cc
 durables _ _ fs ds r = refl
 
 added : (x : Event) (y : Answer) (q : List Message) (fs : List Record) → is_refusal x y ≡ true → fresh_then x y q fs ≡ fs
@@ -101,10 +142,12 @@ added e.ToMds (a.Req tid o) q fs r = cc
 added (e.Snap d name) (a.Snap number) q fs r = cc
 added (e.RmSnap t) (a.Removed u number) q fs r = cc
 added e.Commit (a.Commit count) q fs r = cc
+added (e.Failover keep) (a.Failover kept) q fs r = cc
 added _ _ q fs r = refl
 
 told : (x : Event) (y : Answer) (q : List Message) (ts : List RealmRecord) → is_refusal x y ≡ true → realms_then x y q ts ≡ ts
 told e.ToClient (a.SnapTold number realm count) q ts r = cc
+told e.ToClient (a.Resumed count) q ts r = cc
 told _ _ q ts r = refl
 
 made_dir : (x : Event) (y : Answer) (d : ℕ) (was : Bool) → is_refusal x y ≡ true → setup_dir_then x y d was ≡ was
@@ -157,6 +200,7 @@ dirtied _ _ rs f d r = refl
 queues : (x : Event) (y : Answer) (f : ℕ) (old new : Context) (rs : List Live) (d : Caps) (m : ℕ) (xs : List CapSnap) → is_refusal x y ≡ true
     → queued_then x y f old new rs d m xs ≡ xs
 queues e.ToClient (a.SnapTold number realm count) f old new rs d m xs r = cc
+queues e.ToClient (a.Resumed count) f old new rs d m xs r = cc
 queues (e.FlushSnaps g) (a.FlushSnap tid follows) f old new rs d m xs r = cc
 queues _ _ f old new rs d m xs r = refl
 
@@ -174,9 +218,15 @@ none_drawn : (x : Event) (y : Answer) (h : List Entry) (n : ℕ) → is_refusal 
 none_drawn (e.Write c name off bytes) a.Wrote h n r = cc
 none_drawn _ _ h n r = refl
 
-last : (x : Event) (y : Answer) (q : List Message) (ss : List RealmRecord) → is_refusal x y ≡ true → last_sent_then x y q ss ≡ ss
-last e.Commit (a.Commit count) q ss r = cc
-last _ _ q ss r = refl
+last : (x : Event) (y : Answer) (s : ServerState) (all : List RealmRecord) (q : List Message) (ss : List RealmRecord) → is_refusal x y ≡ true
+    → last_sent_then x y s all q ss ≡ ss
+last e.Commit (a.Commit count) s all q ss r = cc
+last e.ToMds (a.Reconnected caps resends) s all q ss r = cc
+last e.ToMds (a.Req tid o) s all q ss r = cc
+last e.ToMds (a.ReqDup tid o) s all q ss r = cc
+last e.ToMds (a.Flushed f tid) s all q ss r = cc
+last e.ToMds (a.FlushDup f tid) s all q ss r = cc
+last _ _ s all q ss r = refl
 
 acks : (x : Event) (y : Answer) (f tid : ℕ) (was : Bool) → is_refusal x y ≡ true → acked_then x y f tid was ≡ was
 acks e.ToClient (a.FlushAck g t) f tid was r = cc
@@ -202,12 +252,17 @@ saves : (x : Event) (y : Answer) (t : ℕ) (was : Bool) → is_refusal x y ≡ t
 saves e.ToClient (a.Safe tid) t was r = cc
 saves _ _ t was r = refl
 
-leased : (x : Event) (y : Answer) (xs : List Request) (now d : ℕ) (name : List ℕ) (was : Option Lease) → is_refusal x y ≡ true
-    → lease_then x y xs now d name was ≡ was
-leased e.ToClient (a.Unsafe tid o) xs now d name was r = cc
-leased e.ToClient (a.Unlease k other) xs now d name was r = cc
-leased (e.Req c op) (a.Sent tid) xs now d name was r = cc
-leased _ _ xs now d name was r = refl
+resents : (x : Event) (y : Answer) (due was : Bool) → is_refusal x y ≡ true → is_resent_then x y due was ≡ was
+resents e.Reconnect (a.Reconnect caps requests flushes) due was r = cc
+resents _ _ due was r = refl
+
+leased : (x : Event) (y : Answer) (xs : List Request) (resent : ℕ → Bool) (now d : ℕ) (name : List ℕ) (was : Option Lease) → is_refusal x y ≡ true
+    → lease_then x y xs resent now d name was ≡ was
+leased e.ToClient (a.Unsafe tid o) xs resent now d name was r = cc
+leased e.ToClient (a.Unlease k other) xs resent now d name was r = cc
+leased (e.Req c op) (a.Sent tid) xs resent now d name was r = cc
+leased e.Reconnect (a.Reconnect caps requests flushes) xs resent now d name was r = cc
+leased _ _ xs resent now d name was r = refl
 
 named : (x : Event) (y : Answer) (ns : Names) → is_refusal x y ≡ true → setup_names_then x y ns ≡ ns
 named (e.Dir d p) a.Made ns r = cc
@@ -248,6 +303,9 @@ as_before h x r =
     = λ f. queues x.event x.answer f (context h f) (context (x ∷ h) f) (live h) (dirty h f) (mode h f) (queued h f) r in
     let same_sent : sent (x ∷ h) ≡ sent h = flushed x.event x.answer (present h) (snap h) (sent h) r in
     let same_acked : (f tid : ℕ) → acked (x ∷ h) f tid ≡ acked h f tid = λ f tid. acks x.event x.answer f tid (acked h f tid) r in
+    let all_now : List RealmRecord = realm_records (λ d. server_path h d) (server_dirs h) (durable h) in
+    let again_now : List Message
+    = calling (reports (λ f. client h f) (capped h)) (realm_seqs (realms h)) (requests_again h ++ flushes_again (λ f tid. acked h f tid) (sent h)) in
     let told_now : List Message = news (λ d. server_path h d) (server_dirs h) (last_sent h) (durable h) (fresh h) in
     record {
       client_knows = same_known;
@@ -265,16 +323,19 @@ as_before h x r =
       replies = answered x.event x.answer (replies h) r;
       closed = λ t. closes x.event x.answer (replies h) t (is_closed h t) r;
       saved = λ t. saves x.event x.answer t (is_saved h t) r;
-      leases = λ d name. leased x.event x.answer (requests h) (clock h) d name (lease h d name) r;
+      resent = λ t. resents x.event x.answer (is_open h t) (is_resent h t) r;
+      leases = λ d name. leased x.event x.answer (requests h) (λ t. is_resent h t) (clock h) d name (lease h d name) r;
       client = λ f. clients x.event x.answer f (client h f) r;
-      server = λ f. servers x.event x.answer f (server h f) r;
-      session = refl;
-      to_client = clients_way x.event x.answer (λ f. server h f) (durable h) told_now (to_client h) r;
-      to_server = servers_way x.event x.answer (present h) (snap h) (to_server h) r;
+      server = λ f. servers x.event x.answer (first_reports (to_server h)) f (server h f) r;
+      session = server_states x.event x.answer (server_state h) r;
+      client_session = client_states x.event x.answer (client_state h) r;
+      capped = capped_files x.event x.answer (capped h) r;
+      to_client = clients_way x.event x.answer (server_state h) (λ f. server h f) (durable h) all_now told_now (to_client h) r;
+      to_server = servers_way x.event x.answer (present h) (snap h) again_now (to_server h) r;
       durable = same_durable;
       fresh = same_fresh;
       realms = same_realms;
-      last_sent = last x.event x.answer told_now (last_sent h) r;
+      last_sent = last x.event x.answer (server_state h) all_now told_now (last_sent h) r;
       clock = clocks x.event x.answer (clock h) r;
       mode = λ f. modes x.event x.answer (live h) f (mode h f) r;
       contexts = same_context;

@@ -7,7 +7,7 @@ use Rattle.cs_laws.specs.declared.records.RecordBody.{RecordBody}
 use Rattle.cs_laws.specs.declared.records.RecordBody.TheVariants as bodies
 use Rattle.cs_laws.specs.Realms.{is_realm, number_of}
 use Rattle.cs_laws.specs.Standing.{greatest_number}
-use Rattle.cs_theorems.proofs.Drawn.{AllDraw, Draws, draws_within}
+use Rattle.cs_theorems.proofs.Drawn.{AllDraw, Draws, draws_front, draws_within}
 use Rattle.cs_theorems.proofs.WayContexts.{quiet_stays}
 use Rattle.cs_theorems.proofs.RealmPaths.{way_context}
 use Rattle.cs_theorems.proofs.WayContexts.{realm_more, way_grows, way_low, way_stays}
@@ -66,11 +66,6 @@ realms_grow us (r ∷ ws) d is = subst (λ rs. is_realm rs d ≡ true) (append_a
 
 pub front_realm : (us vs : List Record) (d : ℕ) → IsFront us vs → is_realm us d ≡ true → is_realm vs d ≡ true
 front_realm us vs d (ws, whole) is = subst (λ rs. is_realm rs d ≡ true) (sym whole) (realms_grow us ws d is)
-
--- the numbers rise along a front
-pub draws_front : (g : ℕ) (us ws : List Record) → AllDraw g (us ++ ws) → AllDraw g us
-draws_front g [] ws draws = tt
-draws_front g (r ∷ us) ws draws = (draws.0, draws_front (max g (number_of r.body)) us ws draws.1)
 
 pub front_draws : (us vs : List Record) → IsFront us vs → AllDraw 0 vs → AllDraw 0 us
 front_draws us vs (ws, is) draws = draws_front 0 us ws (subst (λ rs. AllDraw 0 rs) is draws)

@@ -87,6 +87,10 @@ under_then Held e.ToClient (a.SnapTold number realm count) f makes old rs ws m x
     cond_both makes (xs ++ kept.queued old (has_writer f rs) (written_meta m ws) ∷ []) xs (λ ys. Under Held ys)
     (λ made. each_end (λ (z : Snap). Held z.context) xs (kept.queued old (has_writer f rs) (written_meta m ws)) i (now made))
     (λ _. i)
+under_then Held e.ToClient (a.Resumed count) f makes old rs ws m xs now i =
+    cond_both makes (xs ++ kept.queued old (has_writer f rs) (written_meta m ws) ∷ []) xs (λ ys. Under Held ys)
+    (λ made. each_end (λ (z : Snap). Held z.context) xs (kept.queued old (has_writer f rs) (written_meta m ws)) i (now made))
+    (λ _. i)
 under_then Held e.ToClient (a.FlushAck g tid) f makes old rs ws m xs now i =
     cond_both (g == f) (kept.without_tid tid xs) xs (λ ys. Under Held ys) (λ _. under_left Held tid xs i) (λ _. i)
 under_then Held (e.FlushSnaps g) (a.FlushSnap tid follows) f makes old rs ws m xs now i =

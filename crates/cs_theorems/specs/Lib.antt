@@ -10,7 +10,9 @@ pub mod Realms
 pub mod References
 pub mod Refusals
 pub mod Replays
+pub mod Reports
 pub mod Snapshots
 pub mod Spellings
+pub mod Told
 pub mod Unacked
 pub mod Underway

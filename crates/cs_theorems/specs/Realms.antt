@@ -14,6 +14,7 @@ ParentsAreKnown ts (t ∷ told) = (missing_parent ts t ≡ None) × ParentsAreKn
 
 abbrev pub TellsKnownParents : List RealmRecord → List Message → Type 0
 TellsKnownParents ts (messages.Snap number d told ∷ q) = ParentsAreKnown ts told
+TellsKnownParents ts (messages.Resumed told ∷ q) = ParentsAreKnown ts told
 TellsKnownParents ts _ = Unit {0}
 
 -- the message that is delivered next

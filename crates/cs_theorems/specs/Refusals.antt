@@ -8,12 +8,13 @@ use Rattle.cs_laws.specs.Events.{begun, clock}
 use Rattle.cs_laws.specs.ServerKnows.{server_knows, server_dir, server_dirs, server_home, server_path}
 use Rattle.cs_laws.specs.Flushes.{acked}
 use Rattle.cs_laws.specs.Owed.{had_reached, mode_at, owed}
-use Rattle.cs_laws.specs.Sessions.{server_state}
+use Rattle.cs_laws.specs.Reports.{capped}
+use Rattle.cs_laws.specs.Sessions.{client_state, server_state}
 use Rattle.cs_laws.specs.History.{client, server, to_client, to_server, durable, fresh, realms, context, live, writes, mode, dirty, queued, sent, last_sent}
 use Rattle.cs_laws.specs.Operations.{begun_under, operations_drawn, applied}
 use Rattle.cs_laws.specs.Leases.{lease}
 use Rattle.cs_laws.specs.Names.{names}
-use Rattle.cs_laws.specs.Requests.{is_closed, is_saved, replies, requests}
+use Rattle.cs_laws.specs.Requests.{is_closed, is_resent, is_saved, replies, requests}
 
 pub record IsAsBefore (h new : List Entry) : Type 0 where
   pub client_knows : (f : ℕ) → client_knows new f ≡ client_knows h f
@@ -31,10 +32,13 @@ pub record IsAsBefore (h new : List Entry) : Type 0 where
   pub replies : replies new ≡ replies h
   pub closed : (t : ℕ) → is_closed new t ≡ is_closed h t
   pub saved : (t : ℕ) → is_saved new t ≡ is_saved h t
+  pub resent : (t : ℕ) → is_resent new t ≡ is_resent h t
   pub leases : (d : ℕ) (name : List ℕ) → lease new d name ≡ lease h d name
   pub client : (f : ℕ) → client new f ≡ client h f
   pub server : (f : ℕ) → server new f ≡ server h f
   pub session : server_state new ≡ server_state h
+  pub client_session : client_state new ≡ client_state h
+  pub capped : capped new ≡ capped h
   pub to_client : to_client new ≡ to_client h
   pub to_server : to_server new ≡ to_server h
   pub durable : durable new ≡ durable h

@@ -1,0 +1,31 @@
+-- The flushes that the client reports and sends again.
+use Rattle.std.specs.Prelude.{ℕ, List, ◌++◌, true, false, map}
+use Rattle.cs_ids.specs.declared.objects.FileMeta.{FileMeta}
+use Rattle.cs_capsnap.specs.CapSnaps as kept
+use Rattle.cs_flush.specs.declared.report.FlushReport.{FlushReport}
+use Rattle.cs_flush.specs.declared.sent.Sent.{Sent}
+use Rattle.cs_laws.specs.declared.answers.Entry.{Entry}
+use Rattle.cs_laws.specs.Flushes.{Flush, acked}
+use Rattle.cs_laws.specs.History.{sent}
+use Rattle.cs_laws.specs.Reports.{unretired}
+use Rattle.cs_theorems.specs.Queues.{snaps}
+use Rattle.cs_theorems.specs.Unacked.{sent_of, unacked}
+
+-- what is reported of a flush
+abbrev pub report : Flush → FlushReport
+report x = record { ino = x.file; sent = sent_of x; snap = x.snap }
+
+-- those that aren't acknowledged, in the order of their numbers
+abbrev pub unacked_reports : List Entry → List FlushReport
+unacked_reports h = map report (unretired (λ f tid. acked h f tid) (sent h))
+
+-- what is kept of a flush of a file, and of one of a cap snap of it
+abbrev pub file_report : ℕ → Sent → FlushReport
+file_report f u = record { ino = f; sent = u; snap = false }
+
+abbrev pub snap_report : ℕ → (ℕ × ℕ × FileMeta) → FlushReport
+snap_report f v = record { ino = f; sent = record { tid = v.0; follows = v.1; meta = v.2 }; snap = true }
+
+-- those that the client keeps of a file
+abbrev pub kept_reports : List Entry → ℕ → List FlushReport
+kept_reports h f = map (file_report f) (unacked h f) ++ map (snap_report f) (kept.unacked (snaps h f))
