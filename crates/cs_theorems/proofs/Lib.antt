@@ -14,6 +14,8 @@ pub mod Phase
 pub mod Sessions
 pub mod Calls
 pub mod RealmFits
+pub mod ReportFits
+pub mod ToldFits
 pub mod Refused
 pub mod News
 -- References and their uses
