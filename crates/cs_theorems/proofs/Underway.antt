@@ -958,6 +958,15 @@ all_fly p h run =
 pub told_known : (p : ℕ) (h : List Entry) (m : Message) (q : List Message) → IsRun p h → to_client h ≡ m ∷ q → IsToldClient h m
 told_known p h m q run is = (subst (λ l. Tells (requests h) (λ f. client_knows h f) l) is (all_fly p h run).told).0
 
+-- what is on its way to the client goes there
+each_told_way : (xs : List Request) (q : List Message) (known : ℕ → Bool) → Tells xs known q → Each (λ m. is_for_client m ≡ true) q
+each_told_way xs [] known i = each_nil (λ m. is_for_client m ≡ true)
+each_told_way xs (m ∷ q) known i =
+    each_cons (λ n. is_for_client n ≡ true) m q i.0.0 (each_told_way xs q (λ f. known_with xs m known f) i.2)
+
+pub told_way : (p : ℕ) (h : List Entry) → IsRun p h → Each (λ m. is_for_client m ≡ true) (to_client h)
+told_way p h run = each_told_way (requests h) (to_client h) (λ f. client_knows h f) (all_fly p h run).told
+
 of_received : (xs : List Request) (Known : ℕ → Type 0) (m : Message) → IsReceived xs Known m → ForServer Known m
 of_received xs Known (messages.Req tid ino op) k = (refl, tt)
 of_received xs Known (messages.CapAck f seq bits) k = k
