@@ -30,6 +30,8 @@ pub mod CapsFit
 -- Files that aren't known, counts and limits
 pub mod Blank
 pub mod Untouched
+pub mod Tells
+pub mod KnownBehind
 pub mod Underway
 pub mod Files
 pub mod Counts
