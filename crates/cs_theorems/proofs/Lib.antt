@@ -119,3 +119,4 @@ pub mod Course
 pub mod Footing
 pub mod Agreeing
 pub mod Together
+pub mod Arrivals
