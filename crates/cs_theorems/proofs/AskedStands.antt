@@ -377,7 +377,7 @@ request_chosen rs due (x ∷ xs) (y ∷ ys) i = at (due x.tid) (due y.tid) (ap d
 request_chosen rs due _ _ i = absurd i
 
 -- each that was sent was asked
-was_asked : (xs : List Request) (ys : List Asked) (x : Request) → Alike xs ys → Member x xs
+pub was_asked : (xs : List Request) (ys : List Asked) (x : Request) → Alike xs ys → Member x xs
     → (o : OpAnswer) × Member (record { tid = x.tid; op = x.op; answer = o }) ys
 was_asked [] ys x i there = absurd there
 was_asked (z ∷ xs) [] x i there = absurd i

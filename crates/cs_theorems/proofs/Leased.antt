@@ -1,7 +1,7 @@
 -- Each lease is of a request whose answer was delivered and told of the entry, and no later request names the entry.
-use Rattle.std.proofs.Common.{◌≡◌, refl, sym, ap, ◌∙◌, subst, ℕ, ◌<◌, ◌==◌, ◌&&◌, not, nat_le, nat_lt, Bool, true, false, cond, List, [], ◌∷◌, ◌++◌, Option, Some, None, inl, inr, ⊎_elim}
+use Rattle.std.proofs.Common.{◌≡◌, refl, sym, ap, ◌∙◌, subst, ℕ, ◌<◌, ◌==◌, ◌&&◌, not, nat_le, nat_lt, Bool, true, false, cond, List, [], ◌∷◌, ◌++◌, Option, Some, None, inl, inr, ⊎_elim, length, ◌+◌, ◌||◌}
 use Rattle.std.specs.Option.{option_map}
-use Rattle.std.proofs.lemmas.Bool.{and_cases, and_parts, both_ways, cond_both, eqb-true, false_from_ne_true, lt-ltb}
+use Rattle.std.proofs.lemmas.Bool.{and_cases, and_parts, both_ways, cond_both, eqb-true, false_from_ne_true, lt-ltb, or_left}
 use Rattle.cs_laws.specs.declared.events.Event.{Event}
 use Rattle.cs_laws.specs.declared.events.Event.TheVariants as e
 use Rattle.cs_laws.specs.declared.answers.Answer.{Answer}
@@ -17,7 +17,7 @@ use Rattle.cs_laws.specs.Laws.{LeasedStand}
 use Rattle.cs_laws.specs.Leases.{Lease, asks_for, ino_in, is_named_later, lease, looked_up, taken}
 use Rattle.cs_laws.specs.Names.{names, setup_names}
 use Rattle.cs_laws.specs.Namespace.{Named, Names, after, answer_on, is_named, names_entry}
-use Rattle.cs_laws.specs.Requests.{Reply, has_reply, op_of, replies, requests}
+use Rattle.cs_laws.specs.Requests.{Reply, has_reply, op_of, replies, requests, is_resent}
 use Rattle.cs_laws.specs.Runs.{IsRun}
 use Rattle.cs_laws.specs.Sessions.{is_active, server_state}
 use Rattle.cs_theorems.specs.Asked.{Asked, Settles, asked, asked_of, stage}
@@ -28,7 +28,7 @@ use Rattle.cs_theorems.proofs.AskedStands.{AskedStands, same_tid, settles_behind
 use Rattle.cs_theorems.proofs.AskedTold.{AllTold, all_told, asked_stands}
 use Rattle.cs_theorems.proofs.Answered.{answer_stands, reply_stays, reply_there}
 use Rattle.cs_theorems.proofs.Entries.{after_tells, ino_at, stage_leaves}
-use Rattle.cs_theorems.proofs.Inversions.{FirstIs, first_idle, first_cap, first_flush_ack, first_unsafe, first_resumed, first_safe, first_unlease, first_snap, first_is}
+use Rattle.cs_theorems.proofs.Inversions.{FirstIs, first_idle, first_cap, first_flush_ack, first_unsafe, first_resumed, first_safe, first_unlease, first_snap, first_is, ReqIs, req_is, ReconnectIs, reconnect_is, reconnected, req_sent, req_session, unbroken}
 use Rattle.cs_theorems.proofs.Listed.{Each, Member, each_end, member_first, member_left, member_right}
 use Rattle.cs_theorems.proofs.Runs.{of_run}
 use Rattle.cs_theorems.proofs.Tests.{any_none, any_some}
@@ -87,22 +87,23 @@ none_later h t d name alike none y there more =
 lease_new : (h : List Entry) (t : ℕ) (o : OpAnswer) (op : ReqOp) (d : ℕ) (name : List ℕ) → AskedAlike h → AskedSettles h
     → Member (record { tid = t; op = op; answer = o }) (asked h) → AllLeased h
     → LeaseIs (asked h) (replies h ++ record { tid = t; answer = o } ∷ []) d name
-    (cond (asks_for (op_of t (requests h)) d name && not (is_named_later t d name (requests h)))
+    (cond (asks_for (op_of t (requests h)) d name && not (is_named_later t d name (requests h) || is_resent h t))
     (taken (ino_in o) (clock h) (lease h d name)) (lease h d name))
 lease_new h t o op d name alike settles there i =
     let x : Asked = record { tid = t; op = op; answer = o } in
     let was = lease_told (asked h) (replies h) (record { tid = t; answer = o }) d name (lease h d name) (i d name) in
-    cond_both (asks_for (op_of t (requests h)) d name && not (is_named_later t d name (requests h)))
+    cond_both (asks_for (op_of t (requests h)) d name && not (is_named_later t d name (requests h) || is_resent h t))
     (taken (ino_in o) (clock h) (lease h d name)) (lease h d name)
     (λ l. LeaseIs (asked h) (replies h ++ record { tid = t; answer = o } ∷ []) d name l)
     (λ both.
-    let parts = and_parts (asks_for (op_of t (requests h)) d name) (not (is_named_later t d name (requests h))) both in
+    let parts = and_parts (asks_for (op_of t (requests h)) d name) (not (is_named_later t d name (requests h) || is_resent h t)) both in
     at was
     (subst (λ k. asks_for k d name ≡ true)
     (op_found 0 (requests h) (asked h) x (settles_rises 0 (setup_names h) (asked h) settles) alike there) parts.0)
     (none_later h t d name alike
     (false_from_ne_true (is_named_later t d name (requests h))
-    (λ is. both_ways (not (is_named_later t d name (requests h))) (ap not is) parts.1)))
+    (λ is. both_ways (not (is_named_later t d name (requests h) || is_resent h t))
+    (ap not (or_left (is_named_later t d name (requests h)) (is_resent h t) is)) parts.1)))
     (ino_in o) refl)
     (λ _. was)
   where
@@ -135,17 +136,22 @@ step_client h x (first_unsafe tid o ttl q is) alike settles stands told i = λ d
     (subst (λ xs. Member (record { tid = tid; op = own.0; answer = o }) xs) (sym stands.front)
     (member_left (record { tid = tid; op = own.0; answer = o }) (asked_of (stand h)) stands.missing own.1)) i
 
-step_req : (h : List Entry) (c : ℕ) (op : ReqOp) (tid : ℕ) → AllLeased h
-    → AllLeased (record { event = e.Req c op; answer = a.Sent tid } ∷ h)
-step_req h c op tid i = λ d name.
-    let x : Asked = record { tid = tid; op = op; answer = answer_on (stage (setup_names h) (asked h)) op } in
+step_req : (h : List Entry) (c : ℕ) (op : ReqOp) (x : Answer) → ReqIs h x → AllLeased h → AllLeased (record { event = e.Req c op; answer = x } ∷ h)
+step_req h c op x req_session i = i
+step_req h c op x (req_sent active) i = λ d name.
+    let x : Asked = record { tid = length (requests h) + 1; op = op; answer = answer_on (stage (setup_names h) (asked h)) op } in
     cond_both (names_entry op d name) None (lease h d name) (λ l. LeaseIs (asked h ++ x ∷ []) (replies h) d name l)
     (λ _. tt) (λ apart. lease_asked (asked h) (replies h) x d name (lease h d name) apart (i d name))
+
+step_reconnect : (h : List Entry) (x : Answer) → ReconnectIs h x → AllLeased h → AllLeased (record { event = e.Reconnect; answer = x } ∷ h)
+step_reconnect h x unbroken i = i
+step_reconnect h x (reconnected broken) i = λ d name. tt
 
 leased_step : (p : ℕ) (h : List Entry) (x : Event) → AskedAlike h → AskedSettles h → AskedStands h → AllTold h → AllLeased h
     → AllLeased (entry p h x ∷ h)
 leased_step p h e.ToClient alike settles stands told i = step_client h _ (first_is h) alike settles stands told i
-leased_step p h (e.Req c op) alike settles stands told i = step_req h c op _ i
+leased_step p h (e.Req c op) alike settles stands told i = step_req h c op _ (req_is h) i
+leased_step p h e.Reconnect alike settles stands told i = step_reconnect h _ (reconnect_is h) i
 leased_step p h _ alike settles stands told i = i
 
 pub all_leased : (p : ℕ) (h : List Entry) → IsRun p h → AllLeased h

@@ -12,6 +12,7 @@ pub mod Runs
 pub mod Inversions
 pub mod Phase
 pub mod Sessions
+pub mod Calls
 pub mod Refused
 pub mod News
 -- References and their uses

@@ -1,7 +1,7 @@
 -- What holds of each member of a list.
-use Rattle.std.proofs.Common.{◌≡◌, refl, sym, List, [], ◌∷◌, ◌++◌, inl, inr, ◌⊎◌, ⊎_elim, drop, subst, reverse}
+use Rattle.std.proofs.Common.{◌≡◌, refl, sym, List, [], ◌∷◌, ◌++◌, inl, inr, ◌⊎◌, ⊎_elim, drop, subst, reverse, take, ℕ}
 use Rattle.std.specs.List.{All}
-use Rattle.std.proofs.lemmas.List.{reverse-append}
+use Rattle.std.proofs.lemmas.List.{reverse-append, take-append-drop}
 use Rattle.std.proofs.lemmas.List.Elements.{All-cons, All-nil}
 pub use Rattle.cs_laws.specs.Lists.{Member, Each}
 
@@ -53,3 +53,6 @@ pub member_cases : {A : Type 0} (x : A) (xs ys : List A) → Member x (xs ++ ys)
 member_cases x [] ys m = inr m
 member_cases x (y ∷ xs) ys (inl is) = inl (inl is)
 member_cases x (y ∷ xs) ys (inr m) = ⊎_elim (λ k. inl (inr k)) (λ k. inr k) (member_cases x xs ys m)
+
+pub member_take : {A : Type 0} (x : A) (n : ℕ) (xs : List A) → Member x (take n xs) → Member x xs
+member_take x n xs m = subst (λ ys. Member x ys) (take-append-drop n xs) (member_left x (take n xs) (drop n xs) m)

@@ -1,5 +1,5 @@
 -- The laws of requests: they stand once and in order, so do those with an answer, and what a lease tells stands in the namespace.
-use Rattle.std.proofs.Common.{◌≡◌, refl, sym, ap, ◌∙◌, subst, ℕ, ◌==◌, true, List, [], ◌∷◌, ◌++◌, append_assoc}
+use Rattle.std.proofs.Common.{◌≡◌, refl, sym, ap, ◌∙◌, subst, ℕ, ◌==◌, true, List, [], ◌∷◌, ◌++◌, append_assoc, take}
 use Rattle.std.proofs.lemmas.Bool.{cond_both, eqb-true}
 use Rattle.std.proofs.lemmas.List.{append-nil}
 use Rattle.cs_laws.specs.declared.events.Event.{Event}
@@ -18,7 +18,7 @@ use Rattle.cs_laws.specs.Runs.{IsRun}
 use Rattle.cs_laws.specs.Standing.{durable_then}
 use Rattle.cs_theorems.specs.Asked.{Asked, asked_of}
 use Rattle.cs_theorems.proofs.AskedStands.{answer_found, asked_tids, member_tid, stands_rise, tid_member, tids_are}
-use Rattle.cs_theorems.proofs.AskedTold.{AllTold, all_told, more_stand, more_tids, asked_stands}
+use Rattle.cs_theorems.proofs.AskedTold.{AllTold, all_told, more_stand, more_tids, asked_stands, saved_durable}
 use Rattle.cs_theorems.proofs.Answered.{answer_stands}
 use Rattle.cs_theorems.proofs.Inversions.{FirstIs, first_idle, first_cap, first_flush_ack, first_unsafe, first_resumed, first_safe, first_unlease, first_snap, first_is}
 use Rattle.cs_theorems.proofs.Leased.{leased_stand}
@@ -38,41 +38,10 @@ stands_once p h run x there = record {
   answered = answer_found 0 x (stand h) (stands_rise (asked_stands p h run)) there;
 }
 
--- What the client was told is durable is durable.
-
-abbrev SavedAreDurable : List Entry → Type 0
-SavedAreDurable h = (t : ℕ) → is_saved h t ≡ true → Member t (asked_tids (asked_of (durable h)))
-
-step_client : (h : List Entry) (x : Answer) → FirstIs h x → AllTold h → SavedAreDurable h
-    → SavedAreDurable (record { event = e.ToClient; answer = x } ∷ h)
-step_client h x first_idle told i = i
-step_client h x (first_cap g seq bits end q is) told i = i
-step_client h x (first_flush_ack g tid q is) told i = i
-step_client h x (first_unsafe tid o ttl q is) told i = i
-step_client h x (first_unlease d name q is) told i = i
-step_client h x (first_snap number realm now q is) told i = i
-step_client h x (first_safe tid q is) told i = λ t.
-    cond_both (tid == t) true (is_saved h t) (λ b. b ≡ true → Member t (asked_tids (asked_of (durable h))))
-    (λ same _. subst (λ n. Member n (asked_tids (asked_of (durable h)))) (eqb-true tid t same)
-    (told (messages.Safe tid) (member_first (messages.Safe tid) q (to_client h) is)))
-    (λ _. i t)
-step_client h x (first_resumed told_now q is) told i = λ t.
-    cond_both (tid == t) true (is_saved h t) (λ b. b ≡ true → Member t (asked_tids (asked_of (durable h))))
-    (λ same _. subst (λ n. Member n (asked_tids (asked_of (durable h)))) (eqb-true tid t same)
-    (told (messages.Resumed told_now) (member_first (messages.Resumed told_now) q (to_client h) is)))
-    (λ _. i t)
-
-saved_step : (p : ℕ) (h : List Entry) (x : Event) → AllTold h → SavedAreDurable h → SavedAreDurable (entry p h x ∷ h)
-saved_step p h e.ToClient told i = step_client h _ (first_is h) told i
-saved_step p h e.Commit told i = λ t is. more_tids (durable h) (fresh h) t (i t is)
-saved_step p h _ told i = i
-
-saved_durable : (p : ℕ) (h : List Entry) → IsRun p h → SavedAreDurable h
-saved_durable p h run = of_run p SavedAreDurable (λ t is. absurd cc) (λ g x fit before i. saved_step p g x (all_told p g before) i) h run
-
 -- what is durable stays so
 durable_one : (x : Event) (y : Answer) (fs rs : List Record) → (more : List Record) × (durable_then x y fs rs ≡ rs ++ more)
 durable_one e.Commit (a.Commit count) fs rs = (fs, refl)
+durable_one (e.Failover keep) (a.Failover kept) fs rs = (take keep fs, refl)
 durable_one _ _ fs rs = ([], sym (append-nil rs))
 
 durable_grows : (new before : List Entry) → (more : List Record) × (durable (new ++ before) ≡ durable before ++ more)

@@ -21,7 +21,7 @@ use Rattle.cs_laws.specs.ServerKnows.{server_dir, server_knows, server_made}
 use Rattle.cs_laws.specs.Tree.{is_directory}
 use Rattle.cs_theorems.specs.Asked.{Asked, Settles, asked, asked_made, asked_of, stage}
 use Rattle.cs_theorems.proofs.Asked.{log_made, made_same, makes_is, names_stage, settle_front}
-use Rattle.cs_theorems.proofs.AskedStands.{asked_stands}
+use Rattle.cs_theorems.proofs.AskedTold.{asked_stands}
 use Rattle.cs_theorems.proofs.AsksRun.{alike_length, asked_alike, asked_settles, setup_fresh}
 use Rattle.cs_theorems.proofs.Sides.{setup_used}
 use Rattle.cs_theorems.proofs.Trees.{all_are_used, dirs_are, dirs_of, file_used, more_used, used_grow, used_of}
