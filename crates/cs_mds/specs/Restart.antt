@@ -1,0 +1,32 @@
+-- What a failover leaves of the server.
+use Rattle.std.specs.Prelude.{◌≡◌, ℕ, ◌≤◌, List, [], ◌++◌, length, take}
+use Rattle.cs_parts.specs.Capabilities.{no_server_caps}
+use Rattle.cs_laws.specs.declared.answers.Entry.{Entry}
+use Rattle.cs_laws.specs.declared.records.Record.{Record}
+use Rattle.cs_records.specs.Records.{RecordLog}
+use Rattle.cs_mds.specs.declared.tables.Tables.{Tables}
+use Rattle.cs_mds.specs.Views.{AreWhole, ServerView, caps_of}
+use Rattle.cs_mds.specs.Whole.{AreStanding, AreTablesOf}
+
+-- the records that stay: the durable ones, and the first of those behind them
+abbrev pub kept_of : ℕ → RecordLog → List Record
+kept_of keep s = s.durable ++ take keep s.fresh
+
+-- The tables are those that the setup lines and the records that stay make. These are durable, no capabilities are left, and
+-- the setup lines and the marks of the session are as before.
+pub record Restarted (keep : ℕ) (old new : ServerView) : Type 0 where
+  pub tables : AreTablesOf old.setup (old.durable ++ take keep old.fresh) new.tree new.homes new.names
+  pub caps : (f : ℕ) → caps_of f new.caps ≡ no_server_caps
+  pub durable : new.durable ≡ old.durable ++ take keep old.fresh
+  pub fresh : new.fresh ≡ []
+  pub setup : new.setup ≡ old.setup
+  pub told : new.told ≡ old.told
+  pub replaying : new.replaying ≡ old.replaying
+
+-- tables that these setup lines and these records made, none of which is taken for durable yet
+pub record AreRemade (xs : List Entry) (rs : List Record) (t : Tables) : Type 0 where
+  pub standing : AreStanding xs rs t.tree t.homes t.names
+  pub whole : AreWhole t.tree t.homes t.names
+  pub durable : t.records.durable ≡ []
+  pub fresh : t.records.fresh ≡ rs
+  pub made : t.names.made ≤ length rs
