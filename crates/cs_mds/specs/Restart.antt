@@ -1,11 +1,12 @@
 -- What a failover leaves of the server.
-use Rattle.std.specs.Prelude.{◌≡◌, ℕ, ◌≤◌, List, [], ◌++◌, length, take}
+use Rattle.std.specs.Prelude.{◌≡◌, ℕ, ◌≤◌, true, List, [], ◌++◌, length, slice_get, take, Some}
 use Rattle.cs_parts.specs.Capabilities.{no_server_caps}
 use Rattle.cs_laws.specs.declared.answers.Entry.{Entry}
 use Rattle.cs_laws.specs.declared.records.Record.{Record}
+use Rattle.cs_laws.specs.Spellings.{record_bytes, record_spelled}
 use Rattle.cs_records.specs.Records.{RecordLog}
 use Rattle.cs_mds.specs.declared.tables.Tables.{Tables}
-use Rattle.cs_mds.specs.Views.{AreWhole, ServerView, caps_of}
+use Rattle.cs_mds.specs.Views.{AreIn, AreWhole, BeginsSetUp, ServerView, caps_of}
 use Rattle.cs_mds.specs.Whole.{AreStanding, AreTablesOf}
 
 -- the records that stay: the durable ones, and the first of those behind them
@@ -29,4 +30,11 @@ pub record AreRemade (xs : List Entry) (rs : List Record) (t : Tables) : Type 0 
   pub whole : AreWhole t.tree t.homes t.names
   pub durable : t.records.durable ≡ []
   pub fresh : t.records.fresh ≡ rs
+  pub inside : AreIn t.tree t.homes
+  pub setup : BeginsSetUp rs t.names
   pub made : t.names.made ≤ length rs
+
+-- rs: what a log has. At this place it has the record.
+pub record HasRecord (rs : List (List ℕ)) (at : ℕ) (r : Record) : Type 0 where
+  pub there : slice_get rs at ≡ Some (record_bytes r)
+  pub spelled : record_spelled r ≡ true

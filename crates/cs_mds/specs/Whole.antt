@@ -1,5 +1,5 @@
 -- What holds of a server where no call failed: its tables are those that its setup lines and its records make.
-use Rattle.std.specs.Prelude.{◌≡◌, ℕ, ◌≤◌, ◌||◌, Bool, true, false, List, [], ◌∷◌, Option, Some, None, if◌then◌else◌}
+use Rattle.std.specs.Prelude.{◌≡◌, ◌×◌, ℕ, ◌≤◌, ◌||◌, Bool, true, false, List, [], ◌∷◌, Option, Some, None, if◌then◌else◌}
 use Rattle.std.specs.BTreeMap.{get}
 use Rattle.std.specs.Ordering.{nat_cmp}
 use Rattle.cs_tree.specs.declared.directories.Directory.{Directory}
@@ -15,6 +15,8 @@ use Rattle.cs_laws.specs.Made.{Made, dirs_by, home_with, made_in, makes_dir, mak
 use Rattle.cs_laws.specs.Names.{after_record, names_after, setup_names}
 use Rattle.cs_laws.specs.Namespace.{Names, answer_on}
 use Rattle.cs_laws.specs.Tree.{home, is_directory}
+use Rattle.cs_mds.specs.declared.setup.SetupLine.{SetupLine}
+use Rattle.cs_mds.specs.declared.setup.SetupLine.TheVariants as lines
 use Rattle.cs_mds.specs.Views.{AreWhole, Homes, ServerView, stand}
 
 -- The tables. xs: the setup lines, the last one first; rs: the records
@@ -57,6 +59,10 @@ pub record AreStanding (xs : List Entry) (rs : List Record) (tree : List Directo
   pub tables : AreTablesOf xs rs tree homes names
   pub answers : AreAnswered (setup_names xs) rs
 
+abbrev pub is_request : RecordBody → Bool
+is_request (bodies.Request tid op answer) = true
+is_request _ = false
+
 -- these records more make nothing
 pub record KeepsMade (old new : List Record) : Type 0 where
   pub made : made_in new ≡ made_in old
@@ -71,6 +77,11 @@ pub record IsNewLine (xs : List Entry) (i p : ℕ) : Type 0 where
   pub greatest : i ≤ 9999
   pub unused : (is_directory xs i || setup_file xs i) ≡ false
   pub parent : is_directory xs p ≡ true
+
+-- the inode of a line is one of setup lines
+abbrev pub IsSmall : SetupLine → Type 0
+IsSmall (lines.Dir d p) = (2 ≤ d) × (d ≤ 9999)
+IsSmall (lines.File f p) = (2 ≤ f) × (f ≤ 9999)
 
 abbrev pub IsLine : List Entry → Event → Type 0
 IsLine xs (events.Dir d p) = IsNewLine xs d p
