@@ -1,3 +1,5 @@
 pub mod Adding
 pub mod Rows
+pub mod SetupLines
+pub mod Standing
 pub mod Whole

@@ -1,6 +1,6 @@
 -- What is kept of a session: whether realm records were sent in it, and whether messages that are sent again are still to come.
 -- last: no message that is sent again comes behind this one
-use Rattle.std.specs.Prelude.{◌≡◌, ◌×◌, ◌&&◌, ◌||◌, not, Bool, true, false, List, [], ◌∷◌, Option, Some, None, if◌then◌else◌}
+use Rattle.std.specs.Prelude.{◌≡◌, ◌&&◌, ◌||◌, not, Bool, true, false, List, [], ◌∷◌, Option, Some, None, if◌then◌else◌}
 use Rattle.cs_laws.specs.declared.answers.Answer.{Answer}
 use Rattle.cs_laws.specs.declared.answers.Answer.TheVariants as answers
 use Rattle.cs_laws.specs.declared.messages.Message.{Message}

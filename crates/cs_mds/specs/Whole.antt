@@ -1,5 +1,5 @@
 -- What holds of a server where no call failed: its tables are those that its setup lines and its records make.
-use Rattle.std.specs.Prelude.{◌≡◌, ◌×◌, ℕ, ◌≤◌, ◌||◌, Bool, true, false, List, [], ◌∷◌, Option, Some, None, if◌then◌else◌}
+use Rattle.std.specs.Prelude.{◌≡◌, ℕ, ◌≤◌, ◌||◌, Bool, true, false, List, [], ◌∷◌, Option, Some, None, if◌then◌else◌}
 use Rattle.std.specs.BTreeMap.{get}
 use Rattle.std.specs.Ordering.{nat_cmp}
 use Rattle.cs_tree.specs.declared.directories.Directory.{Directory}
@@ -38,10 +38,10 @@ setup_home xs f = if setup_file xs f then Some (home xs f) else None
 abbrev pub HomesOf : List Entry → List Record → Homes → Type 0
 HomesOf xs rs homes = (f : ℕ) → get nat_cmp homes f ≡ home_among (made_in rs) f (setup_home xs f)
 
-pub record AreTablesOf (xs : List Entry) (rs : List Record) (tree : List Directory) (homes : Homes) (names : Names) : Type 0 where
-  pub tree : TreeOf xs rs tree
-  pub homes : HomesOf xs rs homes
-  pub names : names ≡ names_after (setup_names xs) rs
+pub record AreTablesOf (xs : List Entry) (rs : List Record) (ds : List Directory) (hs : Homes) (ns : Names) : Type 0 where
+  pub tree : TreeOf xs rs ds
+  pub homes : HomesOf xs rs hs
+  pub names : ns ≡ names_after (setup_names xs) rs
 
 -- The records
 
