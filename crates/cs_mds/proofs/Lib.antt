@@ -1,4 +1,5 @@
 pub mod Adding
+pub mod Reports
 pub mod Rows
 pub mod SetupLines
 pub mod Standing

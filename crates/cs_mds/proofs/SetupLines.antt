@@ -1,7 +1,9 @@
 -- The tables that setup lines make, with one line more.
-use Rattle.std.proofs.Common.{◌≡◌, ◌∙◌, refl, sym, ap, subst, ℕ, ◌≤◌, ◌==◌, ◌||◌, ◌&&◌, Bool, true, false, cond, List, [], ◌∷◌, ◌++◌, length, map, reverse, Option, Some, None, is_some}
+use Rattle.std.proofs.Common.{◌≡◌, ◌∙◌, refl, sym, ap, subst, arith, ℕ, ◌+◌, ◌<◌, ◌≤◌, take, drop, get_or, ◌==◌, ◌||◌, ◌&&◌, Bool, true, false, cond, List, [], ◌∷◌, ◌++◌, length, map, reverse, Option, Some, None, is_some}
 use Rattle.std.specs.List.{list_any}
-use Rattle.std.proofs.lemmas.List.{map-append, reverse-append}
+use Rattle.std.specs.Option.{option_map_or}
+use Rattle.std.proofs.lemmas.Bool.Decides.{nat_tests}
+use Rattle.std.proofs.lemmas.List.{map-append, reverse-append, take-append-drop, take_more}
 use Rattle.std.proofs.lemmas.List.Folds.{list_any-append}
 use Rattle.std.specs.BTreeMap.{get}
 use Rattle.std.specs.Ordering.{nat_cmp}
@@ -14,15 +16,16 @@ use Rattle.cs_laws.specs.declared.events.Event.{Event}
 use Rattle.cs_laws.specs.declared.events.Event.TheVariants as events
 use Rattle.cs_laws.specs.Events.{setup_file}
 use Rattle.cs_laws.specs.Names.{setup_names}
-use Rattle.cs_laws.specs.Namespace.{Named, Names, has_dir, has_file, is_dir_entry}
-use Rattle.cs_laws.specs.Tree.{directories, directories_then, home, is_directory, path, path_then, setup_dir}
+use Rattle.cs_laws.specs.Namespace.{Named, Names, first_made, has_dir, has_file, is_dir_entry, no_names}
+use Rattle.cs_laws.specs.Tree.{home, is_directory, path, setup_dir, with_directory}
 use Rattle.cs_names.specs.declared.setup.SetupStep.TheVariants as steps
 use Rattle.cs_names.specs.Setup.{after_setup, after_step, setup_step}
 use Rattle.cs_mds.specs.declared.setup.SetupLine.{SetupLine}
+use Rattle.cs_mds.specs.declared.setup.SetupLine.TheVariants as lines
 use Rattle.cs_mds.specs.Answers.{made_answer}
-use Rattle.cs_mds.specs.Served.{HomesAfter, TreeAfter}
-use Rattle.cs_mds.specs.Views.{Homes, entries_of, entry_of, is_in_use, is_known}
-use Rattle.cs_mds.specs.Whole.{AreLines, AreStanding, AreTablesOf, IsNewLine, setup_home}
+use Rattle.cs_mds.specs.Served.{HomesAfter}
+use Rattle.cs_mds.specs.Views.{AreWhole, Homes, entries_of, entry_of, is_in_use, is_known}
+use Rattle.cs_mds.specs.Whole.{AreLines, AreStanding, AreTablesOf, IsLine, IsNewLine, IsSmall}
 use Rattle.cs_mds.proofs.Whole.{any_with}
 
 or_false : (b : Bool) → (b || false) ≡ b
@@ -113,25 +116,16 @@ module _ (xs : List Entry) (tree : List Directory) (homes : Homes) (ns : Names) 
 
 -- One line more
 
-abbrev dir_line : ℕ → ℕ → Entry
-dir_line d p = record { event = events.Dir d p; answer = answers.Made }
-
-abbrev file_line : ℕ → ℕ → Entry
-file_line f p = record { event = events.File f p; answer = answers.Made }
-
 pub standing_dir : (xs : List Entry) (old new : List Directory) (homes : Homes) (ns now : Names) (d p : ℕ) → made_answer old homes d p ≡ answers.Made
-    → TreeAfter (events.Dir d p) answers.Made [] old new → now ≡ after_setup true d p ns → AreStanding xs [] old homes ns
+    → ((e : ℕ) → has_directory e new ≡ ((d == e) || has_directory e old)) → inos new ≡ with_directory (depth_of new) d (inos old)
+    → ((e : ℕ) → path_of new e ≡ cond (d == e) (d ∷ path_of old p) (path_of old e)) → now ≡ after_setup true d p ns → AreStanding xs [] old homes ns
     → AreStanding (record { event = events.Dir d p; answer = answers.Made } ∷ xs) [] new homes now
-standing_dir xs old new homes ns now d p made after names i = record {
+standing_dir xs old new homes ns now d p made members order paths names i = record {
   tables = record {
     tree = record {
-      known = λ e.
-          after.known e
-          ∙ ap (λ b. b || false) (ap (λ b. cond (d == e) true b) (knows_dir xs old homes ns i.tables e) ∙ turned (e == 1) (d == e) (setup_dir xs e));
+      known = λ e. members e ∙ (ap (λ b. (d == e) || b) (knows_dir xs old homes ns i.tables e) ∙ turned (e == 1) (d == e) (setup_dir xs e));
       paths = way;
-      order =
-          after.order
-          ∙ ((λ j. directories_then (events.Dir d p) answers.Made (λ e. length (way e j)) (i.tables.tree.order j)));
+      order = order ∙ (λ j. with_directory (λ e. length (way e j)) d (i.tables.tree.order j));
     };
     homes = λ f. i.tables.homes f;
     names =
@@ -141,13 +135,15 @@ standing_dir xs old new homes ns now d p made after names i = record {
   answers = tt;
 }
   where
-    turned : (a b c : Bool) → cond b true (a || c) ≡ (a || cond b true c)
+    turned : (a b c : Bool) → (b || (a || c)) ≡ ((a || cond b true c) || false)
     turned true true c = refl
     turned true false c = refl
-    turned false b c = refl
+    turned false true c = refl
+    turned false false true = refl
+    turned false false false = refl
 
     way : (e : ℕ) → path_of new e ≡ path (record { event = events.Dir d p; answer = answers.Made } ∷ xs) e
-    way e = after.paths e ∙ (λ j. path_then (events.Dir d p) answers.Made (λ c. i.tables.tree.paths c j) e)
+    way e = paths e ∙ (λ j. cond (d == e) (d ∷ i.tables.tree.paths p j) (i.tables.tree.paths e j))
 
 pub standing_file : (xs : List Entry) (tree : List Directory) (old new : Homes) (ns now : Names) (f p : ℕ) → made_answer tree old f p ≡ answers.Made
     → HomesAfter (events.File f p) answers.Made [] old new → now ≡ after_setup false f p ns → AreStanding xs [] tree old ns
@@ -167,6 +163,56 @@ standing_file xs tree old new ns now f p made after names i = record {
     at true c h = refl
     at false c h = refl
 
+-- Before the first line
+
+turn : (m n : ℕ) → (m == n) ≡ (n == m)
+turn m n = grind (arith, nat_tests)
+
+abbrev pub the_root : Directory
+the_root = record { ino = 1; path = 1 ∷ [] }
+
+root_known : (d : ℕ) → has_directory d (the_root ∷ []) ≡ (d == 1)
+root_known d = at (1 == d) ∙ turn 1 d
+  where
+    at : (b : Bool) → is_some (cond b (Some the_root) None) ≡ b
+    at true = refl
+    at false = refl
+
+or_none : (b : Bool) → b ≡ ((b || false) || false)
+or_none true = refl
+or_none false = refl
+
+pub standing_none : (ds : List Directory) (homes : Homes) (ns : Names) → ds ≡ the_root ∷ [] → ((f : ℕ) → get nat_cmp homes f ≡ None) → ns ≡ no_names
+    → AreStanding [] [] ds homes ns
+standing_none ds homes ns root none names = record {
+  tables = record {
+    tree = record {
+      known = λ d. ap (has_directory d) root ∙ (root_known d ∙ or_none (d == 1));
+      paths = λ d. ap (λ x. path_of x d) root ∙ at (1 == d);
+      order = ap inos root;
+    };
+    homes = none;
+    names = names;
+  };
+  answers = tt;
+}
+  where
+    at : (b : Bool) → option_map_or (λ x. x.path) (cond b (Some the_root) None) (1 ∷ []) ≡ 1 ∷ []
+    at true = refl
+    at false = refl
+
+pub whole_none : (ds : List Directory) (homes : Homes) (ns : Names) → ds ≡ the_root ∷ [] → ((f : ℕ) → get nat_cmp homes f ≡ None) → ns ≡ no_names
+    → AreWhole ds homes ns
+whole_none ds homes ns root none names = record {
+  dirs = λ d is. ap (has_directory d) root ∙ (root_known d ∙ (sym (or_false (d == 1)) ∙ (ap (λ n. has_dir n d) (sym names) ∙ is)));
+  new = λ k above.
+      (λ j. has_directory k (root j) || is_some (none k j)) ∙ (or_false (has_directory k (the_root ∷ []))
+      ∙ (root_known k ∙ far k (subst (λ n. first_made + n.made ≤ k) names above)));
+}
+  where
+    far : (k : ℕ) → first_made + 0 ≤ k → (k == 1) ≡ false
+    far k above = grind (arith, nat_tests)
+
 -- The list of lines
 
 pub lines_more : (ls : List SetupLine) (l : SetupLine) → entries_of (ls ++ l ∷ []) ≡ entry_of l ∷ entries_of ls
@@ -178,3 +224,16 @@ lines_front ls ks = ap reverse (map-append entry_of ls ks) ∙ reverse-append (m
 pub lines_behind : (xs ys : List Entry) → AreLines (xs ++ ys) → AreLines ys
 lines_behind [] ys are = are
 lines_behind (x ∷ xs) ys are = lines_behind xs ys are.1
+
+pub small_line : (xs : List Entry) (l : SetupLine) → IsLine xs (entry_of l).event → IsSmall l
+small_line xs (lines.Dir d p) is = (is.least, is.greatest)
+small_line xs (lines.File f p) is = (is.least, is.greatest)
+
+-- the line at this place may follow those before it
+pub line_at : (ls : List SetupLine) (n : ℕ) (l : SetupLine) → n < length ls → AreLines (entries_of ls) → IsLine (entries_of (take n ls)) (entry_of (get_or ls n l)).event
+line_at ls n l more are =
+    let split : ls ≡ (take n ls ++ get_or ls n l ∷ []) ++ drop (n + 1) ls =
+    sym (take-append-drop (n + 1) ls) ∙ ap (λ xs. xs ++ drop (n + 1) ls) (take_more ls n l more) in
+    let all = subst AreLines (ap entries_of split ∙ lines_front (take n ls ++ get_or ls n l ∷ []) (drop (n + 1) ls)) are in
+    let first = subst AreLines (lines_more (take n ls) (get_or ls n l)) (lines_behind (entries_of (drop (n + 1) ls)) (entries_of (take n ls ++ get_or ls n l ∷ [])) all) in
+    first.0

@@ -111,10 +111,15 @@ pub fn make_again(
     ensures made { names.new.made ≡ names.old.made }
 {
     match line {
-        SetupLine::Dir { dir, parent } => make_dir(tree, homes, names, dir, parent)?,
-        SetupLine::File { file, parent } => make_file(tree, homes, names, file, parent)?,
-    };
-    Ok(())
+        SetupLine::Dir { dir, parent } => {
+            make_dir(tree, homes, names, dir, parent)?;
+            Ok(())
+        }
+        SetupLine::File { file, parent } => {
+            make_file(tree, homes, names, file, parent)?;
+            Ok(())
+        }
+    }
 }
 
 // Makes a directory in another. After `Memory` the names are as before, and the directory may be known.
