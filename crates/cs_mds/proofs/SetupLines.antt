@@ -14,6 +14,7 @@ use Rattle.cs_laws.specs.declared.answers.Answer.TheVariants as answers
 use Rattle.cs_laws.specs.declared.answers.Entry.{Entry}
 use Rattle.cs_laws.specs.declared.events.Event.{Event}
 use Rattle.cs_laws.specs.declared.events.Event.TheVariants as events
+use Rattle.cs_laws.specs.declared.records.Record.{Record}
 use Rattle.cs_laws.specs.Events.{setup_file}
 use Rattle.cs_laws.specs.Names.{setup_names}
 use Rattle.cs_laws.specs.Namespace.{Named, Names, first_made, has_dir, has_file, is_dir_entry, no_names}
@@ -212,6 +213,10 @@ whole_none ds homes ns root none names = record {
   where
     far : (k : ℕ) → first_made + 0 ≤ k → (k == 1) ≡ false
     far k above = grind (arith, nat_tests)
+
+pub standing_new : (ds : List Directory) (homes : Homes) (ns : Names) (ls : List SetupLine) (us vs : List Record) → ds ≡ the_root ∷ []
+    → ((f : ℕ) → get nat_cmp homes f ≡ None) → ns ≡ no_names → ls ≡ [] → us ≡ [] → vs ≡ [] → AreStanding (entries_of ls) (us ++ vs) ds homes ns
+standing_new ds homes ns ls us vs root none names lined durable fresh = rw (lined, durable, fresh) (standing_none ds homes ns root none names)
 
 -- The list of lines
 
