@@ -1,22 +1,24 @@
 -- What a failover keeps, and how its records are read anew.
-use Rattle.std.proofs.Common.{◌≡◌, ◌∙◌, refl, sym, ap, subst, arith, ℕ, ◌+◌, ◌<◌, ◌≤◌, true, List, [], ◌∷◌, ◌++◌, length, map, min, take, drop, get_or, slice_get, Some, append-nil, append_assoc}
+use Rattle.std.proofs.Common.{◌≡◌, ◌∙◌, refl, sym, ap, subst, arith, rules, ⊎_elim, ℕ, ◌+◌, ◌<◌, ◌≤◌, true, List, [], ◌∷◌, ◌++◌, length, map, min, take, drop, get_or, slice_get, Some, append-nil, append_assoc}
 use Rattle.std.specs.List.{All}
 use Rattle.std.specs.Option.{option_map}
-use Rattle.std.proofs.lemmas.List.{length-append, length-map, length-take, take-append-drop, take_min, take-map, take_more, drop_more}
-use Rattle.std.proofs.lemmas.List.Elements.{All-append_left, All-get_or}
+use Rattle.std.proofs.lemmas.List.{get_or_append_left, length-append, length-map, length-take, take-append-drop, take_min, take-map, take_more, drop_more}
+use Rattle.std.proofs.lemmas.List.Elements.{All-from_get_or, All-get_or}
 use Rattle.std.proofs.lemmas.Option.{get_or_from_slice_get, slice_get-map, slice_get_cases, slice_get_within}
 use Rattle.std.proofs.Math.Seq.{take-append-add}
 use Rattle.cs_laws.specs.declared.records.Record.{Record}
 use Rattle.cs_laws.specs.Logged.{LogIs}
-use Rattle.cs_laws.specs.Names.{names_after}
+use Rattle.cs_laws.specs.Names.{after_record, names_after}
 use Rattle.cs_laws.specs.Namespace.{Names}
 use Rattle.cs_laws.specs.Spellings.{record_bytes, record_spelled}
 use Rattle.cs_records.specs.Log.{IsLog, IsNext}
 use Rattle.cs_records.specs.Records.{RecordLog, all}
 use Rattle.cs_records.proofs.Logs.{log_front, log_next}
 use Rattle.cs_mds.specs.Restart.{HasRecord, kept_of}
-use Rattle.cs_mds.specs.Views.{AreRecords}
-use Rattle.cs_mds.specs.Whole.{AreAnswered, IsAnswered}
+use Rattle.cs_tree.specs.declared.directories.Directory.{Directory}
+use Rattle.cs_laws.specs.declared.answers.Entry.{Entry}
+use Rattle.cs_mds.specs.Views.{AreRecords, AreWhole, Homes}
+use Rattle.cs_mds.specs.Whole.{AreAnswered, AreStanding, IsAnswered}
 use Rattle.cs_mds.proofs.Standing.{answered_next}
 
 -- What is kept
@@ -48,7 +50,10 @@ split keep s =
     ap (λ xs. s.durable ++ xs) (sym (take-append-drop keep s.fresh)) ∙ sym (append_assoc s.durable (take keep s.fresh) (drop keep s.fresh))
 
 all_front : (xs ys : List Record) → All (λ r. record_spelled r ≡ true) (xs ++ ys) → All (λ r. record_spelled r ≡ true) xs
-all_front xs ys every = All-append_left (λ r. record_spelled r ≡ true) xs ys every
+all_front [] ys every = search rules
+all_front (x ∷ xs) ys every =
+    All-from_get_or (λ r. record_spelled r ≡ true) (x ∷ xs) x (λ i l. subst (λ r. record_spelled r ≡ true) (get_or_append_left (x ∷ xs) ys x i l)
+    (All-get_or (λ r. record_spelled r ≡ true) ((x ∷ xs) ++ ys) i x (let grown = length-append (x ∷ xs) ys in omega (arith, l, grown)) every))
 
 pub kept_formed : (keep : ℕ) (s : RecordLog) → AreRecords (all s) → AreRecords (kept_of keep s)
 kept_formed keep s are = record {
@@ -58,7 +63,7 @@ kept_formed keep s are = record {
 
 answered_front : (ns : Names) (rs ss : List Record) → AreAnswered ns (rs ++ ss) → AreAnswered ns rs
 answered_front ns [] ss are = tt
-answered_front ns (r ∷ rs) ss are = (are.0, answered_front _ rs ss are.1)
+answered_front ns (r ∷ rs) ss are = (are.0, answered_front (after_record r.body ns) rs ss are.1)
 
 pub kept_answered : (keep : ℕ) (s : RecordLog) (ns : Names) → AreAnswered ns (all s) → AreAnswered ns (kept_of keep s)
 kept_answered keep s ns are = answered_front ns (kept_of keep s) (drop keep s.fresh) (subst (λ rs. AreAnswered ns rs) (split keep s) are)
@@ -67,7 +72,7 @@ kept_answered keep s ns are = answered_front ns (kept_of keep s) (drop keep s.fr
 
 element : (xs : List Record) (n : ℕ) → n < length xs → (r : Record) × (slice_get xs n ≡ Some r)
 element xs n more =
-    ⊎_elim (λ is. (is.0, is.1.1.0)) (λ past. absurd (let none : ⊥ = omega (arith, past.0, more) in none)) (slice_get_cases xs n).1
+    ⊎_elim (λ is. (is.0, is.2)) (λ past. absurd (let none : ⊥ = omega (arith, past.0, more) in none)) (slice_get_cases xs n).1
 
 -- the log has a record of those kept at each of their places
 pub has_record : (rs : List (List ℕ)) (m : ℕ) (kept : List Record) (n : ℕ) → LogIs rs m kept [] → AreRecords kept → n < length kept
@@ -94,3 +99,15 @@ module _ (kept : List Record) (n : ℕ) (r : Record) (is : slice_get kept n ≡ 
 
   pub kept_answer : (ns : Names) → AreAnswered ns kept → IsAnswered (names_after ns (take n kept)) r.body
   kept_answer ns are = answered_next ns (take n kept) r (drop (n + 1) kept) (subst (λ rs. AreAnswered ns rs) kept_split are)
+
+-- The tables that were made
+
+pub standing_moved : (xs : List Entry) (rs ss : List Record) (old new : List Directory) (was homes : Homes) (ns now : Names) → new ≡ old → homes ≡ was → now ≡ ns
+    → rs ≡ ss → AreStanding xs rs old was ns → AreStanding xs ss new homes now
+standing_moved xs rs ss old new was homes ns now tree lie names same i = rw (tree, lie, names) (subst (λ r. AreStanding xs r old was ns) same i)
+
+pub whole_moved : (old new : List Directory) (was homes : Homes) (ns now : Names) → new ≡ old → homes ≡ was → now ≡ ns → AreWhole old was ns → AreWhole new homes now
+whole_moved old new was homes ns now tree lie names i = rw (tree, lie, names) i
+
+pub log_moved : (rs : List (List ℕ)) (n : ℕ) (kept ds fs : List Record) → ds ≡ kept → fs ≡ [] → LogIs rs n kept [] → LogIs rs n ds fs
+log_moved rs n kept ds fs durable fresh log = rw (durable, fresh) log
