@@ -38,3 +38,8 @@ pub record AreRemade (xs : List Entry) (rs : List Record) (t : Tables) : Type 0 
 pub record HasRecord (rs : List (List ℕ)) (at : ℕ) (r : Record) : Type 0 where
   pub there : slice_get rs at ≡ Some (record_bytes r)
   pub spelled : record_spelled r ≡ true
+
+-- At this place it has a record that is spelled.
+pub record HasSpelled (rs : List (List ℕ)) (at : ℕ) : Type 0 where
+  pub next : Record
+  pub is : HasRecord rs at next

@@ -5,7 +5,7 @@ ghost use Rattle.cs_laws.specs.Devices.{FaultsOf};
 ghost use Rattle.cs_laws.specs.Logged.{LogHalts, LogIs};
 ghost use Rattle.cs_laws.specs.Names.{setup_names};
 ghost use Rattle.cs_records.specs.Records.{all};
-ghost use Rattle.cs_mds.specs.Restart.{HasRecord, kept_of};
+ghost use Rattle.cs_mds.specs.Restart.{HasRecord, HasSpelled, kept_of};
 ghost use Rattle.cs_mds.specs.Served.{LogHas};
 ghost use Rattle.cs_mds.specs.Views.{AreIn, AreRecords, AreWhole, BeginsSetUp, entries_of};
 ghost use Rattle.cs_mds.specs.Whole.{AreAnswered, AreLines, AreStanding};
@@ -69,7 +69,7 @@ fn count_kept(records: &Records, keep: u32) -> usize
 
 // Reads the record at a place of the log.
 fn read<L: MdsLog>(alloc: Global, at: usize, log: &mut L) -> Result<Record, StepFault>
-    requires there { (r : Record) × HasRecord (L.records log.old) at r }
+    requires { HasSpelled (L.records log.old) at }
     ensures ok { IfOk result (λ next. (r : Record) → HasRecord (L.records log.old) at r → next ≡ r) }
     ensures kept { (L.records log.new ≡ L.records log.old) × (L.durable log.new ≡ L.durable log.old) }
     ensures faults { FaultsOf StepFault.Log true (L.faults log.old) (L.faults log.new) result }

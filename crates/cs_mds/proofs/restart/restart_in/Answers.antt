@@ -1,11 +1,11 @@
-use Rattle.std.proofs.Common.{◌≡◌, ◌∙◌, ◌+◌, ◌<◌, ◌≤◌, ◌++◌, [], ap, sym, subst, arith, inr, length, take, Some, slice_get}
+use Rattle.std.proofs.Common.{◌≡◌, ◌∙◌, ◌+◌, ◌<◌, ◌≤◌, ◌++◌, [], ap, sym, subst, arith, rules, inr, length, take, Some, slice_get}
 use Rattle.std.proofs.lemmas.List.{append-nil, take_all}
 use Rattle.cs_laws.specs.declared.records.Record.{Record}
 use Rattle.cs_laws.specs.Logged.{LogIs}
 use Rattle.cs_laws.specs.Names.{setup_names}
 use Rattle.cs_records.specs.Log.{IsNext}
 use Rattle.cs_records.proofs.Lists.{any_err}
-use Rattle.cs_mds.specs.Restart.{AreRemade, HasRecord, kept_of}
+use Rattle.cs_mds.specs.Restart.{AreRemade, HasSpelled, kept_of}
 use Rattle.cs_mds.specs.Views.{AreRecords, entries_of}
 use Rattle.cs_mds.specs.Whole.{IsAnswered}
 use Rattle.cs_mds.proofs.Restarting.{has_record, kept_answer, kept_answered, kept_formed, kept_length, kept_log, kept_more, kept_next, log_moved, standing_moved}
@@ -26,8 +26,8 @@ loop-at-init g c = record {
   later = c.in_ok-cut.ensures.faults.later;
 }
 
-pub read-requires-clause-there : goal.read-requires-clause-there
-read-requires-clause-there g c =
+pub read-requires : goal.read-requires
+read-requires g c =
     let kept = kept_of c.args.keep c.args.records.now in
     let count = kept_length c.args.keep c.args.records.now in
     let within = c.loop-at-test.true in
@@ -36,8 +36,8 @@ read-requires-clause-there g c =
     let h =
     has_record (g.L.MdsLog.records c.loop-at.log) (g.L.MdsLog.durable c.loop-at.log) kept c.loop-at.at c.loop-at.invariant.log
     (kept_formed c.args.keep c.args.records.now c.requires.formed) more in
-    let there : (r : Record) × HasRecord (g.L.MdsLog.records c.loop-at.log) c.loop-at.at r = (h.0, h.1.0) in
-    there
+    let there : HasSpelled (g.L.MdsLog.records c.loop-at.log) c.loop-at.at = record { next = h.0; is = h.1.0 } in
+    (search rules, there)
 
 pub take_up-requires-clause-next : goal.take_up-requires-clause-next
 take_up-requires-clause-next g c =
