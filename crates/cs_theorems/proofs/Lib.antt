@@ -13,6 +13,7 @@ pub mod Inversions
 pub mod Phase
 pub mod Sessions
 pub mod Calls
+pub mod RealmFits
 pub mod Refused
 pub mod News
 -- References and their uses
