@@ -1,5 +1,5 @@
 -- The realm records that the server tells of fit into a message, all of them and those that differ from the ones sent last.
-use Rattle.std.proofs.Common.{◌≡◌, refl, sym, ap, ◌∙◌, subst, ℕ, ◌+◌, ◌<◌, ◌≤◌, ◌==◌, ◌&&◌, not, max, Bool, true, false, cond, nat_le, nat_lt, List, [], ◌∷◌, ◌++◌, append_assoc, length, drop, filter, find, flat_map, Option, Some, None, inl, inr, ⊎_elim, arith}
+use Rattle.std.proofs.Common.{◌≡◌, refl, sym, ap, ◌∙◌, subst, ℕ, ◌+◌, ◌<◌, ◌≤◌, ◌==◌, ◌&&◌, not, max, Bool, true, false, cond, nat_le, nat_lt, List, [], ◌∷◌, ◌++◌, append_assoc, length, drop, filter, find, Option, Some, None, inl, inr, ⊎_elim, arith}
 use Rattle.std.specs.List.{cons_option, filter_map, list_all}
 use Rattle.std.proofs.lemmas.Bool.{and_from, and_parts, both_ways, cond_both, cond-false, eqb-true, eq-eqb, le-leb, leb-true, lt-ltb, or_parts}
 use Rattle.std.proofs.lemmas.List.{length-append}
@@ -27,7 +27,7 @@ use Rattle.cs_laws.specs.Lists.{Each, Member}
 use Rattle.cs_laws.specs.Made.{Made, dirs_with, made_by, made_in, made_of, makes_dir, with_made}
 use Rattle.cs_laws.specs.Realms.{Own, differing, has_snap, is_realm, number_of, own, own_after, own_then, realm_record, realm_records, since_from}
 use Rattle.cs_laws.specs.Runs.{IsRun}
-use Rattle.cs_laws.specs.ServerKnows.{server_dir, server_dirs, server_made, server_path}
+use Rattle.cs_laws.specs.ServerKnows.{server_dirs, server_made, server_path}
 use Rattle.cs_laws.specs.Spellings.{descends, has_parent, message_fits, most_items, realm_fits, realms_fit, snaps_fit}
 use Rattle.cs_laws.specs.Standing.{greatest_number, news, news_of, news_on}
 use Rattle.cs_laws.specs.Tree.{directories, directories_then, is_ahead, is_directory, path, setup_dir, with_directory}
@@ -91,7 +91,8 @@ own_then_fits d g n o (bodies.Snap k e name) draws i =
 own_then_fits d g n o (bodies.Removal s k) draws i =
     cond_both (has_snap s o) (record { seq = k; snaps = filter (λ t. not (t == s)) o.snaps }) o (λ x. OwnFits (max g k) (n + 1) x)
     (λ _. record {
-      fall = fall_more (g + 1) (max g k + 1) (filter (λ t. not (t == s)) o.snaps) (omega arith) (fall_chosen (λ t. not (t == s)) (g + 1) o.snaps i.fall);
+      fall = fall_more (g + 1) (max g k + 1) (filter (λ t. not (t == s)) o.snaps) (omega arith)
+          (fall_chosen (λ t. not (t == s)) (g + 1) o.snaps i.fall);
       few = omega (arith, i.few, chosen_few (λ t. not (t == s)) o.snaps);
     })
     (λ _. record { fall = fall_more (g + 1) (max g k + 1) o.snaps (omega arith) i.fall; few = omega (arith, i.few) })
@@ -141,7 +142,8 @@ record ArePaths (up : ℕ → List ℕ) (dirs : List ℕ) : Type 0 where
   pub root : up 1 ≡ 1 ∷ []
   pub few : length dirs ≤ most_items
 
-all_pass : {A B : Type 0} (p : B → Bool) (f : A → Option B) (xs : List A) → Each (λ x. (y : B) → f x ≡ Some y → p y ≡ true) xs → list_all p (filter_map f xs) ≡ true
+all_pass : {A B : Type 0} (p : B → Bool) (f : A → Option B) (xs : List A) → Each (λ x. (y : B) → f x ≡ Some y → p y ≡ true) xs
+    → list_all p (filter_map f xs) ≡ true
 all_pass p f [] fit = refl
 all_pass {B = B} p f (x ∷ xs) fit = at (f x) refl (all_pass p f xs (λ z m. fit z (inr m)))
   where
@@ -182,7 +184,8 @@ differing_fit sent now fit =
     (all_pass realm_fits changed now (λ r m t is. told_one (record_of r.realm sent) r t (all_passed realm_fits now parts.1 r m) is))
 
 module _ (up : ℕ → List ℕ) (dirs : List ℕ) (i : ArePaths up dirs) where
-  record_fits : (rs : List Record) (d : ℕ) → AllDraw 0 rs → length rs ≤ most_items → (ds : List ℕ) × (up d ≡ d ∷ ds) → realm_fits (realm_of up rs d) ≡ true
+  record_fits : (rs : List Record) (d : ℕ) → AllDraw 0 rs → length rs ≤ most_items → (ds : List ℕ) × (up d ≡ d ∷ ds)
+      → realm_fits (realm_of up rs d) ≡ true
   record_fits rs d draws short (ds, is) =
       let r : RealmRecord = realm_of up rs d in
       and_from (has_parent d r.parent) (nat_le 1 r.since && (snaps_fit r.own && snaps_fit r.prior))
@@ -194,7 +197,8 @@ module _ (up : ℕ → List ℕ) (dirs : List ℕ) (i : ArePaths up dirs) where
       alone : d ≡ 1 → ds ≡ []
       alone root = ap (λ xs. drop 1 xs) (sym is ∙ (ap up root ∙ i.root))
 
-  one_fits : (rs : List Record) (d : ℕ) (r : RealmRecord) → realm_fits (realm_of up rs d) ≡ true → realm_record (up d) rs d ≡ Some r → realm_fits r ≡ true
+  one_fits : (rs : List Record) (d : ℕ) (r : RealmRecord) → realm_fits (realm_of up rs d) ≡ true → realm_record (up d) rs d ≡ Some r
+      → realm_fits r ≡ true
   one_fits rs d r fit is = at (is_realm rs d) is
     where
       at : (b : Bool) → cond b (Some (realm_of up rs d)) None ≡ Some r → realm_fits r ≡ true
@@ -275,7 +279,8 @@ made_few (r ∷ rs) = omega (arith, length-append (made_of r.body) (made_in rs),
 dirs_with_few : (ms : List Made) (up : ℕ → List ℕ) (ds : List ℕ) → length (dirs_with ms up ds) ≤ length ds + length ms
 dirs_with_few [] up ds = omega arith
 dirs_with_few (m ∷ ms) up ds =
-    cond_both m.is_dir (with_directory (λ d. length (with_made m up d)) m.ino ds) ds (λ xs. length (dirs_with ms (with_made m up) xs) ≤ length ds + length (m ∷ ms))
+    cond_both m.is_dir (with_directory (λ d. length (with_made m up d)) m.ino ds) ds
+    (λ xs. length (dirs_with ms (with_made m up) xs) ≤ length ds + length (m ∷ ms))
     (λ _. omega (
       arith,
       dirs_with_few ms (with_made m up) (with_directory (λ d. length (with_made m up d)) m.ino ds),
@@ -296,7 +301,8 @@ module _ (p : ℕ) (h : List Entry) (run : IsRun p h) (short : length h ≤ 1000
     own = λ d m. (server_tree h setting.tree setting.asks).own d ((server_listing h setting.tree setting.listing setting.asks).only d m);
     top = λ d. tops_grown (server_made h) (λ k. path h k) d (λ k. setup_top h k);
     root = server_way h setting.asks 1 refl
-        ∙ (paths_stay (λ k. is_directory h k) (λ k. is_in_use h k) (all_made h) (λ k. path h k) 1 (setup_used h) setting.asks.grown refl ∙ root_path p h run);
+        ∙ (paths_stay (λ k. is_directory h k) (λ k. is_in_use h k) (all_made h) (λ k. path h k) 1 (setup_used h) setting.asks.grown refl
+        ∙ root_path p h run);
     few = omega (arith, server_dirs_few h, short);
   }
 
@@ -307,6 +313,7 @@ module _ (p : ℕ) (h : List Entry) (run : IsRun p h) (short : length h ≤ 1000
       (omega (arith, stand_few h, length-append (durable h) (fresh h), short))
 
   -- and so can those on what becomes durable
-  pub server_news_fit : (sent : List RealmRecord) → Each (λ m. message_fits m ≡ true) (news (λ d. server_path h d) (server_dirs h) sent (durable h) (fresh h))
+  pub server_news_fit : (sent : List RealmRecord)
+      → Each (λ m. message_fits m ≡ true) (news (λ d. server_path h d) (server_dirs h) sent (durable h) (fresh h))
   server_news_fit sent =
       news_fit (λ d. server_path h d) (server_dirs h) server_paths sent (durable h) (fresh h) setting.drawn (omega (arith, stand_few h, short))
