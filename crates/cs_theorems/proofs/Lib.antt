@@ -108,6 +108,7 @@ pub mod Sizes
 pub mod Owing
 -- What has a spelling in bytes
 pub mod MetaFits
+pub mod RealmsFit
 pub mod Spelled
 -- Contents, and all together
 pub mod Images
