@@ -21,6 +21,7 @@ use Rattle.cs_requests.specs.Requests.{is_told, without}
 use Rattle.cs_client.specs.declared.file.ClientFile.{ClientFile}
 use Rattle.cs_client.specs.Calls.{Called, HasDrawn, call_operations, flushes_after, operations_on, written_operations}
 use Rattle.cs_client.specs.Messages.{Delivered}
+use Rattle.cs_client.specs.Reconnects.{Restarts}
 use Rattle.cs_client.specs.Replies.{requests_told}
 use Rattle.cs_client.specs.Requests.{requests_after}
 use Rattle.cs_client.specs.Views.{ClientView, Files, IsBlank}
@@ -92,4 +93,12 @@ delivery_draws_none k old new m d t = record {
   flushes = omega (arith, t.flushes, d.flushes);
   begun = λ n. omega (arith, ap (begun_of n) t.refs, d.begun n);
   requests = omega (arith, ap (λ (x : RequestTable). x.sent) t.requests, sent_told m old.requests, d.requests);
+}
+
+pub reconnect_draws_none : (k : ℕ) (old new : ClientView) → HasDrawn k old → Restarts old new → HasDrawn k new
+reconnect_draws_none k old new d t = record {
+  operations = omega (arith, t.operations, d.operations);
+  flushes = omega (arith, t.flushes, d.flushes);
+  begun = λ n. omega (arith, ap (begun_of n) t.refs, d.begun n);
+  requests = omega (arith, ap (λ (x : RequestTable). x.sent) t.requests, d.requests);
 }

@@ -17,7 +17,7 @@ restarted_tables old new rows rs sent t = record {
       let go : FileInode → FileInode = λ i. record i { caps = restarted i.caps } in
       let was = at_some go (get nat_cmp old f) x (sym (rows f) ∙ is) in
       let now = like_row rs sent f was.0.inode (go was.0.inode) (like_caps was.0.inode (go was.0.inode) (restarted was.0.inode.caps) refl)
-          (t.rows f was.0 was.1) in
+      (t.rows f was.0 was.1) in
       subst (λ (y : ClientFile). IsRow rs sent f y.inode) (sym was.2) now;
   lives = λ f used. (ap is_some (rows f) ∙ is_mapped restarted_row (get nat_cmp old f)) ∙ t.lives f used;
 }

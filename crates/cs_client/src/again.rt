@@ -175,11 +175,7 @@ fn send_all(alloc: Global, messages: &MessageList, out: &mut MessageList) -> Res
 
 /// A new session begins: no message about capabilities has come yet in it, each open request was sent
 /// again, and all leases end. It takes no memory.
-pub fn restart(
-    files: &mut BTreeMap<Ino, ClientFile>,
-    requests: &mut Requests,
-    leases: &mut Leases,
-)
+pub fn restart(files: &mut BTreeMap<Ino, ClientFile>, requests: &mut Requests, leases: &mut Leases)
     ensures rows { RowsAfter (λ f row. option_map restarted_row row) files.old files.new }
     ensures requests { requests.new
         ≡ record requests.old { requests = map resent requests.old.requests } }

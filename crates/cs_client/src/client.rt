@@ -425,12 +425,7 @@ impl Client {
         chmod(&mut self.files, &self.refs, caller, name, mode)
     }
 
-    fn check(
-        &mut self,
-        file: Ino,
-        active: bool,
-        out: &mut MessageList,
-    ) -> Result<Answer, Memory>
+    fn check(&mut self, file: Ino, active: bool, out: &mut MessageList) -> Result<Answer, Memory>
         ensures answer { IfOk result
             (λ a. a ≡ check_call_answer active file self.old.refs.live (get nat_cmp self.old.files file)) }
         ensures after { IfOk result (λ a. Called self.old self.new (events.Check file) a) }
@@ -439,12 +434,7 @@ impl Client {
         check(&mut self.files, &self.refs, file, active, out)
     }
 
-    fn flush(
-        &mut self,
-        file: Ino,
-        active: bool,
-        out: &mut MessageList,
-    ) -> Result<Answer, Memory>
+    fn flush(&mut self, file: Ino, active: bool, out: &mut MessageList) -> Result<Answer, Memory>
         requires { HasNumbers self.old }
         ensures answer { IfOk result
             (λ a. a ≡ flush_call_answer active self.old.flushes (get nat_cmp self.old.files file)) }

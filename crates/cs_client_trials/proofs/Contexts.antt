@@ -9,7 +9,7 @@ use Rattle.cs_snapctx.specs.Context.{Context, empty_context}
 use Rattle.cs_snapctx.specs.Contexts.{context, context_of}
 use Rattle.cs_snapctx.specs.Records.{is_known, root_record, with_records}
 use Rattle.cs_tree.specs.Directories.{path_of}
-use Rattle.cs_inode.specs.Calls.{acked, started, stopped, with_caps}
+use Rattle.cs_inode.specs.Calls.{acked, started, stopped}
 use Rattle.cs_inode.specs.Inodes.{FileInode, after_flush, after_flush_snaps, with_mode, written}
 use Rattle.cs_laws.specs.declared.answers.Answer.{Answer}
 use Rattle.cs_laws.specs.declared.answers.Answer.TheVariants as answers
@@ -21,7 +21,7 @@ use Rattle.cs_laws.specs.References.{named}
 use Rattle.cs_client.specs.declared.file.ClientFile.{ClientFile}
 use Rattle.cs_client.specs.Calls.{Called}
 use Rattle.cs_client.specs.Messages.{Delivered, ParentsAreKnown, TellsRealms}
-use Rattle.cs_client.specs.Rows.{at_file, at_ref, begun_row, checked_row, ended_row, flushed_row, made_row, mode_row, new_file, row_after, snap_flushed_row, with_inode, written_row}
+use Rattle.cs_client.specs.Rows.{at_file, at_ref, begun_row, cap_row, checked_row, ended_row, flushed_row, made_row, mode_row, new_file, row_after, snap_flushed_row, with_cap, with_inode, written_row}
 use Rattle.cs_client.specs.Told.{ContextsRise, RisesIn}
 use Rattle.cs_client.specs.Views.{ClientView}
 use Rattle.cs_client.proofs.Counts.{started_context, stopped_context}
@@ -123,10 +123,14 @@ untold v realms plain = record { realms = realms; contexts = λ f r is. subst Is
 pub call_untold : (old new : ClientView) (e : Event) (a : Answer) → Called old new e a → IsUntold old → IsUntold new
 call_untold old new e a c u = untold new (c.realms ∙ u.realms) (λ f. subst IsPlain (sym (c.rows f)) (row_plain old e a f u.realms (plain_of old f u)))
 
+cap_plain : (g : ℕ) (bits : Caps) (seq end f : ℕ) (row : Option ClientFile) → IsPlain row → IsPlain (cap_row g bits seq end f row)
+cap_plain g bits seq end f None plain = chosen (g == f) None None tt tt
+cap_plain g bits seq end f (Some r) plain = chosen (g == f) (Some (with_cap bits seq end r)) (Some r) plain plain
+
 pub cap_untold : (old new : ClientView) (g seq end : ℕ) (bits : Caps) → Delivered old new (messages.Cap g seq bits end) → IsUntold old → IsUntold new
 cap_untold old new g seq end bits d u =
     untold new (d.realms ∙ u.realms)
-    (λ f. subst IsPlain (sym (d.rows f)) (at_plain g (with_caps bits seq end) f (get nat_cmp old.files f) (λ i. refl) (plain_of old f u)))
+    (λ f. subst IsPlain (sym (d.rows f)) (cap_plain g bits seq end f (get nat_cmp old.files f) (plain_of old f u)))
 
 -- The first snapshot
 

@@ -19,9 +19,9 @@ use Rattle.cs_client.specs.Replies.{AreNew, row_with}
 use Rattle.cs_client.specs.Views.{ClientView, Files, is_kept}
 use Rattle.cs_client_trials.specs.Sent.{HasSent, IsNumbered, made_first}
 
-pub numbered : (e : Event) (a : Answer) (v : ClientView) (active : Bool) (head : ℕ → ℕ → ℕ) → a ≡ call_answer v active head e → IsNumbered e a v
-numbered (events.Req caller op) a v active head is = is
-numbered _ a v active head is = tt
+pub numbered : (e : Event) (a : Answer) (v : ClientView) (head : ℕ → ℕ → ℕ) → a ≡ call_answer v true head e → IsNumbered e a v
+numbered (events.Req caller op) a v head is = is
+numbered _ a v head is = tt
 
 -- Answers that make nothing
 

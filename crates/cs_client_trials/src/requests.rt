@@ -7,13 +7,14 @@ ghost use Rattle.cs_laws.specs.declared.requests.OpAnswer.TheVariants as replies
 ghost use Rattle.cs_laws.specs.declared.requests.ReqOp.TheVariants as ops;
 ghost use Rattle.cs_tree.specs.Directories.{has_directory};
 ghost use Rattle.cs_client.specs.Calls.{Called, HasDrawn, is_in_use};
-ghost use Rattle.cs_client.specs.Messages.{Delivered};
-ghost use Rattle.cs_client.specs.Replies.{AreNew};
+ghost use Rattle.cs_client.specs.Messages.{Delivered, IsSameAgain};
+ghost use Rattle.cs_client.specs.Replies.{AreNew, requests_told};
 ghost use Rattle.cs_client.specs.Views.{IsBlank, is_kept};
-ghost use Rattle.cs_client_trials.specs.Sent.{HasSent, made_first};
+ghost use Rattle.cs_client_trials.specs.Sent.{HasSent, both_sent, first_found, made_first, told};
+ghost use Rattle.cs_requests.specs.Requests.{open_at};
 
 use crate::steps::{
-    answered, begin, bits, delivered, expect_bytes, give, ino, made_by, step, write,
+    answered, begin, bits, delivered, expect_bytes, give, ino, made_by, reconnected, step, write,
 };
 use cs_client::{Client, calls_draw_few_numbers};
 use cs_ids::{Caller, Name, Tid};
@@ -41,15 +42,19 @@ fn name(alloc: Global) -> Result<Name, Fail>
     Ok(Name::from_slice(alloc, b"x")?)
 }
 
-// The operation asks for `x` in the root directory.
-fn lookup_of(alloc: Global) -> Result<ReqOp, Fail> {
+/// The operation asks for `x` in the root directory.
+pub fn lookup_of(alloc: Global) -> Result<ReqOp, Fail>
+    ensures { IfOk result (λ op. op ≡ ops.Lookup 1 (codes "x")) }
+{
     Ok(ReqOp::Lookup {
         dir: ino(1)?,
         name: name(alloc)?,
     })
 }
 
-fn unlink_of(alloc: Global) -> Result<ReqOp, Fail> {
+fn unlink_of(alloc: Global) -> Result<ReqOp, Fail>
+    ensures { IfOk result (λ op. op ≡ ops.Unlink 1 (codes "x")) }
+{
     Ok(ReqOp::Unlink {
         dir: ino(1)?,
         name: name(alloc)?,
@@ -165,7 +170,8 @@ fn set_clock(
 ) -> Result<(), Fail>
     requires drawn { HasDrawn drawn client.old }
     requires few { drawn < 1000 }
-    ensures { OnOk result (HasDrawn (drawn + 2) client.new) }
+    ensures drawn { OnOk result (HasDrawn (drawn + 2) client.new) }
+    ensures requests { OnOk result (client.new.requests ≡ client.old.requests) }
 {
     let Answer::Now { .. } = answered(rt, alloc, client, drawn, store, &Event::Clock { time })?
     else {
@@ -176,7 +182,10 @@ fn set_clock(
 
 // The entry of a request has inode 7.
 fn found(client: &mut Client, request: u64) -> Result<(), Fail>
-    ensures { OnOk result ((k : ℕ) → HasDrawn k client.old → HasDrawn k client.new) }
+    requires { IsSameAgain (replies.Found 7) (open_at request client.old.requests.requests) }
+    ensures drawn { OnOk result ((k : ℕ) → HasDrawn k client.old → HasDrawn k client.new) }
+    ensures requests { OnOk result
+        (client.new.requests ≡ told request (replies.Found 7) client.old.requests) }
 {
     let message = Message::Unsafe {
         tid: tid(request)?,
@@ -191,7 +200,9 @@ fn found(client: &mut Client, request: u64) -> Result<(), Fail>
 
 // The entry of a request is gone.
 fn gone(client: &mut Client, request: u64) -> Result<(), Fail>
-    ensures { OnOk result ((k : ℕ) → HasDrawn k client.old → HasDrawn k client.new) }
+    requires { IsSameAgain replies.Gone (open_at request client.old.requests.requests) }
+    ensures drawn { OnOk result ((k : ℕ) → HasDrawn k client.old → HasDrawn k client.new) }
+    ensures requests { OnOk result (client.new.requests ≡ told request replies.Gone client.old.requests) }
 {
     let message = Message::Unsafe {
         tid: tid(request)?,
@@ -206,7 +217,9 @@ fn gone(client: &mut Client, request: u64) -> Result<(), Fail>
 
 // The record of a request is durable.
 fn saved(client: &mut Client, request: u64) -> Result<(), Fail>
-    ensures { OnOk result ((k : ℕ) → HasDrawn k client.old → HasDrawn k client.new) }
+    ensures drawn { OnOk result ((k : ℕ) → HasDrawn k client.old → HasDrawn k client.new) }
+    ensures requests { OnOk result
+        (client.new.requests ≡ requests_told (messages.Safe request) client.old.requests) }
 {
     let message = Message::Safe { tid: tid(request)? };
     let Answer::Safe { .. } = delivered(client, &message)? else {
@@ -237,12 +250,13 @@ fn leased(
     store: &mut MemStore,
 ) -> Result<(), Fail>
     requires { IsBlank client.old }
-    ensures { OnOk result (HasDrawn 4 client.new) }
+    ensures drawn { OnOk result (HasDrawn 4 client.new) }
+    ensures requests { OnOk result (client.new.requests ≡ first_found (codes "x")) }
 {
     calls_draw_few_numbers();
     set_clock(rt, alloc, client, 0, store, 100)?;
     sent(rt, alloc, client, 2, store, lookup_of(alloc)?)?;
-    found(client, 1)
+    Ok(found(client, 1)?)
 }
 
 #[test]
@@ -290,6 +304,27 @@ fn end_by_unlease(
 }
 
 #[test]
+fn a_reconnect_ends_all_leases(rt: HostRuntime) -> Result<(), Fail> {
+    let alloc = rt.alloc();
+    let mut store = MemStore::new(alloc);
+    let mut client = Client::new(alloc, 256)?;
+    end_by_reconnect(&rt, alloc, &mut client, &mut store)
+}
+
+fn end_by_reconnect(
+    rt: &impl Abort,
+    alloc: Global,
+    client: &mut Client,
+    store: &mut MemStore,
+) -> Result<(), Fail>
+    requires { IsBlank client.old }
+{
+    leased(rt, alloc, client, store)?;
+    reconnected(client, 4, &mut MessageList::new(alloc))?;
+    expect_absent(rt, alloc, client, 4, store)
+}
+
+#[test]
 fn an_answer_that_comes_again_gives_no_lease(rt: HostRuntime) -> Result<(), Fail> {
     let alloc = rt.alloc();
     let mut store = MemStore::new(alloc);
@@ -306,7 +341,7 @@ fn answer_twice(
     requires { IsBlank client.old }
 {
     leased(rt, alloc, client, store)?;
-    unleased(alloc, client)?;
+    reconnected(client, 4, &mut MessageList::new(alloc))?;
     found(client, 1)?;
     expect_absent(rt, alloc, client, 4, store)
 }
@@ -366,11 +401,12 @@ fn asked_twice(
     store: &mut MemStore,
 ) -> Result<(), Fail>
     requires { IsBlank client.old }
-    ensures { OnOk result (HasDrawn 4 client.new) }
+    ensures drawn { OnOk result (HasDrawn 4 client.new) }
+    ensures requests { OnOk result (client.new.requests ≡ both_sent (codes "x")) }
 {
     calls_draw_few_numbers();
     sent(rt, alloc, client, 0, store, lookup_of(alloc)?)?;
-    sent(rt, alloc, client, 2, store, unlink_of(alloc)?)
+    Ok(sent(rt, alloc, client, 2, store, unlink_of(alloc)?)?)
 }
 
 #[test]
@@ -439,7 +475,8 @@ fn asked_to_create(
 
 // The first request made inode 10,000.
 fn made(client: &mut Client) -> Result<(), Fail>
-    requires { AreNew (made_first client.old.requests) client.old.tree client.old.files }
+    requires new { AreNew (made_first client.old.requests) client.old.tree client.old.files }
+    requires first { IsSameAgain (replies.Made 10000) (open_at 1 client.old.requests.requests) }
     ensures after { OnOk result (Delivered client.old client.new (messages.Unsafe 1 (replies.Made 10000) 60)) }
     ensures drawn { OnOk result ((k : ℕ) → HasDrawn k client.old → HasDrawn k client.new) }
 {

@@ -1,5 +1,5 @@
 // A snapshot is told to the client.
-ghost use Rattle.std.specs.Prelude.{◌≡◌, ℕ, ◌+◌, ◌<◌, IfOk, OnOk};
+ghost use Rattle.std.specs.Prelude.{◌≡◌, ℕ, ◌+◌, ◌<◌, ◌∷◌, [], IfOk, OnOk};
 ghost use Rattle.cs_client.specs.Calls.{HasDrawn};
 ghost use Rattle.cs_client.specs.Views.{IsBlank};
 ghost use Rattle.cs_client_trials.specs.Untold.{IsUntold, root_with_snap};
@@ -30,17 +30,24 @@ fn root_record(alloc: Global) -> Result<RealmRecord, Fail>
     })
 }
 
+/// That record alone.
+pub fn root_records(alloc: Global) -> Result<RealmRecordList, Fail>
+    ensures { IfOk result (λ rs. rs ≡ root_with_snap ∷ []) }
+{
+    let mut realms = RealmRecordList::new(alloc);
+    realms.push(root_record(alloc)?)?;
+    Ok(realms)
+}
+
 // The first snapshot of the root directory makes a cap snap.
 fn tell_snap(alloc: Global, client: &mut Client) -> Result<(), Fail>
     requires { IsUntold client.old }
     ensures { OnOk result ((k : ℕ) → HasDrawn k client.old → HasDrawn k client.new) }
 {
-    let mut realms = RealmRecordList::new(alloc);
-    realms.push(root_record(alloc)?)?;
     let message = Message::Snap {
         number: Snap::after(0),
         realm: ino(1)?,
-        realms,
+        realms: root_records(alloc)?,
     };
     let Answer::SnapTold { made: 1, .. } = delivered(client, &message)? else {
         return Err(Fail::from("no cap snap"));

@@ -3,6 +3,7 @@
 ghost use Rattle.std.specs.Prelude.{◌≡◌, ℕ, ◌+◌, ◌<◌, true, IfOk, OnOk};
 ghost use Rattle.cs_client.specs.Calls.{Called, HasDrawn, IsNewTo, is_call};
 ghost use Rattle.cs_client.specs.Messages.{Accepts, Delivered};
+ghost use Rattle.cs_client.specs.Reconnects.{Restarts};
 ghost use Rattle.cs_client.specs.Views.{IsBlank, is_kept};
 ghost use Rattle.cs_laws.specs.declared.answers.Answer.TheVariants as answers;
 ghost use Rattle.cs_client_trials.specs.Sent.{IsNumbered};
@@ -89,6 +90,17 @@ pub fn delivered(client: &mut Client, message: &Message) -> Result<Answer, Fail>
 {
     calls_draw_few_numbers();
     Ok(client.step_message(message)?)
+}
+
+/// The client comes back after a loss.
+pub fn reconnected(client: &mut Client, drawn: u64, out: &mut MessageList) -> Result<Answer, Fail>
+    requires { HasDrawn drawn client.old }
+    ensures after { OnOk result (Restarts client.old client.new) }
+    ensures drawn { OnOk result (HasDrawn drawn client.new) }
+    ensures untold { OnOk result (IsUntold client.old → IsUntold client.new) }
+{
+    calls_draw_few_numbers();
+    Ok(client.step_reconnect(out)?)
 }
 
 /// The client is told of file 100 in the root directory, before all else.

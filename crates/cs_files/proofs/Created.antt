@@ -24,7 +24,7 @@ use Rattle.cs_laws.specs.Runs.{IsRun}
 use Rattle.cs_laws.specs.Tree.{home, is_directory}
 use Rattle.cs_theorems.proofs.Asks.{Asks, asks_run}
 use Rattle.cs_theorems.proofs.Course.{course_run}
-use Rattle.cs_theorems.proofs.Inversions.{FirstIs, first_cap, first_flush_ack, first_idle, first_is, first_safe, first_snap, first_unlease, first_unsafe}
+use Rattle.cs_theorems.proofs.Inversions.{FirstIs, first_cap, first_flush_ack, first_idle, first_is, first_safe, first_snap, first_resumed, first_unlease, first_unsafe}
 use Rattle.cs_theorems.proofs.Settings.{Setting}
 use Rattle.cs_theorems.proofs.Sides.{all_path, client_file_way, client_housed, client_way, used_by}
 use Rattle.cs_theorems.proofs.Trees.{Grown, dirs_are, dirs_of, grown_behind, grown_front, home_unmade, more_dirs, more_used, used_of}
@@ -86,6 +86,7 @@ first_answer : (h : List Entry) (tid : ℕ) (o : OpAnswer) (x : Answer) → Firs
 first_answer h tid o x first_idle is = absurd cc
 first_answer h tid o x (first_cap g seq bits end q there) is = absurd cc
 first_answer h tid o x (first_flush_ack g t q there) is = absurd cc
+first_answer h tid o x (first_resumed now q there) is = absurd cc
 first_answer h tid o x (first_snap n d now q there) is = absurd cc
 first_answer h tid o x (first_safe t q there) is = absurd cc
 first_answer h tid o x (first_unlease d name q there) is = absurd cc

@@ -25,7 +25,7 @@ use Rattle.cs_laws.specs.Runs.{IsRun}
 use Rattle.cs_theorems.specs.Contexts.{Rises}
 use Rattle.cs_theorems.specs.Queues.{snaps}
 use Rattle.cs_theorems.specs.References.{IsEachOnce}
-use Rattle.cs_theorems.proofs.Linked.{told_rises}
+use Rattle.cs_theorems.proofs.Contexts.{records_move}
 use Rattle.cs_theorems.proofs.Course.{course_run}
 use Rattle.cs_theorems.proofs.Files.{listed, listed_once}
 use Rattle.cs_theorems.proofs.Listed.{Member, Each, each_end, each_reverse, each_tail}
@@ -33,7 +33,6 @@ use Rattle.cs_theorems.proofs.Order.{not_other}
 use Rattle.cs_theorems.proofs.Orderings.{count_made_any}
 use Rattle.cs_theorems.proofs.Owing.{writer_counted}
 use Rattle.cs_theorems.proofs.QueueAnswers.{queue_makes}
-use Rattle.cs_theorems.proofs.Settings.{Setting}
 use Rattle.cs_files.specs.Rows.{inode}
 use Rattle.cs_files.specs.Laws.{TellsNext, told_context}
 use Rattle.cs_files.proofs.Delivered.{can_deliver}
@@ -143,11 +142,7 @@ module _ (p : ℕ) (h : List Entry) (run : IsRun p h) where
       → differs (context h f) (told_context h told f) ≡ true → (context h f).seq < (told_context h told f).seq
   context_rises told f next =
       rises (context h f) (told_context h told f)
-      (subst (λ ts. Rises (context h f) (path_context (client_file_path h f) ts)) (records_first h told next)
-      (told_rises h next.message told next.rest next.first next.realms i.front f i.tree i.housed i.asks i.drawn))
-    where
-      i : Setting h
-      i = (course_run p h run).setting
+      (records_move h next.message told next.rest f next.first next.realms (course_run p h run).setting)
 
   pub resumed_row : (made f : ℕ) → answers.Resumed made ≡ answer_to_client h → client_knows h f ≡ true
       → inode (telling (answers.Resumed made) h) f ≡ with_context_at (context (telling (answers.Resumed made) h) f) (inode h f)

@@ -1,5 +1,5 @@
 -- What is proved of the files of a run: what the client keeps of them, by the calls of `Inode`, is what the history says.
-use Rattle.std.specs.Prelude.{◌≡◌, ℕ, ◌+◌, ◌<◌, ◌≤◌, ◌/◌, ◌%◌, Bool, true, false, List, [], ◌∷◌, Option, Some, None, length, reverse, if◌then◌else◌}
+use Rattle.std.specs.Prelude.{◌≡◌, ℕ, ◌+◌, ◌<◌, ◌≤◌, ◌/◌, ◌%◌, Bool, true, false, List, [], ◌∷◌, ◌++◌, map, Option, Some, None, length, reverse, if◌then◌else◌}
 use Rattle.cs_bits.specs.declared.Caps.{Caps}
 use Rattle.cs_geom.specs.declared.places.TheConstants.{OBJECT_SIZE}
 use Rattle.cs_parts.specs.declared.references.Live.{Live}
@@ -13,6 +13,8 @@ use Rattle.cs_inode.specs.declared.answers.SnapStep.TheVariants as snap
 use Rattle.cs_inode.specs.Answers.{allowance, check_answer, chmod_answer, flush_answer, flush_snaps_answer}
 use Rattle.cs_inode.specs.Calls.{count_needed, needs_snap_at}
 use Rattle.cs_inode.specs.Inodes.{FileInode, greatest_tid, new_inode, owed, write_operations}
+use Rattle.cs_flush.specs.declared.report.FlushReport.{FlushReport}
+use Rattle.cs_inode.specs.Reports.{file_report, snap_report}
 use Rattle.cs_inode.specs.Said.{begun_said, check_said, chmod_said, flush_said, shown_count, snap_said}
 use Rattle.cs_laws.specs.declared.answers.Answer.TheVariants as answers
 use Rattle.cs_laws.specs.declared.answers.Entry.{Entry}
@@ -41,6 +43,8 @@ use Rattle.cs_laws.specs.References.{named}
 use Rattle.cs_laws.specs.Requests.{has_reply, op_of, replies, requests}
 use Rattle.cs_laws.specs.Runs.{all_setup}
 use Rattle.cs_laws.specs.Sessions.{client_state, is_client_active}
+use Rattle.cs_laws.specs.Lists.{Each, Member, RisesFrom}
+use Rattle.cs_theorems.specs.Reports.{AreApart, unacked_reports}
 use Rattle.cs_theorems.specs.Unacked.{sent_of}
 use Rattle.cs_files.specs.Rows.{inode}
 use Rattle.cs_files.specs.Steps.{inode_then}
@@ -149,3 +153,14 @@ snapshot_of (at.Snap s) = Some s
 -- The file knows what of it the server may not have.
 abbrev pub FilesOwe : List Entry → Type 0
 FilesOwe h = (f : ℕ) (a : At) → client_knows h f ≡ true → history.owed h f a ≡ owed (snapshot_of a) (inode h f)
+
+-- what the client keeps of a file's flushes, and of those of its cap snaps
+abbrev pub kept_flushes : FileInode → List FlushReport
+kept_flushes i = map (file_report i.ino) i.flushes.unacked ++ map (snap_report i.ino) (kept.unacked i.snaps)
+
+-- The flushes that aren't acknowledged are those that the client keeps with its files, and each is kept once.
+pub record FilesReport (h : List Entry) : Type 0 where
+  pub rising : RisesFrom 0 (map (λ r. r.sent.tid) (unacked_reports h))
+  pub among : (f : ℕ) → Each (λ r. Member r (unacked_reports h)) (kept_flushes (inode h f))
+  pub kept : Each (λ r. (client_knows h r.ino ≡ true) × Member r (kept_flushes (inode h r.ino))) (unacked_reports h)
+  pub apart : (f : ℕ) → AreApart (λ r. r.sent.tid) (kept_flushes (inode h f))

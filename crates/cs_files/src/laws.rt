@@ -2,7 +2,7 @@
 ghost use Rattle.std.specs.Prelude.{ℕ, List};
 ghost use Rattle.cs_laws.specs.declared.answers.Entry.{Entry};
 ghost use Rattle.cs_laws.specs.Runs.{IsRun};
-ghost use Rattle.cs_files.specs.Laws.{FilesAnswer, FilesAreNew, FilesAreTold, FilesOwe, FilesRead, FilesSend, FilesWrite, RowsFollow};
+ghost use Rattle.cs_files.specs.Laws.{FilesAnswer, FilesAreNew, FilesAreTold, FilesOwe, FilesRead, FilesReport, FilesSend, FilesWrite, RowsFollow};
 
 /// What the client keeps of a file is what a new file has until an event makes the file known. Each later
 /// event makes of it what the call does that serves the event: the files that no call touches stay as they
@@ -48,4 +48,10 @@ pub fn files_are_told()
 /// A file says that the server may not have a state of it where the history does.
 pub fn files_owe()
     ensures { (pages : ℕ) (h : List Entry) → IsRun pages h → FilesOwe h }
+{}
+
+/// The flushes that aren't acknowledged are those that the client keeps with the files that it knows, and
+/// each is kept once: a client that comes back sends these again.
+pub fn files_report()
+    ensures { (pages : ℕ) (h : List Entry) → IsRun pages h → FilesReport h }
 {}

@@ -7,6 +7,6 @@
 mod laws;
 
 pub use laws::{
-    files_answer, files_are_new, files_are_told, files_owe, files_read, files_send, files_write,
-    rows_follow_the_history,
+    files_answer, files_are_new, files_are_told, files_owe, files_read, files_report, files_send,
+    files_write, rows_follow_the_history,
 };

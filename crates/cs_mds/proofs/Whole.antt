@@ -15,7 +15,8 @@ use Rattle.cs_laws.specs.Namespace.{Named, Names, after, after_answer, answer_on
 use Rattle.cs_names.specs.declared.setup.SetupStep.{SetupStep}
 use Rattle.cs_names.specs.declared.setup.SetupStep.TheVariants as steps
 use Rattle.cs_names.specs.Setup.{after_setup, after_step, setup_name, setup_step}
-use Rattle.cs_mds.specs.Served.{HasPlace, home_among}
+use Rattle.cs_mds.specs.Served.{HasPlace}
+use Rattle.cs_mds.specs.Whole.{home_among}
 use Rattle.cs_mds.specs.Views.{AreWhole, Homes, is_in_use}
 
 -- Choices
@@ -52,7 +53,7 @@ or_out false false c is = left c false is
 
 -- Entries that come and go
 
-any_with : (p : Named → Bool) (x : Named) (es : List Named) → list_any p (with_entry x es) ≡ (p x || list_any p es)
+pub any_with : (p : Named → Bool) (x : Named) (es : List Named) → list_any p (with_entry x es) ≡ (p x || list_any p es)
 any_with p x [] = refl
 any_with p x (y ∷ ys) = by (is_ahead x y) (any_with p x ys)
   where

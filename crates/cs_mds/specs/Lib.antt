@@ -1,3 +1,6 @@
 pub mod Answers
+pub mod Restart
 pub mod Served
+pub mod Sessions
 pub mod Views
+pub mod Whole

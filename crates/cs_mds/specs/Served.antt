@@ -6,13 +6,16 @@ use Rattle.cs_tree.specs.declared.directories.Directory.{Directory}
 use Rattle.cs_tree.specs.Directories.{depth_of, has_directory, inos, path_of}
 use Rattle.cs_laws.specs.declared.answers.Answer.{Answer}
 use Rattle.cs_laws.specs.declared.answers.Answer.TheVariants as answers
+use Rattle.cs_laws.specs.declared.answers.Entry.{Entry}
 use Rattle.cs_laws.specs.declared.events.Event.{Event}
 use Rattle.cs_laws.specs.declared.events.Event.TheVariants as events
 use Rattle.cs_laws.specs.declared.messages.Message.{Message}
 use Rattle.cs_laws.specs.declared.messages.Message.TheVariants as messages
+use Rattle.cs_laws.specs.declared.reports.CapReport.{CapReport}
 use Rattle.cs_laws.specs.Capabilities.{server_then}
+use Rattle.cs_laws.specs.Carried.{first_reports}
 use Rattle.cs_laws.specs.Logged.{LogHalts, LogIs}
-use Rattle.cs_laws.specs.Made.{Made, dirs_with, home_with, made_by, makes_dir, makes_file, path_with}
+use Rattle.cs_laws.specs.Made.{Made, dirs_with, made_by, makes_dir, path_with}
 use Rattle.cs_laws.specs.Namespace.{Names, after}
 use Rattle.cs_laws.specs.Standing.{durable_then, fresh_then}
 use Rattle.cs_laws.specs.Tree.{directories_then, path_then, setup_dir_then}
@@ -20,6 +23,7 @@ use Rattle.cs_names.specs.Setup.{after_setup}
 use Rattle.cs_records.specs.Records.{RecordLog}
 use Rattle.cs_mds.specs.Answers.{calls_log, message_answer, served_answer}
 use Rattle.cs_mds.specs.Views.{Caps, Homes, ServerView, caps_of, is_in_use}
+pub use Rattle.cs_mds.specs.Whole.{home_among}
 
 -- q: the message that is delivered to the server, if one is
 
@@ -51,15 +55,18 @@ abbrev pub home_after : Event → Answer → ℕ → Option ℕ → Option ℕ
 home_after (events.File g p) answers.Made f was = if g == f then Some p else was
 home_after _ _ f was = was
 
--- the directory of a file that is among these, or else that of before
-abbrev pub home_among : List Made → ℕ → Option ℕ → Option ℕ
-home_among ms f was = if makes_file f ms then Some (home_with ms f 1) else was
-
 abbrev pub HomesAfter : Event → Answer → List Made → Homes → Homes → Type 0
 HomesAfter e a ms old new = (f : ℕ) → get nat_cmp new f ≡ home_among ms f (home_after e a f (get nat_cmp old f))
 
-abbrev pub CapsAfter : Event → Answer → Caps → Caps → Type 0
-CapsAfter e a old new = (f : ℕ) → caps_of f new ≡ server_then e a f (caps_of f old)
+-- reports: what the message reports of files
+abbrev pub CapsAfter : Event → Answer → List CapReport → Caps → Caps → Type 0
+CapsAfter e a reports old new = (f : ℕ) → caps_of f new ≡ server_then e a reports f (caps_of f old)
+
+-- a setup line that makes something is kept
+abbrev pub setup_then : Event → Answer → List Entry → List Entry
+setup_then (events.Dir d p) answers.Made xs = record { event = events.Dir d p; answer = answers.Made } ∷ xs
+setup_then (events.File f p) answers.Made xs = record { event = events.File f p; answer = answers.Made } ∷ xs
+setup_then _ _ xs = xs
 
 -- the tables say the same of each file
 
@@ -73,9 +80,10 @@ pub record Served (q : List Message) (old new : ServerView) (e : Event) (a : Ans
   pub tree : TreeAfter e a (made_then e a q) old.tree new.tree
   pub homes : HomesAfter e a (made_then e a q) old.homes new.homes
   pub names : new.names ≡ names_then e a q old.names
-  pub caps : CapsAfter e a old.caps new.caps
+  pub caps : CapsAfter e a (first_reports q) old.caps new.caps
   pub durable : new.durable ≡ durable_then e a old.fresh old.durable
   pub fresh : new.fresh ≡ fresh_then e a q old.fresh
+  pub setup : new.setup ≡ setup_then e a old.setup
 
 -- What a request makes can be entered: its directory is known, and its inode unused.
 pub record HasPlace (tree : List Directory) (homes : Homes) (m : Made) : Type 0 where
@@ -98,13 +106,13 @@ records_of v = record { durable = v.durable; fresh = v.fresh }
 abbrev pub LogHolds : List (List ℕ) → ℕ → ServerView → Type 0
 LogHolds rs n v = LogHas rs n (records_of v)
 
--- an event of the server
+-- an event of the server; active: its session is active
 
-abbrev pub is_logged : ServerView → Event → Bool
-is_logged v e = calls_log e (served_answer v e)
+abbrev pub is_logged : ServerView → Bool → Event → Bool
+is_logged v active e = calls_log e (served_answer v active e)
 
-abbrev pub Halts : List (List ℕ) → ℕ → ServerView → Event → Type 0
-Halts rs n v e = HaltsIn rs n (records_of v) [] e (served_answer v e)
+abbrev pub Halts : List (List ℕ) → ℕ → ServerView → Bool → Event → Type 0
+Halts rs n v active e = HaltsIn rs n (records_of v) [] e (served_answer v active e)
 
 -- a message that is delivered to it
 

@@ -4,7 +4,7 @@ ghost use Rattle.cs_laws.specs.declared.answers.Answer.TheVariants as answers;
 ghost use Rattle.cs_laws.specs.Devices.{FaultsOf};
 ghost use Rattle.cs_laws.specs.Logged.{LogHalts};
 ghost use Rattle.cs_tree.specs.Directories.{inos, path_of};
-ghost use Rattle.cs_records.specs.CommitNews.{commit_news};
+ghost use Rattle.cs_records.specs.CommitNews.{commit_news, told_after};
 ghost use Rattle.cs_records.specs.Records.{all};
 ghost use Rattle.cs_mds.specs.Served.{LogHas};
 
@@ -19,6 +19,7 @@ pub fn commit_in<L: MdsLog>(
     tree: &Directories,
     records: &mut Records,
     sending: bool,
+    told: &mut bool,
     log: &mut L,
     out: &mut MessageList,
 ) -> Result<Answer, StepFault>
@@ -27,11 +28,12 @@ pub fn commit_in<L: MdsLog>(
     ensures answer { IfOk result (λ a. a ≡ answers.Commit (length records.old.fresh)) }
     ensures durable { OnOk result (records.new.durable ≡ all records.old) }
     ensures fresh { OnOk result (records.new.fresh ≡ []) }
-    ensures sent { OnOk result (out.new ≡ out.old ++ (if sending then commit_news (λ d. path_of tree.now d) (inos tree.now) records.old.durable records.old.fresh else [])) }
+    ensures sent { OnOk result (out.new ≡ out.old ++ (if sending then commit_news told.old (λ d. path_of tree.now d) (inos tree.now) records.old.durable records.old.fresh else [])) }
+    ensures told { OnOk result (told.new ≡ (if sending then told_after told.old records.old.fresh else told.old)) }
     ensures kept { all records.new ≡ all records.old }
     ensures log { OnOk result (LogHas (L.records log.new) (L.durable log.new) records.new) }
     ensures halted { OnErr result (LogHalts (L.records log.new) (L.durable log.new) records.old.durable records.old.fresh (all records.old) []) }
-    ensures same { IsErrOf result StepFault.Log → (records.new.durable ≡ records.old.durable) × (records.new.fresh ≡ records.old.fresh) }
+    ensures same { IsErrOf result StepFault.Log → (records.new.durable ≡ records.old.durable) × ((records.new.fresh ≡ records.old.fresh) × (told.new ≡ told.old)) }
     ensures faults { FaultsOf StepFault.Log (nat_lt 0 (length records.old.fresh)) (L.faults log.old) (L.faults log.new) result }
     ensures quiet { nat_lt 0 (length records.old.fresh) ≡ false → log.new ≡ log.old }
     ensures unstored { IsErrOf result StepFault.Store → ⊥ }
@@ -39,6 +41,6 @@ pub fn commit_in<L: MdsLog>(
     if records.durable() < records.len() {
         sync(log)?;
     }
-    let count = records.commit(tree, sending, out)?;
+    let count = records.commit(tree, sending, told, out)?;
     Ok(Answer::Commit { count })
 }

@@ -1,5 +1,5 @@
 // Flushes that are delivered to the server.
-ghost use Rattle.std.specs.Prelude.{◌≡◌, ◌++◌, ◌∷◌, [], true, false, IfOk, OnOk, OnErr, IsErrOf};
+ghost use Rattle.std.specs.Prelude.{◌≡◌, ◌++◌, ◌∷◌, [], Bool, true, false, IfOk, OnOk, OnErr, IsErrOf};
 ghost use Rattle.cs_laws.specs.declared.answers.Answer.TheVariants as answers;
 ghost use Rattle.cs_laws.specs.declared.events.Event.TheVariants as events;
 ghost use Rattle.cs_laws.specs.Answers.{answer_flushed};
@@ -9,9 +9,10 @@ ghost use Rattle.cs_laws.specs.Flushes.{flush_message};
 ghost use Rattle.cs_laws.specs.Spellings.{meta_fits};
 ghost use Rattle.cs_laws.specs.Standing.{fresh_then};
 ghost use Rattle.cs_records.specs.Records.{all};
-ghost use Rattle.cs_mds.specs.Answers.{calls_log, message_sent};
+ghost use Rattle.cs_mds.specs.Answers.{answer_sent, calls_log};
 ghost use Rattle.cs_mds.specs.Served.{HaltsIn, LogHas};
 ghost use Rattle.cs_mds.specs.Views.{KeepsRecords};
+ghost use Rattle.cs_mds.specs.Whole.{KeepsMade};
 
 use crate::logged::log_record;
 use cs_ids::{FileMeta, Ino, Memory, Seq, Tid};
@@ -38,9 +39,10 @@ pub fn flush_in<L: MdsLog>(
     ensures answer { IfOk result (λ a. a ≡ answer_flushed (all records.old) file tid) }
     ensures durable { records.new.durable ≡ records.old.durable }
     ensures fresh { IfOk result (λ a. records.new.fresh ≡ fresh_then events.ToMds a (flush_message (record { tid = tid; file = file; follows = follows; meta = meta; snap = snap }) ∷ []) records.old.fresh) }
-    ensures sent { IfOk result (λ a. out.new ≡ out.old ++ message_sent a records.old.durable) }
+    ensures sent { IfOk result (λ a. (replaying : Bool) → out.new ≡ out.old ++ answer_sent replaying a records.old.durable) }
     ensures err { OnErr result (records.new.fresh ≡ records.old.fresh) }
     ensures kept { KeepsRecords (all records.old) (all records.new) }
+    ensures made { KeepsMade (all records.old) (all records.new) }
     ensures log { OnOk result (LogHas (L.records log.new) (L.durable log.new) records.new) }
     ensures halted { OnErr result (HaltsIn (L.records log.new) (L.durable log.new) records.old (flush_message (record { tid = tid; file = file; follows = follows; meta = meta; snap = snap }) ∷ []) events.ToMds (answer_flushed (all records.old) file tid)) }
     ensures faults { FaultsOf StepFault.Log (calls_log events.ToMds (answer_flushed (all records.old) file tid)) (L.faults log.old) (L.faults log.new) result }

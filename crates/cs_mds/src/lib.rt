@@ -11,9 +11,12 @@ mod logged;
 mod mds;
 mod names;
 mod requests;
+mod restart;
+mod sessions;
 mod setup;
 mod shown;
 mod snapshots;
+mod tables;
 
 pub use laws::values_may_cross_threads;
 pub use mds::Mds;

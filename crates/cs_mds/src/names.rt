@@ -3,7 +3,7 @@ ghost use Rattle.std.specs.Prelude.{◌≡◌, ◌++◌, IfOk, OnErr};
 ghost use Rattle.cs_mds.specs.Answers.{names_answer, unlease_answer, unlease_sent};
 
 use cs_ids::{Ino, Memory, Name};
-use cs_laws::{Answer, Message, MessageList};
+use cs_laws::{Answer, Message, MessageList, Why};
 use cs_names::Names;
 use std::alloc::Global;
 
@@ -23,14 +23,18 @@ pub fn unlease_in(
     names: &Names,
     dir: Ino,
     name: &Name,
+    active: bool,
     out: &mut MessageList,
 ) -> Result<Answer, Memory>
-    ensures answer { IfOk result (λ a. a ≡ unlease_answer names.now dir) }
+    ensures answer { IfOk result (λ a. a ≡ unlease_answer names.now active dir) }
     ensures sent { IfOk result (λ a. out.new ≡ out.old ++ unlease_sent dir name.now a) }
     ensures err { OnErr result (out.new ≡ out.old) }
 {
     if !names.has_dir(dir) {
         return Ok(Answer::Unknown);
+    }
+    if !active {
+        return Ok(Answer::Again(Why::Session));
     }
     let name = copy_name(alloc, name)?;
     out.push(Message::Unlease { dir, name })?;

@@ -1,26 +1,29 @@
 // Requests that are delivered to the server.
-ghost use Rattle.std.specs.Prelude.{◌≡◌, ◌+◌, ◌<◌, ◌≤◌, ◌++◌, ◌∷◌, [], true, false, ℕ, ◌||◌, Some, unwrap_or, IfOk, OnOk, OnErr, IsErrOf};
+ghost use Rattle.std.specs.Prelude.{◌≡◌, ◌+◌, ◌<◌, ◌≤◌, ◌++◌, ◌∷◌, List, [], true, false, ℕ, ◌||◌, Some, unwrap_or, IfOk, OnOk, OnErr, IsErrOf};
 ghost use Rattle.std.specs.BTreeMap.{get};
 ghost use Rattle.std.specs.List.{AllByRecursion};
 ghost use Rattle.std.specs.Ordering.{nat_cmp};
 ghost use Rattle.cs_laws.specs.declared.answers.Answer.TheVariants as answers;
+ghost use Rattle.cs_laws.specs.declared.answers.Entry.{Entry};
 ghost use Rattle.cs_laws.specs.declared.events.Event.TheVariants as events;
 ghost use Rattle.cs_laws.specs.declared.messages.Message.TheVariants as messages;
+ghost use Rattle.cs_laws.specs.declared.records.Record.{Record};
 ghost use Rattle.cs_laws.specs.declared.records.RecordBody.TheVariants as bodies;
 ghost use Rattle.cs_laws.specs.declared.requests.OpAnswer.TheVariants as replies;
 ghost use Rattle.cs_laws.specs.Answers.{answer_requested};
 ghost use Rattle.cs_laws.specs.Devices.{FaultsOf};
-ghost use Rattle.cs_laws.specs.Flight.{answered_again, lease_given, unsafe_message};
+ghost use Rattle.cs_laws.specs.Flight.{answered_again, lease_given};
 ghost use Rattle.cs_laws.specs.Leases.{ino_in};
 ghost use Rattle.cs_laws.specs.Logged.{LogHalts};
 ghost use Rattle.cs_laws.specs.Made.{dirs_with, made_by, makes_dir, path_with};
-ghost use Rattle.cs_laws.specs.Namespace.{answer_on};
+ghost use Rattle.cs_laws.specs.Namespace.{after, answer_on};
 ghost use Rattle.cs_laws.specs.Standing.{answer_kept, fresh_then, greatest_request};
 ghost use Rattle.cs_records.specs.Records.{all};
 ghost use Rattle.cs_tree.specs.Directories.{has_directory, inos, path_of};
-ghost use Rattle.cs_mds.specs.Answers.{calls_log, message_sent};
+ghost use Rattle.cs_mds.specs.Answers.{answer_sent, calls_log, first_answer};
 ghost use Rattle.cs_mds.specs.Served.{HaltsIn, HasPlace, HomesAfter, LogHas, SameHomes, TreeAfter, home_among, made_then, names_then};
 ghost use Rattle.cs_mds.specs.Views.{AreIn, AreWhole, BeginsSetUp, KeepsRecords};
+ghost use Rattle.cs_mds.specs.Whole.{AreStanding};
 
 use crate::logged::log_record;
 use cs_ids::{Ino, Memory, Tid};
@@ -45,6 +48,7 @@ pub fn request_in<L: MdsLog>(
     tid: Tid,
     carried: Option<Ino>,
     op: &ReqOp,
+    replaying: bool,
     log: &mut L,
     out: &mut MessageList,
 ) -> Result<Answer, StepFault>
@@ -59,9 +63,10 @@ pub fn request_in<L: MdsLog>(
     ensures made { names.new.made ≤ names.old.made + 1 }
     ensures durable { records.new.durable ≡ records.old.durable }
     ensures fresh { IfOk result (λ a. records.new.fresh ≡ fresh_then events.ToMds a (messages.Req tid carried op.now ∷ []) records.old.fresh) }
-    ensures sent { IfOk result (λ a. out.new ≡ out.old ++ message_sent a records.old.durable) }
+    ensures sent { IfOk result (λ a. out.new ≡ out.old ++ answer_sent replaying a records.old.durable) }
     ensures same_names { IsErrOf result StepFault.Log → (tree.new ≡ tree.old) × ((homes.new ≡ homes.old) × (names.new ≡ names.old)) }
     ensures same_records { IsErrOf result StepFault.Log → records.new.fresh ≡ records.old.fresh }
+    ensures standing { (xs : List Entry) → AreStanding xs (all records.old) tree.old homes.old names.old → OnOk result (AreStanding xs (all records.new) tree.new homes.new names.new) }
     ensures kept { KeepsRecords (all records.old) (all records.new) }
     ensures inside { AreIn tree.old homes.old → AreIn tree.new homes.new }
     ensures setup { BeginsSetUp (all records.old) names.old → BeginsSetUp (all records.new) names.new }
@@ -75,7 +80,7 @@ pub fn request_in<L: MdsLog>(
         return Ok(answer_again(records, tid, out)?);
     }
     Ok(do_request(
-        alloc, tree, homes, names, records, tid, carried, op, log, out,
+        alloc, tree, homes, names, records, tid, carried, op, replaying, log, out,
     )?)
 }
 
@@ -89,6 +94,7 @@ fn do_request<L: MdsLog>(
     tid: Tid,
     carried: Option<Ino>,
     op: &ReqOp,
+    replaying: bool,
     log: &mut L,
     out: &mut MessageList,
 ) -> Result<Answer, StepFault>
@@ -104,9 +110,10 @@ fn do_request<L: MdsLog>(
     ensures made { names.new.made ≤ names.old.made + 1 }
     ensures durable { records.new.durable ≡ records.old.durable }
     ensures fresh { IfOk result (λ a. records.new.fresh ≡ fresh_then events.ToMds a (messages.Req tid carried op.now ∷ []) records.old.fresh) }
-    ensures sent { IfOk result (λ a. out.new ≡ out.old ++ message_sent a records.old.durable) }
+    ensures sent { IfOk result (λ a. out.new ≡ out.old ++ answer_sent replaying a records.old.durable) }
     ensures same_names { IsErrOf result StepFault.Log → (tree.new ≡ tree.old) × ((homes.new ≡ homes.old) × (names.new ≡ names.old)) }
     ensures same_records { IsErrOf result StepFault.Log → records.new.fresh ≡ records.old.fresh }
+    ensures standing { (xs : List Entry) → AreStanding xs (all records.old) tree.old homes.old names.old → OnOk result (AreStanding xs (all records.new) tree.new homes.new names.new) }
     ensures kept { KeepsRecords (all records.old) (all records.new) }
     ensures inside { AreIn tree.old homes.old → AreIn tree.new homes.new }
     ensures setup { BeginsSetUp (all records.old) names.old → BeginsSetUp (all records.new) names.new }
@@ -117,7 +124,9 @@ fn do_request<L: MdsLog>(
 {
     let answer = names.answer(op)?;
     log_request(alloc, records, tid, op, &answer, log)?;
-    Ok(perform(tree, homes, names, tid, carried, op, answer, out)?)
+    Ok(perform(
+        tree, homes, names, tid, carried, op, answer, replaying, out,
+    )?)
 }
 
 // Appends the record of a request that is answered so, and then adds it to the others. After a fault these
@@ -161,6 +170,7 @@ fn perform(
     carried: Option<Ino>,
     op: &ReqOp,
     answer: OpAnswer,
+    replaying: bool,
     out: &mut MessageList,
 ) -> Result<Answer, Memory>
     requires answer { answer ≡ answer_on names.old op.now }
@@ -171,14 +181,41 @@ fn perform(
     ensures homes { IfOk result (λ a. HomesAfter events.ToMds a (made_then events.ToMds a (messages.Req tid carried op.now ∷ [])) homes.old homes.new) }
     ensures names { IfOk result (λ a. names.new ≡ names_then events.ToMds a (messages.Req tid carried op.now ∷ []) names.old) }
     ensures whole { OnOk result (AreWhole tree.new homes.new names.new) }
+    ensures standing { (xs : List Entry) (rs : List Record) → AreStanding xs rs tree.old homes.old names.old → OnOk result (AreStanding xs (rs ++ record { body = bodies.Request tid op.now answer } ∷ []) tree.new homes.new names.new) }
     ensures made { names.new.made ≤ names.old.made + 1 }
     ensures inside { AreIn tree.old homes.old → AreIn tree.new homes.new }
-    ensures sent { OnOk result (out.new ≡ out.old ++ unsafe_message tid answer ∷ []) }
+    ensures sent { OnOk result (out.new ≡ out.old ++ first_answer replaying tid answer ∷ []) }
 {
-    enter_made(tree, homes, op, &answer)?;
-    names.apply(op, carried)?;
-    out.push(unsafe_message(tid, &answer, lease_given(&answer)))?;
+    do_operation(tree, homes, names, carried, op, &answer)?;
+    out.push(first_answer(tid, &answer, replaying))?;
     Ok(Answer::Req { tid, answer })
+}
+
+// Does an operation with the answer that it has. After `Memory` what it makes may be known.
+pub fn do_operation(
+    tree: &mut Directories,
+    homes: &mut BTreeMap<Ino, Ino>,
+    names: &mut Names,
+    carried: Option<Ino>,
+    op: &ReqOp,
+    answer: &OpAnswer,
+) -> Result<(), Memory>
+    requires answer { answer.now ≡ answer_on names.old op.now }
+    requires room { names.old.made < 89999 }
+    requires whole { AreWhole tree.old homes.old names.old }
+    ensures known { OnOk result ((d : ℕ) → has_directory d tree.new ≡ (has_directory d tree.old || makes_dir d (made_by (Some op.now) answer.now))) }
+    ensures paths { OnOk result ((d : ℕ) → path_of tree.new d ≡ path_with (made_by (Some op.now) answer.now) (λ c. path_of tree.old c) d) }
+    ensures order { OnOk result (inos tree.new ≡ dirs_with (made_by (Some op.now) answer.now) (λ c. path_of tree.old c) (inos tree.old)) }
+    ensures homes { OnOk result ((f : ℕ) → get nat_cmp homes.new f ≡ home_among (made_by (Some op.now) answer.now) f (get nat_cmp homes.old f)) }
+    ensures names { OnOk result (names.new ≡ after names.old op.now) }
+    ensures whole { OnOk result (AreWhole tree.new homes.new names.new) }
+    ensures standing { (xs : List Entry) (rs : List Record) (tid : ℕ) → AreStanding xs rs tree.old homes.old names.old → OnOk result (AreStanding xs (rs ++ record { body = bodies.Request tid op.now answer.now } ∷ []) tree.new homes.new names.new) }
+    ensures made { names.new.made ≤ names.old.made + 1 }
+    ensures inside { AreIn tree.old homes.old → AreIn tree.new homes.new }
+{
+    enter_made(tree, homes, op, answer)?;
+    names.apply(op, carried)?;
+    Ok(())
 }
 
 // Enters the directory or the file that an operation with its answer makes. After `Memory` all is as
@@ -233,6 +270,15 @@ fn unsafe_message(tid: Tid, answer: &OpAnswer, ttl: u32) -> Message
         answer: *answer,
         ttl,
     }
+}
+
+// The first answer to a request. It gives a lease where it tells of an entry, unless messages that are
+// sent again are still to come.
+fn first_answer(tid: Tid, answer: &OpAnswer, replaying: bool) -> Message
+    ensures { result ≡ first_answer replaying tid answer.now }
+{
+    let ttl = if replaying { 0 } else { lease_given(answer) };
+    unsafe_message(tid, answer, ttl)
 }
 
 // For how many seconds the first answer to a request gives a lease.

@@ -8,11 +8,12 @@ ghost use Rattle.cs_records.specs.Records.{all};
 ghost use Rattle.cs_mds.specs.Answers.{calls_log, remove_answer, snap_answer};
 ghost use Rattle.cs_mds.specs.Served.{HaltsIn, LogHas};
 ghost use Rattle.cs_mds.specs.Views.{KeepsRecords};
+ghost use Rattle.cs_mds.specs.Whole.{KeepsMade};
 
 use crate::logged::log_record;
 use crate::names::copy_name;
 use cs_ids::{Ino, Name, Snap};
-use cs_laws::{Answer, Record, RecordBody, StepFault};
+use cs_laws::{Answer, Record, RecordBody, StepFault, Why};
 use cs_mdslog::MdsLog;
 use cs_names::Names;
 use cs_records::Records;
@@ -25,23 +26,28 @@ pub fn snap_in<L: MdsLog>(
     records: &mut Records,
     dir: Ino,
     name: &Name,
+    active: bool,
     log: &mut L,
 ) -> Result<Answer, StepFault>
     requires numbers { greatest_number (all records.old) < 99998 }
     requires log { LogHas (L.records log.old) (L.durable log.old) records.old }
-    ensures answer { IfOk result (λ a. a ≡ snap_answer names.now (all records.old) dir name.now) }
+    ensures answer { IfOk result (λ a. a ≡ snap_answer names.now (all records.old) active dir name.now) }
     ensures durable { records.new.durable ≡ records.old.durable }
     ensures fresh { IfOk result (λ a. records.new.fresh ≡ fresh_then (events.Snap dir name.now) a [] records.old.fresh) }
     ensures err { OnErr result (records.new.fresh ≡ records.old.fresh) }
     ensures kept { KeepsRecords (all records.old) (all records.new) }
+    ensures made { KeepsMade (all records.old) (all records.new) }
     ensures log { OnOk result (LogHas (L.records log.new) (L.durable log.new) records.new) }
-    ensures halted { OnErr result (HaltsIn (L.records log.new) (L.durable log.new) records.old [] (events.Snap dir name.now) (snap_answer names.now (all records.old) dir name.now)) }
-    ensures faults { FaultsOf StepFault.Log (calls_log (events.Snap dir name.now) (snap_answer names.now (all records.old) dir name.now)) (L.faults log.old) (L.faults log.new) result }
-    ensures quiet { calls_log (events.Snap dir name.now) (snap_answer names.now (all records.old) dir name.now) ≡ false → log.new ≡ log.old }
+    ensures halted { OnErr result (HaltsIn (L.records log.new) (L.durable log.new) records.old [] (events.Snap dir name.now) (snap_answer names.now (all records.old) active dir name.now)) }
+    ensures faults { FaultsOf StepFault.Log (calls_log (events.Snap dir name.now) (snap_answer names.now (all records.old) active dir name.now)) (L.faults log.old) (L.faults log.new) result }
+    ensures quiet { calls_log (events.Snap dir name.now) (snap_answer names.now (all records.old) active dir name.now) ≡ false → log.new ≡ log.old }
     ensures unstored { IsErrOf result StepFault.Store → ⊥ }
 {
     if !names.has_dir(dir) {
         return Ok(Answer::Unknown);
+    }
+    if !active {
+        return Ok(Answer::Again(Why::Session));
     }
     if records.has_snap_named(dir, name) {
         return Ok(Answer::Exists);
@@ -58,20 +64,22 @@ pub fn remove_in<L: MdsLog>(
     alloc: Global,
     records: &mut Records,
     snap: Snap,
+    active: bool,
     log: &mut L,
 ) -> Result<Answer, StepFault>
     requires fits { fits (events.RmSnap snap) ≡ true }
     requires numbers { greatest_number (all records.old) < 99998 }
     requires log { LogHas (L.records log.old) (L.durable log.old) records.old }
-    ensures answer { IfOk result (λ a. a ≡ remove_answer (all records.old) snap) }
+    ensures answer { IfOk result (λ a. a ≡ remove_answer (all records.old) active snap) }
     ensures durable { records.new.durable ≡ records.old.durable }
     ensures fresh { IfOk result (λ a. records.new.fresh ≡ fresh_then (events.RmSnap snap) a [] records.old.fresh) }
     ensures err { OnErr result (records.new.fresh ≡ records.old.fresh) }
     ensures kept { KeepsRecords (all records.old) (all records.new) }
+    ensures made { KeepsMade (all records.old) (all records.new) }
     ensures log { OnOk result (LogHas (L.records log.new) (L.durable log.new) records.new) }
-    ensures halted { OnErr result (HaltsIn (L.records log.new) (L.durable log.new) records.old [] (events.RmSnap snap) (remove_answer (all records.old) snap)) }
-    ensures faults { FaultsOf StepFault.Log (calls_log (events.RmSnap snap) (remove_answer (all records.old) snap)) (L.faults log.old) (L.faults log.new) result }
-    ensures quiet { calls_log (events.RmSnap snap) (remove_answer (all records.old) snap) ≡ false → log.new ≡ log.old }
+    ensures halted { OnErr result (HaltsIn (L.records log.new) (L.durable log.new) records.old [] (events.RmSnap snap) (remove_answer (all records.old) active snap)) }
+    ensures faults { FaultsOf StepFault.Log (calls_log (events.RmSnap snap) (remove_answer (all records.old) active snap)) (L.faults log.old) (L.faults log.new) result }
+    ensures quiet { calls_log (events.RmSnap snap) (remove_answer (all records.old) active snap) ≡ false → log.new ≡ log.old }
     ensures unstored { IsErrOf result StepFault.Store → ⊥ }
 {
     if !records.has_snap(snap) {
@@ -79,6 +87,9 @@ pub fn remove_in<L: MdsLog>(
     }
     if records.is_removed(snap) {
         return Ok(Answer::Gone);
+    }
+    if !active {
+        return Ok(Answer::Again(Why::Session));
     }
     let number = records.next_number();
     let body = RecordBody::Removal { snap, number };

@@ -263,7 +263,7 @@ change_by_removal rs s n d log next is =
 -- The records that are told
 
 pub snap_records : (path : ℕ → List ℕ) (ds : List ℕ) (before : List Record) (number d : ℕ) (name : List ℕ) → greatest_number before < number
-    → changed_records path ds before (before ++ record { body = bodies.Snap number d name } ∷ []) ≡ filter_map (snapped_record path before number d name) ds
+    → changed_records true path ds before (before ++ record { body = bodies.Snap number d name } ∷ []) ≡ filter_map (snapped_record path before number d name) ds
 snap_records path ds before number d name new =
     ap (λ (f : ℕ → Option RealmRecord). filter_map f ds)
     (λ i e. changed_one d (not (is_realm before d)) before (before ++ record { body = bodies.Snap number d name } ∷ []) (path e) e
@@ -271,7 +271,7 @@ snap_records path ds before number d name new =
 
 pub removal_records : (path : ℕ → List ℕ) (ds : List ℕ) (before : List Record) (s number d : ℕ) → IsLog before → IsNextRemoval before s number
     → dir_of s before ≡ Some d
-    → changed_records path ds before (before ++ record { body = bodies.Removal s number } ∷ []) ≡ filter_map (removed_record path before s number d) ds
+    → changed_records true path ds before (before ++ record { body = bodies.Removal s number } ∷ []) ≡ filter_map (removed_record path before s number d) ds
 removal_records path ds before s number d log next is =
     ap (λ (f : ℕ → Option RealmRecord). filter_map f ds)
     (λ i e. (changed_one d (not (is_realm before d)) before (before ++ record { body = bodies.Removal s number } ∷ []) (path e) e

@@ -13,13 +13,13 @@ use Rattle.cs_laws.specs.Covering.{passes}
 use Rattle.cs_laws.specs.Standing.{dir_in, dir_of, greatest_number, greatest_request, greatest_tid, is_removal, is_removed, request_tid}
 use Rattle.std.specs.Option.{unwrap_or}
 use Rattle.cs_laws.specs.Made.{made_by, made_of, makes_dir}
-use Rattle.cs_laws.specs.Realms.{is_snap_of, number_of}
+use Rattle.cs_laws.specs.Realms.{is_snap_of, number_of, since_of}
 use Rattle.cs_records.specs.declared.sinces.Sinces.{Sinces}
 use Rattle.cs_records.specs.Sinces.{first_of, made_by_records, made_in_table, made_then, since_in}
 use Rattle.cs_laws.specs.declared.messages.Message.{Message}
 use Rattle.cs_tree.specs.declared.directories.Directory.{Directory}
 use Rattle.cs_tree.specs.Directories.{AreDistinct, inos, path_of}
-use Rattle.cs_records.specs.CommitNews.{commit_news}
+use Rattle.cs_records.specs.CommitNews.{commit_news, told_after, told_with}
 use Rattle.indexmap.specs.IndexMap.{get}
 use Rattle.indexmap.specs.IndexSet.{contains}
 use Rattle.cs_ids.specs.declared.objects.FileMeta.{FileMeta}
@@ -291,21 +291,30 @@ settles_next rs d r some is = record {
   fresh = rw (add-one d) (drop-cons rs d r (more_behind rs d some) ∙ ap (λ x. x ∷ drop (suc d) rs) (sym is));
 }
 
+-- the numbers from which on directories are covered, by the table
+pub sinces_by : (rs : List Record) (t : Sinces) → ((e : ℕ) → made_in_table t e ≡ made_by_records e rs) → (e : ℕ) → since_in t e ≡ since_of rs e
+sinces_by rs t same e = ap (λ o. unwrap_or o 1) (same e) ∙ sym (since_made e 0 rs)
+
 -- what the client is told of it
-pub told_next : (rs : List Record) (d : ℕ) (t : Index) (of now : OwnTable) (old new : Sinces) (r : Record) (xs : List Directory) (is_new : Bool) (m : Message)
+pub told_next : (told : Bool) (rs : List Record) (d : ℕ) (t : Index) (of now : OwnTable) (old new : Sinces) (r : Record) (xs : List Directory) (is_new : Bool) (m : Message)
     → 0 < length (drop d rs) → r ≡ get_or rs d r → ((e : ℕ) → own_in now e ≡ changed_own (get nat_eq t.dirs) (own_in of) r.body e)
     → ((e : ℕ) → made_in_table new e ≡ made_then r.body old.greatest (made_in_table old) e) → IsKept rs d t of old
     → AreDistinct xs
-    → is_new ≡ is_new_by (get nat_eq t.dirs) (own_in of) r.body → m ≡ message_by (get nat_eq t.dirs) (own_in now) (since_in new) xs is_new r.body
-    → m ∷ [] ≡ commit_news (path_of xs) (inos xs) (take d rs) (take 1 (drop d rs))
-told_next rs d t of now old new r xs is_new m some is changed more i distinct is_first message =
+    → is_new ≡ is_new_by (get nat_eq t.dirs) (own_in of) r.body → m ≡ message_by told (get nat_eq t.dirs) (own_in now) (since_in new) xs is_new r.body
+    → m ∷ [] ≡ commit_news told (path_of xs) (inos xs) (take d rs) (take 1 (drop d rs))
+told_next told rs d t of now old new r xs is_new m some is changed more i distinct is_first message =
     let log = front_log rs d i.index.log in
     let next = next_of rs d r (more_behind rs d some) is i.index.log in
     let knows = knows_of rs d t i.index in
     let dirs = get nat_eq t.dirs in
-    ap (λ x. x ∷ []) (message ∙ (ap (λ b. message_by dirs (own_in now) (since_in new) xs b r.body) is_first
-    ∙ message_told dirs (own_in of) (own_in now) (since_in new) (take d rs) r.body xs log next knows i.settled.realms
+    ap (λ x. x ∷ []) (message ∙ (ap (λ b. message_by told dirs (own_in now) (since_in new) xs b r.body) is_first
+    ∙ message_told told dirs (own_in of) (own_in now) (since_in new) (take d rs) r.body xs log next knows i.settled.realms
     (λ e. changed e ∙ changed_had dirs (own_in of) (take d rs) r.body log next knows i.settled.realms e)
-    (λ e. ap (λ o. unwrap_or o 1) (made_more rs d t of old new r some is more i e ∙ ap (λ ys. made_by_records e ys) (front_grows rs d r (more_behind rs d some) is))
-    ∙ sym (since_made e 0 (take d rs ++ r ∷ []))) distinct))
-    ∙ ap (λ ys. commit_news (path_of xs) (inos xs) (take d rs) ys) (sym (first_behind rs d r (more_behind rs d some) is))
+    (sinces_by (take d rs ++ r ∷ []) new
+    (λ e. made_more rs d t of old new r some is more i e ∙ ap (λ ys. made_by_records e ys) (front_grows rs d r (more_behind rs d some) is))) distinct))
+    ∙ ap (λ ys. commit_news told (path_of xs) (inos xs) (take d rs) ys) (sym (first_behind rs d r (more_behind rs d some) is))
+
+-- whether realm records are sent with it
+pub mark_next : (told : Bool) (rs : List Record) (d : ℕ) (r : Record) → 0 < length (drop d rs) → r ≡ get_or rs d r
+    → told_with told r.body ≡ told_after told (take 1 (drop d rs))
+mark_next told rs d r some is = ap (λ ys. told_after told ys) (sym (first_behind rs d r (more_behind rs d some) is))

@@ -1,7 +1,7 @@
 -- Lists, results and choices.
 use Rattle.std.proofs.Common.{◌≡◌, ℕ, Bool, true, false, cond, List, [], ◌∷◌, ◌++◌, ◌-◌, length, take, drop, arith, filter, reverse, refl, sym, ◌∙◌, ap, append-nil}
 use Rattle.std.proofs.lemmas.List.{reverse-append, take_all}
-use Rattle.std.specs.Prelude.{Result, Ok, Err, OnErr, OnOk}
+use Rattle.std.specs.Prelude.{IfOk, Result, Ok, Err, OnErr, OnOk}
 
 pub any_err : {T E Q : Type 0} (r : Result T E) → Q → OnErr r Q
 any_err (Ok x) q = tt
@@ -10,6 +10,10 @@ any_err (Err e) q = q
 pub on_ok : {T E P Q : Type 0} (r : Result T E) → (P → Q) → OnOk r P → OnOk r Q
 on_ok (Ok x) f p = f p
 on_ok (Err e) f p = tt
+
+pub if_ok : {T E : Type 0} {P Q : T → Type 0} (r : Result T E) → ((x : T) → P x → Q x) → IfOk r P → IfOk r Q
+if_ok (Ok x) f p = f x p
+if_ok (Err e) f p = tt
 
 pub by_cond : {A : Type 0} (P : A → Type 0) (b : Bool) (x y : A) → (b ≡ true → P x) → (b ≡ false → P y) → P (cond b x y)
 by_cond P true x y f g = f refl

@@ -1,6 +1,6 @@
 -- The realms, by a table of what they have had of their own.
 use Rattle.std.specs.Prelude.{ℕ, ◌==◌, ◌&&◌, ◌||◌, not, Bool, false, List, [], ◌∷◌, Option, Some, None, drop, find, filter, is_some, unwrap_or, if◌then◌else◌}
-use Rattle.std.specs.List.{list_any}
+use Rattle.std.specs.List.{filter_map, list_any}
 use Rattle.std.specs.Option.{option_map}
 use Rattle.std.specs.BTreeMap.{get}
 use Rattle.std.specs.Ordering.{nat_cmp}
@@ -56,3 +56,11 @@ is_changed_by of d is_new up e = (e == d) || (is_new && is_at d (parent_by of up
 
 abbrev pub changed_by : (ℕ → Option Own) → (ℕ → ℕ) → ℕ → Bool → Directory → Option RealmRecord
 changed_by of since d is_new x = if is_changed_by of d is_new x.path x.ino then record_below of since (parent_by of x.path) x.ino else None
+
+-- the record of a directory, as the realms are
+abbrev pub present_by : (ℕ → Option Own) → (ℕ → ℕ) → Directory → Option RealmRecord
+present_by of since x = record_below of since (parent_by of x.path) x.ino
+
+-- those that a change of the realm d changed, or all where none was sent yet
+abbrev pub told_by : Bool → (ℕ → Option Own) → (ℕ → ℕ) → ℕ → Bool → List Directory → List RealmRecord
+told_by told of since d is_new xs = if told then filter_map (changed_by of since d is_new) xs else filter_map (present_by of since) xs

@@ -16,12 +16,12 @@ ghost use Rattle.cs_records.specs.contracts.records.Records as records_row;
 /// from this snapshot on, of each realm that has it now as the nearest realm above, and of no other;
 /// after the CephFS documentation of snapshots and the comments of Linux `fs/ceph/snap.c`.
 pub fn a_snapshot_tells_its_realm_and_those_now_below()
-    ensures { (path : ℕ → List ℕ) (ds : List ℕ) (before : List Record) (number d : ℕ) (name : List ℕ) → greatest_number before < number → changed_records path ds before (before ++ record { body = bodies.Snap number d name } ∷ []) ≡ filter_map (snapped_record path before number d name) ds }
+    ensures { (path : ℕ → List ℕ) (ds : List ℕ) (before : List Record) (number d : ℕ) (name : List ℕ) → greatest_number before < number → changed_records true path ds before (before ++ record { body = bodies.Snap number d name } ∷ []) ≡ filter_map (snapped_record path before number d name) ds }
 {}
 
 /// After a removal the client is told of the realm of the snapshot's directory alone.
 pub fn a_removal_tells_its_realm_alone()
-    ensures { (path : ℕ → List ℕ) (ds : List ℕ) (before : List Record) (s number d : ℕ) → IsLog before → IsNextRemoval before s number → dir_of s before ≡ Some d → changed_records path ds before (before ++ record { body = bodies.Removal s number } ∷ []) ≡ filter_map (removed_record path before s number d) ds }
+    ensures { (path : ℕ → List ℕ) (ds : List ℕ) (before : List Record) (s number d : ℕ) → IsLog before → IsNextRemoval before s number → dir_of s before ≡ Some d → changed_records true path ds before (before ++ record { body = bodies.Removal s number } ∷ []) ≡ filter_map (removed_record path before s number d) ds }
 {}
 
 /// A front of a log is a log.
@@ -39,10 +39,10 @@ pub fn a_record_of_a_log_is_the_next_one()
 /// is below the root's. One of directory 2 makes that the parent of 3's realm, which is told with it. One
 /// of the root tells of the root alone, and the removal of the first of directory 3 alone.
 pub fn told_by_example()
-    ensures first { commit_news path directories [] (first ∷ []) ≡ told_first }
-    ensures second { commit_news path directories (first ∷ []) (second ∷ []) ≡ told_second }
-    ensures root { commit_news path directories (first ∷ second ∷ []) (root ∷ []) ≡ told_root }
-    ensures removal { commit_news path directories (first ∷ second ∷ root ∷ []) (removal ∷ []) ≡ told_removal }
+    ensures first { commit_news true path directories [] (first ∷ []) ≡ told_first }
+    ensures second { commit_news true path directories (first ∷ []) (second ∷ []) ≡ told_second }
+    ensures root { commit_news true path directories (first ∷ second ∷ []) (root ∷ []) ≡ told_root }
+    ensures removal { commit_news true path directories (first ∷ second ∷ root ∷ []) (removal ∷ []) ≡ told_removal }
     ensures name { names_after_removal ≡ true ∷ false ∷ [] }
 {}
 

@@ -3,7 +3,7 @@ ghost use Rattle.std.specs.Prelude.{◌≡◌, ◌==◌, [], ℕ, None, Some, if
 ghost use Rattle.std.specs.List.{filter_map};
 ghost use Rattle.cs_laws.specs.declared.records.RecordBody.TheVariants as bodies;
 ghost use Rattle.cs_records.specs.Sinces.{since_in};
-ghost use Rattle.cs_records.specs.OwnTable.{changed_by, is_realm_by, own_in, parent_by, record_below, with_change};
+ghost use Rattle.cs_records.specs.OwnTable.{changed_by, is_realm_by, own_in, parent_by, present_by, record_below, with_change};
 
 use crate::own_snaps::OwnSnaps;
 use crate::sinces::Sinces;
@@ -86,6 +86,35 @@ impl OwnTable {
             }
         }
         Ok(told)
+    }
+
+    // The records of all realms.
+    pub fn present(
+        &self,
+        directories: &[Directory],
+        sinces: &Sinces,
+    ) -> Result<RealmRecordList, Memory>
+        ensures { IfOk result (λ list. list ≡ filter_map (present_by (own_in self.now) (since_in sinces.now)) directories.now) }
+    {
+        let mut told = RealmRecordList::new(self.alloc);
+        for directory in directories {
+            if let Some(record) = self.present_record(directory, sinces)? {
+                told.push(record)?;
+            }
+        }
+        Ok(told)
+    }
+
+    // The record of a directory.
+    fn present_record(
+        &self,
+        directory: &Directory,
+        sinces: &Sinces,
+    ) -> Result<Option<RealmRecord>, Memory>
+        ensures { IfOk result (λ r. r ≡ present_by (own_in self.now) (since_in sinces.now) directory.now) }
+    {
+        let parent = self.parent(directory.path.as_slice());
+        self.record(directory.ino, sinces.of(directory.ino), parent)
     }
 
     // The record of a directory, where that change changed it.

@@ -4,11 +4,11 @@ ghost use Rattle.cs_laws.specs.Covering.{covers_along, passes};
 ghost use Rattle.cs_laws.specs.Metadata.{meta_at};
 ghost use Rattle.cs_laws.specs.Standing.{answer_kept, dir_of, greatest_number, greatest_request, greatest_tid, has_flush, has_request, has_snap, has_snap_named, is_removed};
 ghost use Rattle.cs_tree.specs.Directories.{inos, path_of};
-ghost use Rattle.cs_records.specs.CommitNews.{commit_news};
+ghost use Rattle.cs_records.specs.CommitNews.{commit_news, told_after, told_with};
 ghost use Rattle.cs_records.specs.Log.{IsLog, IsNext};
-ghost use Rattle.cs_records.specs.OwnTable.{own_in};
+ghost use Rattle.cs_records.specs.OwnTable.{own_in, told_by};
 ghost use Rattle.cs_records.specs.Sinces.{made_in_table, made_then, since_in};
-ghost use Rattle.cs_laws.specs.Realms.{number_of};
+ghost use Rattle.cs_laws.specs.Realms.{number_of, realm_records};
 ghost use Rattle.cs_records.specs.Records.{Settles, all};
 ghost use Rattle.cs_records.specs.NewsByTables.{IsKnown, changed_own, is_new_by, message_by, realm_by};
 ghost use Rattle.indexmap.specs.IndexMap.{get};
@@ -17,7 +17,7 @@ use crate::index::Index;
 use crate::own_table::OwnTable;
 use crate::sinces::Sinces;
 use cs_ids::{FileMeta, Ino, Memory, Name, Snap, Tid};
-use cs_laws::{At, Message, MessageList, OpAnswer, Record, RecordBody};
+use cs_laws::{At, Message, MessageList, OpAnswer, RealmRecordList, Record, RecordBody};
 use cs_tree::{Directories, Directory};
 use indexmap::IndexMap;
 use std::alloc::Global;
@@ -225,14 +225,24 @@ impl Records {
         Ok(())
     }
 
+    /// The records of all realms as the durable records leave them, parents first.
+    pub fn durable_realms(&self, directories: &Directories) -> Result<RealmRecordList, Memory>
+        ensures { IfOk result (λ list. list ≡ realm_records (path_of directories.now) (inos directories.now) self.now.durable) }
+    {
+        self.realms.present(directories.as_slice(), &self.sinces)
+    }
+
     /// Makes all records durable. How many weren't. Where messages are sent, they tell the client of
     /// each of these, in order: of a request or a flush that it is durable, and of a snapshot or a
-    /// removal the records of the realms that it changed, parents first. After `Memory` a front of them
-    /// is durable.
+    /// removal the records of the realms that it changed, parents first. `told` says whether realm
+    /// records were sent to the client before; where none were, the first message that carries some
+    /// carries those of all realms, and sets it. After `Memory` a front of the records is durable, and
+    /// `told` may be set.
     pub fn commit(
         &mut self,
         directories: &Directories,
         sending: bool,
+        told: &mut bool,
         out: &mut MessageList,
     ) -> Result<u32, Memory>
         requires { length self.old.fresh < 10000 }
@@ -241,13 +251,14 @@ impl Records {
         ensures durable { OnOk result (self.new.durable ≡ all self.old) }
         ensures fresh { OnOk result (self.new.fresh ≡ []) }
         ensures front { Settles self.old self.new }
-        ensures told { OnOk result (out.new ≡ out.old ++ (if sending then commit_news (path_of directories.now) (inos directories.now) self.old.durable self.old.fresh else [])) }
-        ensures quiet { sending ≡ false → out.new ≡ out.old }
+        ensures sent { OnOk result (out.new ≡ out.old ++ (if sending then commit_news told.old (path_of directories.now) (inos directories.now) self.old.durable self.old.fresh else [])) }
+        ensures told { OnOk result (told.new ≡ (if sending then told_after told.old self.old.fresh else told.old)) }
+        ensures quiet { sending ≡ false → (out.new ≡ out.old) × (told.new ≡ told.old) }
     {
         let from = self.durable;
         let to = self.records.len();
         for _ in from..to {
-            self.commit_next(directories, sending, out)?;
+            self.commit_next(directories, sending, told, out)?;
         }
         Ok((to - from) as u32)
     }
@@ -258,14 +269,16 @@ impl Records {
         &mut self,
         directories: &Directories,
         sending: bool,
+        told: &mut bool,
         out: &mut MessageList,
     ) -> Result<(), Memory>
         requires { 0 < length self.old.fresh }
         ensures durable { OnOk result (self.new.durable ≡ self.old.durable ++ take 1 self.old.fresh) }
         ensures fresh { OnOk result (self.new.fresh ≡ drop 1 self.old.fresh) }
         ensures front { Settles self.old self.new }
-        ensures told { OnOk result (out.new ≡ out.old ++ (if sending then commit_news (path_of directories.now) (inos directories.now) self.old.durable (take 1 self.old.fresh) else [])) }
-        ensures quiet { sending ≡ false → out.new ≡ out.old }
+        ensures sent { OnOk result (out.new ≡ out.old ++ (if sending then commit_news told.old (path_of directories.now) (inos directories.now) self.old.durable (take 1 self.old.fresh) else [])) }
+        ensures told { OnOk result (told.new ≡ (if sending then told_after told.old (take 1 self.old.fresh) else told.old)) }
+        ensures quiet { sending ≡ false → (out.new ≡ out.old) × (told.new ≡ told.old) }
     {
         let body = &self.records[self.durable].body;
         let is_new = is_new_realm(&self.realms, &self.index.dirs, body);
@@ -279,11 +292,21 @@ impl Records {
             &self.sinces,
             &self.index.dirs,
             directories.as_slice(),
+            *told,
             is_new,
             body,
         )?;
-        out.push(message)
+        out.push(message)?;
+        *told = told_with(*told, body);
+        Ok(())
     }
+}
+
+// Whether realm records were sent once the message on a record is; `told` tells whether they were before.
+fn told_with(told: bool, body: &RecordBody) -> bool
+    ensures { result ≡ told_with told body.now }
+{
+    told || matches!(body, RecordBody::Snap { .. } | RecordBody::Removal { .. })
 }
 
 // The realm that a record changes, or None where it changes none.
@@ -342,18 +365,19 @@ fn change_realm(
     }
 }
 
-// What the client is told of a record, by the realms after it; `is_new` tells whether it made a
-// directory a realm.
+// What the client is told of a record, by the realms after it; `told` tells whether realm records were
+// sent to it, and `is_new` whether the record made a directory a realm.
 fn message_of(
     realms: &OwnTable,
     sinces: &Sinces,
     dirs: &IndexMap<Snap, Ino>,
     directories: &[Directory],
+    told: bool,
     is_new: bool,
     body: &RecordBody,
 ) -> Result<Message, Memory>
     requires { IsKnown (get nat_eq dirs.now) body.now }
-    ensures { IfOk result (λ m. m ≡ message_by (get nat_eq dirs.now) (own_in realms.now) (since_in sinces.now) directories.now is_new body.now) }
+    ensures { IfOk result (λ m. m ≡ message_by told (get nat_eq dirs.now) (own_in realms.now) (since_in sinces.now) directories.now is_new body.now) }
 {
     match body {
         RecordBody::Request { tid, .. } => Ok(Message::Safe { tid: *tid }),
@@ -364,7 +388,7 @@ fn message_of(
         RecordBody::Snap { number, dir, .. } => Ok(Message::Snap {
             number: *number,
             realm: *dir,
-            realms: realms.changed(directories, sinces, *dir, is_new)?,
+            realms: realms_told(realms, sinces, directories, told, *dir, is_new)?,
         }),
         RecordBody::Removal { snap, number } => {
             let Some(dir) = dirs.get(snap).copied() else {
@@ -373,8 +397,27 @@ fn message_of(
             Ok(Message::Snap {
                 number: *number,
                 realm: dir,
-                realms: realms.changed(directories, sinces, dir, is_new)?,
+                realms: realms_told(realms, sinces, directories, told, dir, is_new)?,
             })
         }
+    }
+}
+
+// The realm records that go with a change of a directory's realm: those that it changed, or all where
+// none was sent yet.
+fn realms_told(
+    realms: &OwnTable,
+    sinces: &Sinces,
+    directories: &[Directory],
+    told: bool,
+    dir: Ino,
+    is_new: bool,
+) -> Result<RealmRecordList, Memory>
+    ensures { IfOk result (λ list. list ≡ told_by told (own_in realms.now) (since_in sinces.now) dir is_new directories.now) }
+{
+    if told {
+        realms.changed(directories, sinces, dir, is_new)
+    } else {
+        realms.present(directories, sinces)
     }
 }

@@ -39,7 +39,7 @@ within_within a b x l r = record { each = λ k has. r.each k (l.each k has) }
 pub none_within : (x : Caps) → Within no_caps x
 none_within x = record { each = λ k has. absurd (no_member k has) }
 
-within_self : (a : Caps) → Within a a
+pub within_self : (a : Caps) → Within a a
 within_self a = record { each = λ k has. has }
 
 -- the number of a capability message to the file

@@ -13,9 +13,6 @@ pub mod Inversions
 pub mod Phase
 pub mod Sessions
 pub mod Calls
-pub mod RealmFits
-pub mod ReportFits
-pub mod ToldFits
 pub mod Refused
 pub mod News
 -- References and their uses
@@ -112,6 +109,7 @@ pub mod Sizes
 pub mod Owing
 -- What has a spelling in bytes
 pub mod MetaFits
+pub mod RealmsFit
 pub mod Spelled
 -- Contents, and all together
 pub mod Images

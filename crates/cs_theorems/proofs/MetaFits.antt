@@ -106,11 +106,11 @@ meta_fits_by m size time mode =
     and_from (nat_le m.size greatest_end) (nat_le m.mtime greatest_time && is_mode m.mode) (le-leb m.size greatest_end size)
     (and_from (nat_le m.mtime greatest_time) (is_mode m.mode) (le-leb m.mtime greatest_time time) mode)
 
-present_fits : (p : ℕ) (h : List Entry) → IsRun p h → (f tid : ℕ) → meta_fits (present h f tid).meta ≡ true
+pub present_fits : (p : ℕ) (h : List Entry) → IsRun p h → (f tid : ℕ) → meta_fits (present h f tid).meta ≡ true
 present_fits p h run f tid =
     meta_fits_by (present h f tid).meta (states_end p h run f at.Head) (mtime_fits (writes h f) (times_fit p h run f)) (mode_fits p h run f)
 
-snap_fits : (p : ℕ) (h : List Entry) → IsRun p h → (f tid follows : ℕ) → meta_fits (snap h f tid follows).meta ≡ true
+pub snap_fits : (p : ℕ) (h : List Entry) → IsRun p h → (f tid follows : ℕ) → meta_fits (snap h f tid follows).meta ≡ true
 snap_fits p h run f tid follows =
     meta_fits_by (snap h f tid follows).meta (upto_end p h run f follows)
     (mtime_fits (upto follows (writes h f)) (λ w m. times_fit p h run f w (filter_each (λ v. nat_le v.tag follows) (writes h f) w m).1))

@@ -17,7 +17,7 @@ use Rattle.cs_laws.specs.Lists.{RisesFrom}
 use Rattle.cs_laws.specs.Reports.{unretired}
 use Rattle.cs_laws.specs.Runs.{IsRun}
 use Rattle.cs_theorems.specs.Queues.{snaps}
-use Rattle.cs_theorems.specs.Reports.{file_report, kept_reports, report, snap_report, unacked_reports}
+use Rattle.cs_theorems.specs.Reports.{AreApart, file_report, kept_reports, report, snap_report, times, unacked_reports}
 use Rattle.cs_theorems.specs.Unacked.{sent_of, unacked}
 use Rattle.cs_theorems.proofs.Ascending.{member_above}
 use Rattle.cs_theorems.proofs.Course.{course_run}
@@ -25,7 +25,7 @@ use Rattle.cs_theorems.proofs.FlushReplays.{run_replay}
 use Rattle.cs_theorems.proofs.Listed.{Member, Each, member_cases, member_left, member_right}
 use Rattle.cs_theorems.proofs.QueueAnswers.{queue_order}
 use Rattle.cs_theorems.proofs.SnapMetas.{run_metas}
-use Rattle.cs_theorems.proofs.Sorted.{AreApart, first_apart, rises_apart, times, times_append, times_some}
+use Rattle.cs_theorems.proofs.Sorted.{first_apart, rises_apart, times_append, times_some}
 use Rattle.cs_theorems.proofs.Tests.{filter_each, filter_has}
 use Rattle.cs_theorems.proofs.UnackedSteps.{IsOwed, all_unacked, kept_owed, owed_kept}
 use Rattle.cs_theorems.proofs.Waiting.{InQueue, WasSent}

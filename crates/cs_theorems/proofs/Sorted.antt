@@ -7,18 +7,11 @@ use Rattle.std.proofs.lemmas.List.Sorted.{All-permutation, IsNonDecreasingBy-dro
 use Rattle.std.proofs.lemmas.List.Sums.{sum_by-cons}
 use Rattle.std.proofs.Math.Nat.{eq-or-lt_of_le}
 use Rattle.cs_laws.specs.Lists.{RisesFrom}
+use Rattle.cs_theorems.specs.Reports.{AreApart, times}
 use Rattle.cs_theorems.proofs.Ascending.{member_above}
 use Rattle.cs_theorems.proofs.Listed.{Member, Each, each_all, each_tail}
 
 -- How often a number stands in a list
-
-abbrev pub times : {X : Type 0} → (X → ℕ) → ℕ → List X → ℕ
-times n t [] = 0
-times n t (x ∷ xs) = cond (n x == t) 1 0 + times n t xs
-
--- no number stands in it twice
-abbrev pub AreApart : {X : Type 0} → (X → ℕ) → List X → Type 0
-AreApart n xs = (t : ℕ) → times n t xs ≤ 1
 
 times_sum : {X : Type 0} (n : X → ℕ) (t : ℕ) (xs : List X) → times n t xs ≡ sum_by (λ x. cond (n x == t) 1 0) xs
 times_sum n t [] = refl

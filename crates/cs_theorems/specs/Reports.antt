@@ -1,5 +1,5 @@
 -- The flushes that the client reports and sends again.
-use Rattle.std.specs.Prelude.{ℕ, List, ◌++◌, true, false, map}
+use Rattle.std.specs.Prelude.{ℕ, ◌+◌, ◌≤◌, ◌==◌, List, [], ◌∷◌, ◌++◌, true, false, map, if◌then◌else◌}
 use Rattle.cs_ids.specs.declared.objects.FileMeta.{FileMeta}
 use Rattle.cs_capsnap.specs.CapSnaps as kept
 use Rattle.cs_flush.specs.declared.report.FlushReport.{FlushReport}
@@ -29,3 +29,12 @@ snap_report f v = record { ino = f; sent = record { tid = v.0; follows = v.1; me
 -- those that the client keeps of a file
 abbrev pub kept_reports : List Entry → ℕ → List FlushReport
 kept_reports h f = map (file_report f) (unacked h f) ++ map (snap_report f) (kept.unacked (snaps h f))
+
+-- how often a number stands in a list of things with numbers
+abbrev pub times : {X : Type 0} → (X → ℕ) → ℕ → List X → ℕ
+times n t [] = 0
+times n t (x ∷ xs) = (if n x == t then 1 else 0) + times n t xs
+
+-- none stands in it twice
+abbrev pub AreApart : {X : Type 0} → (X → ℕ) → List X → Type 0
+AreApart n xs = (t : ℕ) → times n t xs ≤ 1

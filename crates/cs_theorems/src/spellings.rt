@@ -10,9 +10,15 @@ pub fn records_fit()
     ensures { (pages : ℕ) (h : List Entry) → IsRun pages h → RecordsFit h }
 {}
 
-/// In a run of at most 10,000 entries each message on its way, to either side, fits: a flush as in the log,
-/// and capabilities that exist; a report and the realm records that are told are of at most 65,535 items,
-/// reports by rising inodes; the root alone has no parent, and the snapshots of a realm fall.
+/// In a run of at most 10,000 entries, as many as a script may have events, each message on its way
+/// fits, to the server and to the client:
+///
+/// - what it tells of capabilities exists, and a file may end where it says;
+/// - a flush fits as in the log;
+/// - a lease, of 60 seconds, goes only with an answer that tells of an entry;
+/// - a client that reconnects reports at most 65,535 files and as many realms, both by rising inodes;
+/// - the server tells of at most 65,535 realms; of each with a parent, unless it is the root, and with
+///   at most 65,535 snapshots, the newest first; all numbers of snapshots count from 1.
 pub fn messages_fit()
     ensures { (pages : ℕ) (h : List Entry) → IsRun pages h → length h ≤ 10000 → MessagesFit h }
 {}

@@ -6,6 +6,7 @@ use Rattle.cs_laws.specs.declared.events.Event.TheVariants as events
 use Rattle.cs_laws.specs.declared.messages.Message.{Message}
 use Rattle.cs_laws.specs.Standing.{greatest_number}
 use Rattle.cs_mds.specs.Answers.{committed_sent, served_sent}
+use Rattle.cs_mds.specs.Sessions.{told_by_commit}
 use Rattle.cs_mds.specs.Views.{ServerView, caps_of, stand}
 
 abbrev pub is_served : Event → Bool
@@ -26,7 +27,12 @@ HasNumber s (events.RmSnap n) = greatest_number (stand s) < 99998
 HasNumber s events.Commit = length s.fresh < 10000
 HasNumber s _ = Unit {0}
 
--- what it sends at an event that is answered so; s: the server before it
-abbrev pub event_sent : Event → Answer → ServerView → List Message
-event_sent events.Commit a s = committed_sent true s
-event_sent e a s = served_sent e a s.caps s.durable
+-- what it sends at an event that is answered so; sending: it can send; s: the server before it
+abbrev pub event_sent : Event → Answer → Bool → ServerView → List Message
+event_sent events.Commit a sending s = committed_sent sending s
+event_sent e a sending s = served_sent e a s.caps
+
+-- whether it sent realm records in the session after the event
+abbrev pub told_after : Event → Bool → ServerView → Bool
+told_after events.Commit sending s = told_by_commit sending s
+told_after e sending s = s.told

@@ -9,6 +9,7 @@ ghost use Rattle.cs_world.specs.Tables.{IsReady, KeepsJournal, Steps, past};
 
 use crate::links::send_all;
 use crate::state::State;
+use crate::turns::is_client_active;
 use cs_laws::{Answer, Event, MessageList, StepFault};
 use cs_objstore::ObjStore;
 
@@ -31,8 +32,9 @@ pub fn call<O: ObjStore>(
         store.old store.new result }
     ensures unlogged { IsErrOf result StepFault.Log → ⊥ }
 {
+    let active = is_client_active(&state.session);
     let mut out = MessageList::new(state.alloc);
-    let answer = state.client.step_call(event, true, store, &mut out)?;
-    send_all(state.alloc, &out, &mut state.to_server)?;
+    let answer = state.client.step_call(event, active, store, &mut out)?;
+    send_all(&out, &mut state.to_server)?;
     Ok(answer)
 }

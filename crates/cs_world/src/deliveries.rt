@@ -7,8 +7,9 @@ ghost use Rattle.cs_world.specs.Tables.{IsReady, KeepsJournal, Steps, past};
 
 use crate::links::send_all;
 use crate::state::State;
+use crate::turns::take_turn;
 use cs_ids::Memory;
-use cs_laws::{Answer, MessageList, StepFault};
+use cs_laws::{Answer, Message, MessageList, StepFault};
 use cs_mdslog::MdsLog;
 
 /// Delivers the first message on its way to the client.
@@ -17,10 +18,13 @@ pub fn to_client(state: &mut State) -> Result<Answer, Memory>
     ensures ok { IfOk result (λ a. Steps state.old state.new events.ToClient a) }
     ensures err { OnErr result (KeepsJournal state.old state.new) }
 {
-    let Some(message) = state.to_client.pop_front() else {
+    let Some(message) = state.to_client.deliver()? else {
         return Ok(Answer::Idle);
     };
     let answer = state.client.step_message(&message)?;
+    if let Message::Resumed { .. } = message {
+        state.session.resumed();
+    }
     Ok(answer)
 }
 
@@ -36,11 +40,12 @@ pub fn to_server<L: MdsLog>(state: &mut State, log: &mut L) -> Result<Answer, St
         (past state.old) events.ToMds log.old log.new result }
     ensures unstored { IsErrOf result StepFault.Store → ⊥ }
 {
-    let Some(message) = state.to_server.pop_front() else {
+    let Some(message) = state.to_server.deliver()? else {
         return Ok(Answer::Idle);
     };
+    let last = take_turn(&mut state.session, &message);
     let mut out = MessageList::new(state.alloc);
-    let answer = state.server.step_message(&message, log, &mut out)?;
-    send_all(state.alloc, &out, &mut state.to_client)?;
+    let answer = state.server.step_message(&message, last, log, &mut out)?;
+    send_all(&out, &mut state.to_client)?;
     Ok(answer)
 }

@@ -7,12 +7,14 @@ mod calls;
 mod deliveries;
 mod laws;
 mod links;
+mod losses;
 mod names;
 mod server;
 mod setup;
 mod shows;
 mod state;
 mod step;
+mod turns;
 mod world;
 
 pub use laws::{events_call_one_device, steps_that_add_nothing_call_no_device};

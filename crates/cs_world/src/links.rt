@@ -1,21 +1,19 @@
 // Messages go onto a link.
-ghost use Rattle.std.specs.Prelude.{◌≡◌, ◌++◌, OnOk};
+ghost use Rattle.std.specs.Prelude.{◌≡◌, ◌++◌, true, OnOk};
+ghost use Rattle.std.specs.List.{All};
+ghost use Rattle.cs_laws.specs.Spellings.{message_fits};
 
 use cs_ids::Memory;
-use cs_laws::{Message, MessageList};
-use std::alloc::Global;
-use std::collections::VecDeque;
+use cs_laws::MessageList;
+use cs_session::Link;
 
 /// Sends these messages, in their order, behind those on the link.
-pub fn send_all(
-    alloc: Global,
-    messages: &MessageList,
-    link: &mut VecDeque<Message>,
-) -> Result<(), Memory>
-    ensures { OnOk result (link.new.items ≡ link.old.items ++ messages.now) }
+pub fn send_all(messages: &MessageList, link: &mut Link) -> Result<(), Memory>
+    requires { All (λ m. message_fits m ≡ true) messages.now }
+    ensures { OnOk result (link.new ≡ link.old ++ messages.now) }
 {
     for message in messages.as_slice() {
-        link.push_back(message.copy(alloc)?)?;
+        link.send(message)?;
     }
     Ok(())
 }

@@ -1,13 +1,13 @@
-// The journal so far, the two sides, and the links between them.
+// The journal so far, the two sides, the session and the links between them.
 ghost use Rattle.std.specs.Prelude.{◌≡◌, [], IfOk};
 ghost use Rattle.cs_world.specs.Tables.{Refines};
 
 use cs_client::Client;
 use cs_ids::Memory;
-use cs_laws::{Entry, Message};
+use cs_laws::Entry;
 use cs_mds::Mds;
+use cs_session::{Link, Session};
 use std::alloc::Global;
-use std::collections::VecDeque;
 
 /// The entries of the journal, the oldest first, and what stands for them.
 #[derive(Drop)]
@@ -17,10 +17,11 @@ pub struct State {
     pub entries: Vec<Entry>,
     pub client: Client,
     pub server: Mds,
-    /// The messages on their way to the client, the first one first.
-    pub to_client: VecDeque<Message>,
+    pub session: Session,
+    /// The messages on their way to the client.
+    pub to_client: Link,
     /// Those on their way to the server.
-    pub to_server: VecDeque<Message>,
+    pub to_server: Link,
 }
 
 pub fn start(alloc: Global, pages: u32) -> Result<State, Memory>
@@ -34,7 +35,8 @@ pub fn start(alloc: Global, pages: u32) -> Result<State, Memory>
         entries: Vec::new(alloc),
         client: Client::new(alloc, pages)?,
         server: Mds::new(alloc)?,
-        to_client: VecDeque::new(alloc),
-        to_server: VecDeque::new(alloc),
+        session: Session::new(),
+        to_client: Link::new(alloc),
+        to_server: Link::new(alloc),
     })
 }

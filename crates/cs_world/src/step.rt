@@ -10,6 +10,7 @@ ghost use Rattle.cs_world.specs.Tables.{IsKept, IsReady, KeepsJournal, Steps, pa
 
 use crate::calls::call;
 use crate::deliveries::{to_client, to_server};
+use crate::losses::{drop_links, fail_over, reconnect};
 use crate::names::list_names;
 use crate::server::serve;
 use crate::setup::set_up;
@@ -63,6 +64,9 @@ pub fn answer<O: ObjStore, L: MdsLog>(
         | Event::RmSnap { .. }
         | Event::Unlease { .. }
         | Event::Commit => serve(state, log, event),
+        Event::DropLinks => Ok(drop_links(state)),
+        Event::Failover { keep } => fail_over(state, log, *keep),
+        Event::Reconnect => Ok(reconnect(state)?),
         Event::ToClient => Ok(to_client(state)?),
         Event::ToMds => to_server(state, log),
         Event::Show { file, at, off, len } => show(state, store, *file, at, *off, *len),

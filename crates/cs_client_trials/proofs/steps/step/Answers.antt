@@ -1,4 +1,4 @@
-use Rattle.std.proofs.Common.{rules, true}
+use Rattle.std.proofs.Common.{rules}
 use Rattle.cs_client_trials.proofs.Contexts.{call_untold}
 use Rattle.cs_client_trials.proofs.Made.{numbered}
 use Rattle.cs_client_trials.proofs.steps.step.Goals as goal
@@ -12,4 +12,4 @@ pub returns-clause-untold : goal.returns-clause-untold
 returns-clause-untold g c = call_untold c.args.client.now c.step_call.new.self c.args.event.now c.in_ok-step_call.field-0 c.in_ok-step_call.ensures.after
 
 pub returns-clause-number : goal.returns-clause-number
-returns-clause-number g c = numbered c.args.event.now c.in_ok-step_call.field-0 c.args.client.now true _ c.in_ok-step_call.ensures.answer
+returns-clause-number g c = numbered c.args.event.now c.in_ok-step_call.field-0 c.args.client.now _ c.in_ok-step_call.ensures.answer

@@ -1,4 +1,7 @@
-use Rattle.std.proofs.Common.{rules}
+use Rattle.std.proofs.Common.{◌≡◌, rules, sym}
+use Rattle.cs_laws.specs.declared.answers.Answer.TheVariants as answers
+use Rattle.cs_mds.specs.Answers.{made_answer}
+use Rattle.cs_mds.proofs.SetupLines.{standing_file}
 use Rattle.cs_mds.proofs.Rows.{put_in}
 use Rattle.cs_mds.proofs.Whole.{whole_file}
 use Rattle.cs_mds.proofs.setup.make_file.Goals as goal
@@ -15,3 +18,9 @@ pub returns-clause-whole : goal.returns-clause-whole
 returns-clause-whole c =
     whole_file c.args.names.now c.setup.new.self c.args.file c.args.parent c.requires.greatest (λ f. search rules)
     c.in_ok-setup.ensures.names
+
+pub returns-clause-standing : goal.returns-clause-standing
+returns-clause-standing c is xs i =
+    let made : answers.Made ≡ made_answer c.args.tree.now c.args.homes.now c.args.file c.args.parent = search rules in
+    standing_file xs c.args.tree.now c.args.homes.now c.insert.new.self c.args.names.now c.setup.new.self c.args.file c.args.parent (sym made)
+    (λ g. search rules) c.in_ok-setup.ensures.names i

@@ -43,6 +43,12 @@ invariant_of-self-2 c =
     kept_next s.records.items s.durable s.index s.realms c.change_realm.new.realms s.sinces c.change_realm.new.sinces c.index.result.now (rw (← c.self.view_is) at c.requires)
     c.index.ensures c.in_ok-change_realm.ensures.ok c.in_ok-change_realm.ensures.greatest c.in_ok-change_realm.ensures.made c.self.invariant
 
+pub invariant_of-self-in_err-push : goal.invariant_of-self-in_err-push
+invariant_of-self-in_err-push c =
+    let s = c.self.inside in
+    kept_next s.records.items s.durable s.index s.realms c.change_realm.new.realms s.sinces c.change_realm.new.sinces c.index.result.now (rw (← c.self.view_is) at c.requires)
+    c.index.ensures c.in_ok-change_realm.ensures.ok c.in_ok-change_realm.ensures.greatest c.in_ok-change_realm.ensures.made c.self.invariant
+
 pub returns-then-not-sending-clause-front : goal.returns-then-not-sending-clause-front
 returns-then-not-sending-clause-front c =
     let s = c.self.inside in
@@ -61,19 +67,26 @@ returns-clause-front c =
     subst (λ v. Settles v (record { durable = take (s.durable + 1) s.records.items; fresh = drop (s.durable + 1) s.records.items })) c.self.view_is
     (settles_next s.records.items s.durable c.index.result.now (rw (← c.self.view_is) at c.requires) c.index.ensures)
 
-pub returns-clause-told : goal.returns-clause-told
-returns-clause-told c =
+pub returns-in_err-push-clause-front : goal.returns-in_err-push-clause-front
+returns-in_err-push-clause-front c =
+    let s = c.self.inside in
+    subst (λ v. Settles v (record { durable = take (s.durable + 1) s.records.items; fresh = drop (s.durable + 1) s.records.items })) c.self.view_is
+    (settles_next s.records.items s.durable c.index.result.now (rw (← c.self.view_is) at c.requires) c.index.ensures)
+
+pub returns-clause-sent : goal.returns-clause-sent
+returns-clause-sent c =
     let s = c.self.inside in
     let xs = c.args.directories.now in
+    let was = c.args.told.now in
     let is_new = c.is_new_realm-is_new.result in
     let sent : c.args.sending ≡ true = search rules in
     let message =
     c.in_ok-message.ensures
-    ∙ ap (λ ys. message_by (get nat_eq s.index.dirs) (own_in c.change_realm.new.realms) (since_in c.change_realm.new.sinces) ys is_new c.index.result.now.body) c.as_slice.ensures.items in
+    ∙ ap (λ ys. message_by was (get nat_eq s.index.dirs) (own_in c.change_realm.new.realms) (since_in c.change_realm.new.sinces) ys is_new c.index.result.now.body) c.as_slice.ensures.items in
     let next =
-    told_next s.records.items s.durable s.index s.realms c.change_realm.new.realms s.sinces c.change_realm.new.sinces c.index.result.now xs is_new c.in_ok-message.message
+    told_next was s.records.items s.durable s.index s.realms c.change_realm.new.realms s.sinces c.change_realm.new.sinces c.index.result.now xs is_new c.in_ok-message.message
     (rw (← c.self.view_is) at c.requires) c.index.ensures c.in_ok-change_realm.ensures.ok c.in_ok-change_realm.ensures.made c.self.invariant c.as_slice.ensures.distinct
     c.is_new_realm-is_new.ensures message
-    ∙ ap (λ (v : RecordLog). commit_news (path_of xs) (inos xs) v.durable (take 1 v.fresh)) c.self.view_is in
-    let news = commit_news (path_of xs) (inos xs) c.args.self.now.durable (take 1 c.args.self.now.fresh) in
-    on_ok c.push.result (λ pushed. pushed ∙ ap (λ ms. c.args.out.now ++ ms) (next ∙ ap (λ b. cond b news []) (sym sent))) c.push.ensures.ok
+    ∙ ap (λ (v : RecordLog). commit_news was (path_of xs) (inos xs) v.durable (take 1 v.fresh)) c.self.view_is in
+    let news = commit_news was (path_of xs) (inos xs) c.args.self.now.durable (take 1 c.args.self.now.fresh) in
+    c.in_ok-push.ensures.ok ∙ ap (λ ms. c.args.out.now ++ ms) (next ∙ ap (λ b. cond b news []) (sym sent))

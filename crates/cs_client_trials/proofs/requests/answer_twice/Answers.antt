@@ -1,0 +1,4 @@
+use Rattle.cs_client_trials.proofs.requests.answer_twice.Goals as goal
+
+pub expect_absent-requires-clause-drawn : goal.expect_absent-requires-clause-drawn
+expect_absent-requires-clause-drawn g c = c.in_ok-found.ensures.drawn 4 c.in_ok-reconnected.ensures.drawn
