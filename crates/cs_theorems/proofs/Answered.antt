@@ -59,7 +59,6 @@ use Rattle.cs_theorems.proofs.Phase.{run_phase, all_realms, call}
 use Rattle.cs_theorems.proofs.Sessions.{whole_by_client, active_too, broken_silent, live_whole, active_live, settled}
 use Rattle.cs_laws.specs.Reports.{reports, capped, realm_seqs, unretired}
 
-
 -- Answers on their way
 
 abbrev pub unsafe_on : Message → Option ℕ
@@ -244,7 +243,7 @@ no_missing (m ∷ ms) is = absurd cc
 pub all_stand : {xs st : List Asked} → Sending true xs st [] → st ≡ xs
 all_stand {xs = xs} {st = st} i =
     let none : i.missing ≡ [] = no_missing i.missing
-        (i.numbers.rest refl ∙ cancel (asked_tids st) i.numbers.missing (asked_tids i.missing) (sym i.numbers.front ∙ (ap asked_tids i.front ∙ tids_append st i.missing))) in
+    (i.numbers.rest refl ∙ cancel (asked_tids st) i.numbers.missing (asked_tids i.missing) (sym i.numbers.front ∙ (ap asked_tids i.front ∙ tids_append st i.missing))) in
     sym (i.front ∙ (ap (λ l. st ++ l) none ∙ append-nil st))
 
 pub reply_there : (r : Reply) (rs : List Reply) → has_reply r.tid (rs ++ r ∷ []) ≡ true
@@ -452,9 +451,9 @@ step_client h x (first_snap number realm now q is) phase alike settles stands to
 step_client h x (first_unsafe tid o ttl q is) phase alike settles stands told i =
     let whole : is_whole h ≡ true = whole_by_client h (messages.Unsafe tid o ttl) q is phase in
     let first : Telling true (is_active (server_state h)) (asked h) (asked_of (stand h)) (replies h) (client_made h) (messages.Unsafe tid o ttl ∷ q)
-        (to_server h)
+    (to_server h)
     = subst (λ b. Telling b (is_active (server_state h)) (asked h) (asked_of (stand h)) (replies h) (client_made h) (messages.Unsafe tid o ttl ∷ q) (to_server h))
-        whole (subst (λ r. On h r (to_server h)) is i) in
+    whole (subst (λ r. On h r (to_server h)) is i) in
     subst
     (λ r. Telling (is_whole h) (is_active (server_state h)) (asked h) (asked_of (stand h))
     (replies h ++ record { tid = tid; answer = o } ∷ [])
@@ -728,7 +727,7 @@ next_answer p h run t o ttl q is new =
     let stands = asked_stands p h run in
     let i : Telling true (is_active (server_state h)) (asked h) (asked_of (stand h)) (replies h) (client_made h) (messages.Unsafe t o ttl ∷ q) (to_server h)
     = subst (λ b. Telling b (is_active (server_state h)) (asked h) (asked_of (stand h)) (replies h) (client_made h) (messages.Unsafe t o ttl ∷ q) (to_server h))
-        (whole_by_client h (messages.Unsafe t o ttl) q is (run_phase p h run)) (subst (λ r. On h r (to_server h)) is (asked_answered p h run)) in
+    (whole_by_client h (messages.Unsafe t o ttl) q is (run_phase p h run)) (subst (λ r. On h r (to_server h)) is (asked_answered p h run)) in
     let told : IsTold (asked_of (stand h)) [] (messages.Unsafe t o ttl)
     = all_told p h run (messages.Unsafe t o ttl) (subst (λ r. Member (messages.Unsafe t o ttl) r) (sym is) (inl refl)) in
     record {

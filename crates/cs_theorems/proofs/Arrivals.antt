@@ -1,5 +1,5 @@
 -- What a run says of the message that is delivered next.
-use Rattle.std.proofs.Common.{◌≡◌, refl, sym, ap, ◌∙◌, subst, ℕ, ◌≤◌, ◌<◌, true, false, List, [], ◌∷◌, ◌++◌, Option, Some, length, arith, inl}
+use Rattle.std.proofs.Common.{◌≡◌, refl, sym, subst, ℕ, ◌≤◌, true, false, List, [], ◌∷◌, Option, Some, length, arith, inl}
 use Rattle.cs_laws.specs.declared.answers.Entry.{Entry}
 use Rattle.cs_laws.specs.declared.messages.Message.{Message}
 use Rattle.cs_laws.specs.declared.messages.Message.TheVariants as messages
@@ -20,12 +20,12 @@ use Rattle.cs_laws.specs.Standing.{answer_kept, greatest_request, greatest_tid}
 use Rattle.cs_theorems.specs.Asked.{Asked, asked, asked_of}
 use Rattle.cs_theorems.specs.Flushes.{is_whole, flushes_in}
 use Rattle.cs_theorems.proofs.Acks.{run_acked}
-use Rattle.cs_theorems.proofs.AskedStands.{Sending, again_stands, answer_found, greatest_stands, last_asked, same_tid, settles_rises, stands_rise, tid_member}
+use Rattle.cs_theorems.proofs.AskedStands.{Sending, again_stands, answer_found, greatest_stands, same_tid, settles_rises, stands_rise, tid_member}
 use Rattle.cs_theorems.proofs.AskedTold.{asked_stands}
 use Rattle.cs_theorems.proofs.AsksRun.{asked_settles}
 use Rattle.cs_theorems.proofs.Calls.{run_calls}
 use Rattle.cs_theorems.proofs.FlushReplays.{repeated_stands, run_replay}
-use Rattle.cs_theorems.proofs.Listed.{Each, Member, member_first, member_left}
+use Rattle.cs_theorems.proofs.Listed.{Member, member_first, member_left}
 use Rattle.cs_theorems.proofs.Numbered.{run_numbered, upto_numbered}
 use Rattle.cs_theorems.proofs.Phase.{call, run_phase}
 use Rattle.cs_theorems.proofs.Sessions.{BothActive, Called, Replays, Resuming, Silent, acked_phase, active_too, broken_calls, broken_silent, called_phase, last_empties, live_by_client, live_by_server, replaying_phase, resumed_phase}
@@ -107,7 +107,7 @@ run_found p h run t ino op q is low =
     let own = first.flying (messages.Req t ino op) (inl refl) in
     let x : Asked = record { tid = t; op = op; answer = own.0 } in
     let one : k.0 ≡ x = same_tid 0 k.0 x (asked h) (settles_rises 0 (setup_names h) (asked h) (asked_settles p h run))
-        (subst (λ xs. Member k.0 xs) (sym i.front) (member_left k.0 (asked_of (stand h)) i.missing k.1)) own.1 k.2 in
+    (subst (λ xs. Member k.0 xs) (sym i.front) (member_left k.0 (asked_of (stand h)) i.missing k.1)) own.1 k.2 in
     let there : Member x (asked_of (stand h)) = subst (λ z. Member z (asked_of (stand h))) one k.1 in
     record { answer = own.0; stands = there; kept = answer_found 0 x (stand h) (stands_rise i) there }
 
@@ -131,7 +131,7 @@ run_ack p h run f tid q is =
     let y : HasTid f tid (flushes_in (durable h)) = tid_has f tid (durable h) durable_one in
     let among : Member y.flush (flushes_in (stand h))
     = subst (λ xs. Member y.flush xs) (sym (filter_map-append (λ r. flush_in r.body) (durable h) (fresh h)))
-        (member_left y.flush (flushes_in (durable h)) (flushes_in (fresh h)) y.there) in
+    (member_left y.flush (flushes_in (durable h)) (flushes_in (fresh h)) y.there) in
     let was : Member y.flush (sent h) = stands_sent (λ x. x.tid) _ _ _ _ (run_replay p h run) y.flush among in
     record {
       flush = y.flush;

@@ -21,7 +21,7 @@ use Rattle.cs_laws.specs.declared.answers.Answer.TheVariants as a
 use Rattle.cs_laws.specs.declared.reports.CapReport.{CapReport}
 use Rattle.cs_laws.specs.declared.reports.RealmSeq.{RealmSeq}
 use Rattle.cs_laws.specs.Flushes.{Flush, acked, flush_message, flush_record}
-use Rattle.cs_laws.specs.History.{client, durable, fresh, realms, sent, stand, to_client, to_server}
+use Rattle.cs_laws.specs.History.{client, durable, fresh, realms, sent, stand, to_server}
 use Rattle.cs_laws.specs.Journal.{entry}
 use Rattle.cs_laws.specs.Laws.{request_tids, request_tids_of}
 use Rattle.cs_laws.specs.Lists.{RisesFrom}
@@ -581,11 +581,11 @@ due_open h alike saved up t there more =
     let k = tid_member t (asked h) there in
     let was : has_request t (requests h) ≡ true = subst (λ n. has_request n (requests h) ≡ true) k.2 (was_sent (requests h) (asked h) k.0 alike k.1) in
     let open_still : is_closed h t ≡ false = false_from_ne_true (is_closed h t) (λ is.
-        let durable_one = saved t (closed_is_saved h t is) in
-        let stands : Member t (asked_tids (asked_of (stand h)))
-        = subst (λ ts. Member t ts) (sym (ap asked_tids (asked_append (durable h) (fresh h)) ∙ tids_append (asked_of (durable h)) (asked_of (fresh h))))
-        (member_left t (asked_tids (asked_of (durable h))) (asked_tids (asked_of (fresh h))) durable_one) in
-        omega (arith, more, member_upto (λ n. n) 0 t (asked_tids (asked_of (stand h))) (subst (λ ts. RisesFrom 0 ts) (sym (map_same (asked_tids (asked_of (stand h))))) up) stands)) in
+    let durable_one = saved t (closed_is_saved h t is) in
+    let stands : Member t (asked_tids (asked_of (stand h)))
+    = subst (λ ts. Member t ts) (sym (ap asked_tids (asked_append (durable h) (fresh h)) ∙ tids_append (asked_of (durable h)) (asked_of (fresh h))))
+    (member_left t (asked_tids (asked_of (durable h))) (asked_tids (asked_of (fresh h))) durable_one) in
+    omega (arith, more, member_upto (λ n. n) 0 t (asked_tids (asked_of (stand h))) (subst (λ ts. RisesFrom 0 ts) (sym (map_same (asked_tids (asked_of (stand h))))) up) stands)) in
     both_true (has_request t (requests h)) (not (is_closed h t)) was (ap not open_still)
 
 step_reconnect : (h : List Entry) (x : Answer) → ReconnectIs h x → PhaseAt h → AskedAlike h → SavedAreDurable h → AskedStands h

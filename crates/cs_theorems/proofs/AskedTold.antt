@@ -28,7 +28,7 @@ use Rattle.cs_laws.specs.Lists.{RisesFrom}
 use Rattle.cs_laws.specs.Names.{names}
 use Rattle.cs_laws.specs.Namespace.{answer_on}
 use Rattle.cs_laws.specs.Realms.{differing, realm_records}
-use Rattle.cs_laws.specs.Requests.{Request, is_saved}
+use Rattle.cs_laws.specs.Requests.{is_saved}
 use Rattle.cs_laws.specs.Runs.{IsRun}
 use Rattle.cs_laws.specs.ServerKnows.{server_dirs, server_path}
 use Rattle.cs_laws.specs.Standing.{answer_kept, greatest_request, has_request, is_request, news, news_of, news_on, recorded, requested, resumption}

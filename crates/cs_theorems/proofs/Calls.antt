@@ -1,6 +1,6 @@
 -- While the client reconnects and the server's session is broken, the report of what the client has is on its way, with what is sent again, as
 -- it would be sent now; and no capabilities were told or acknowledged since.
-use Rattle.std.proofs.Common.{◌≡◌, refl, sym, ap, ◌∙◌, subst, ℕ, ◌==◌, Bool, true, false, cond, List, [], ◌∷◌, ◌++◌, Option, Some, None, map, nat_lt, ◌-◌, inl, inr, ⊎_elim, ◌⊎◌}
+use Rattle.std.proofs.Common.{◌≡◌, refl, sym, ap, ◌∙◌, subst, ℕ, ◌==◌, Bool, true, false, cond, List, [], ◌∷◌, ◌++◌, Some, nat_lt, ◌-◌, inl, inr, ⊎_elim, ◌⊎◌}
 use Rattle.std.specs.Prelude.{find}
 use Rattle.std.proofs.lemmas.Bool.{both_ways, cond_both, eq-eqb, eqb-true}
 use Rattle.cs_bits.specs.declared.Caps.{Caps}
@@ -13,8 +13,6 @@ use Rattle.cs_laws.specs.declared.answers.Answer.{Answer}
 use Rattle.cs_laws.specs.declared.answers.Answer.TheVariants as a
 use Rattle.cs_laws.specs.declared.answers.Entry.{Entry}
 use Rattle.cs_laws.specs.declared.messages.Message.{Message}
-use Rattle.cs_laws.specs.declared.messages.Message.TheVariants as messages
-use Rattle.cs_laws.specs.declared.reports.CapReport.{CapReport}
 use Rattle.cs_laws.specs.declared.requests.ReqOp.{ReqOp}
 use Rattle.cs_laws.specs.declared.sessions.ClientState.{ClientState}
 use Rattle.cs_laws.specs.declared.sessions.ClientState.TheVariants as clients
@@ -25,11 +23,11 @@ use Rattle.cs_laws.specs.History.{client, to_client, to_server}
 use Rattle.cs_laws.specs.Journal.{entry}
 use Rattle.cs_laws.specs.Reports.{capped, caps_reported, report_of, reported, reports, with_number}
 use Rattle.cs_laws.specs.Runs.{IsRun}
-use Rattle.cs_laws.specs.Sessions.{client_state, is_active, is_broken, is_client_active, is_client_broken, replaying, resent, server_state}
+use Rattle.cs_laws.specs.Sessions.{client_state, is_broken, is_client_active, replaying, resent, server_state}
 use Rattle.cs_theorems.specs.Phases.{IsWork, PhaseAt}
 use Rattle.cs_theorems.proofs.Inversions.{FlushIs, head_unknown, head_session, head_snap, head_clean, head_sent, flush_is, CheckIs, check_unknown, check_session, check_nothing, check_hold, check_ack, check_is, FlushSnapsIs, flush_unknown, flush_session, flush_none, flush_writing, flush_sent, flush_snaps_is, FirstIs, first_idle, first_cap, first_flush_ack, first_resumed, first_unsafe, first_safe, first_unlease, first_snap, first_is, ReceivedIs, received_idle, received_ack, received_flush, received_again, received_reconnect, received_req, received_req_again, received_is, ReqIs, req_session, req_sent, req_is, ReconnectIs, unbroken, reconnected, reconnect_is}
-use Rattle.cs_theorems.proofs.Listed.{Each, Member}
-use Rattle.cs_theorems.proofs.Phase.{call, resend_flush, run_phase}
+use Rattle.cs_theorems.proofs.Listed.{Member}
+use Rattle.cs_theorems.proofs.Phase.{call, run_phase}
 use Rattle.cs_theorems.proofs.Runs.{of_run}
 use Rattle.cs_theorems.proofs.Sessions.{broken_silent, broken_unheard, live_by_server}
 

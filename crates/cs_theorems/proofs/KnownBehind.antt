@@ -1,57 +1,22 @@
 -- What is sent again is of known requests and files; and what the server knows, the client knows once all is delivered.
-use Rattle.std.proofs.Common.{◌≡◌, refl, ℕ, true, List, [], ◌∷◌, ◌++◌, Option, Some, None, inl, drop, ◌⊎◌, ◌+◌, ◌≤◌, ◌==◌, ◌||◌, Bool, false, cond, sym, ap, ◌∙◌, subst, append_assoc, find, length, inr, unwrap_or, ⊎_elim, arith, ◌&&◌, take, map, not, nat_lt}
-use Rattle.std.specs.Option.{option_map}
-use Rattle.std.proofs.lemmas.Bool.{cond_both, both_ways, eq-eqb, eqb-true, false_from_ne_true, or_cases, or_left, or_parts, or_right, and_parts}
-use Rattle.std.proofs.lemmas.List.{append-nil, length-append}
+use Rattle.std.proofs.Common.{◌≡◌, refl, ℕ, true, List, [], ◌∷◌, ◌++◌, Some, inl, ◌==◌, ◌||◌, Bool, sym, ap, ◌∙◌, subst, inr, ⊎_elim, nat_lt}
+use Rattle.std.proofs.lemmas.Bool.{eq-eqb, or_cases, or_left, or_right}
+use Rattle.std.proofs.lemmas.List.{append-nil}
 use Rattle.std.proofs.lemmas.List.Folds.{list_any-append}
-use Rattle.std.proofs.lemmas.Grind.{flat_map-append}
-use Rattle.cs_bits.specs.declared.Caps.{Caps}
-use Rattle.cs_bits.specs.Bits.{is_empty}
-use Rattle.cs_parts.specs.declared.capabilities.ClientCaps.{ClientCaps}
-use Rattle.cs_parts.specs.Capabilities.{granted, revoked, held_back, is_complete}
-use Rattle.cs_snapctx.specs.declared.realm.RealmRecord.{RealmRecord}
-use Rattle.cs_laws.specs.declared.events.Event.{Event}
-use Rattle.cs_laws.specs.declared.events.Event.TheVariants as e
-use Rattle.cs_laws.specs.declared.answers.Answer.{Answer}
-use Rattle.cs_laws.specs.declared.answers.Answer.TheVariants as a
 use Rattle.cs_laws.specs.declared.answers.Entry.{Entry}
 use Rattle.cs_laws.specs.declared.messages.Message.{Message}
 use Rattle.cs_laws.specs.declared.messages.Message.TheVariants as messages
-use Rattle.cs_laws.specs.declared.records.Record.{Record}
-use Rattle.cs_laws.specs.declared.records.RecordBody.{RecordBody}
-use Rattle.cs_laws.specs.declared.records.RecordBody.TheVariants as bodies
-use Rattle.cs_laws.specs.Answers.{answer_check_of, answer_check, answer_grant, answer_revoke, sent_cap, answer_to_mds}
-use Rattle.cs_laws.specs.Carried.{file_of, flush_in, realms_of, is_for_client}
-use Rattle.cs_laws.specs.Flushes.{Flush, flush_message, flush_record, acked, is_retired}
-use Rattle.cs_laws.specs.Flight.{acked_again, answered_again, cap_message, unsafe_message}
-use Rattle.cs_laws.specs.Realms.{differing, realm_records}
-use Rattle.cs_laws.specs.ClientKnows.{client_knows, client_made}
+use Rattle.cs_laws.specs.ClientKnows.{client_knows}
 use Rattle.cs_laws.specs.Events.{setup_file}
-use Rattle.cs_laws.specs.ServerKnows.{server_knows, server_dirs, server_made, server_path}
-use Rattle.cs_laws.specs.History.{client, durable, fresh, last_sent, server, to_client, to_server, used, stand, sent}
-use Rattle.cs_laws.specs.Journal.{entry}
-use Rattle.cs_laws.specs.Standing.{news, news_of, news_on, recorded, answer_kept, greatest_number, requested, resumption}
-use Rattle.cs_snapctx.specs.Records.{with_records}
-use Rattle.cs_laws.specs.Runs.{CanFollow, IsRun}
-use Rattle.cs_laws.specs.Made.{Made, is_made_file, made_by, made_in, made_of, makes_file}
-use Rattle.cs_laws.specs.Requests as client_requests
-use Rattle.cs_laws.specs.Requests.{Reply, Request, is_open, has_request, op_of, requests}
-use Rattle.cs_theorems.specs.Underway.{ForClient, ForServer, IfFile, IsToldClient, IsToldServer}
-use Rattle.cs_theorems.proofs.Inversions.{ReqIs, req_session, req_sent, req_is, ReconnectIs, unbroken, reconnected, reconnect_is, FlushIs, head_unknown, head_session, head_snap, head_clean, head_sent, flush_is, FlushSnapsIs, flush_unknown, flush_session, flush_none, flush_writing, flush_sent, flush_snaps_is, FirstIs, first_idle, first_cap, first_flush_ack, first_unsafe, first_resumed, first_safe, first_unlease, first_snap, first_is, ReceivedIs, received_idle, received_ack, received_flush, received_again, received_reconnect, received_req, received_req_again, received_is, SnapIs, snap_unknown, snap_session, snap_exists, snap_taken, snap_is, RemoveIs, remove_none, remove_session, remove_gone, removed, remove_is, UnleaseIs, unlease_unknown, unlease_session, unlease_sent, unlease_is}
-use Rattle.cs_theorems.proofs.Listed.{Each, each_nil, each_cons, each_append, each_drop, each_end, each_tail, member_first, member_take, member_right}
-use Rattle.cs_theorems.proofs.News.{each_again, each_answered, each_resumption}
+use Rattle.cs_laws.specs.ServerKnows.{server_knows, server_made}
+use Rattle.cs_laws.specs.History.{to_client, to_server, stand}
+use Rattle.cs_laws.specs.Runs.{IsRun}
+use Rattle.cs_laws.specs.Made.{is_made_file, made_by, makes_file}
+use Rattle.cs_laws.specs.Requests.{Request, has_request, op_of, requests}
+use Rattle.cs_theorems.proofs.Listed.{Each, member_right}
 use Rattle.cs_theorems.proofs.Runs.{of_run}
-use Rattle.cs_theorems.proofs.Known.{client_grows}
-use Rattle.cs_theorems.proofs.Standing.{recorded_one}
-use Rattle.cs_theorems.proofs.Asks.{told_makes}
 use Rattle.cs_laws.specs.declared.requests.OpAnswer.{OpAnswer}
-use Rattle.cs_laws.specs.declared.requests.OpAnswer.TheVariants as replies
-use Rattle.cs_laws.specs.declared.requests.ReqOp.{ReqOp}
-use Rattle.cs_laws.specs.Names.{names, setup_names}
-use Rattle.cs_laws.specs.Namespace.{answer_on}
-use Rattle.cs_laws.specs.Sessions.{is_active, server_state, client_state, is_client_active, is_broken, is_last}
-use Rattle.cs_theorems.proofs.Phase.{all_realms, again, call, run_phase}
-use Rattle.cs_laws.specs.Reports.{request_again, requests_again, flushes_again, open_requests, unretired}
+use Rattle.cs_laws.specs.Names.{setup_names}
 use Rattle.cs_theorems.proofs.Tests.{filter_each, any_true}
 use Rattle.cs_theorems.proofs.AsksRun.{asked_alike, asked_settles, op_found}
 use Rattle.cs_theorems.proofs.AskedStands.{was_asked, settles_rises, AskedStands, Sending, Numbers, asked_tids, req_tids, cancel, tids_append, same_tid, last_asked, member_tid}
@@ -61,9 +26,8 @@ use Rattle.cs_theorems.specs.Asked.{Asked, asked, asked_made, asked_of}
 use Rattle.cs_theorems.proofs.Asked.{log_made, made_append}
 use Rattle.cs_theorems.specs.Flushes.{is_whole}
 use Rattle.cs_laws.specs.Lists.{RisesFrom, Member}
-use Rattle.cs_theorems.proofs.Sessions.{active_too, live_whole, active_live, settled}
 use Rattle.cs_theorems.proofs.Blank.{SentAreKnown, sent_known_first, sent_known_step}
-use Rattle.cs_theorems.proofs.Tells.{Flies, ForLog, IsAnswered, IsKnown, IsReceived, Tells, answered_more, behind_append, behind_has, behind_more, behind_sent, each_told, flies_commit, flies_dropped, flies_first, flies_gone, flies_lost, flies_made, flies_more, flies_received, flies_recorded, flies_sent, flies_served, flies_settled, flies_told, flush_file, found_more, if_more, known_behind, known_with, made_more, made_on, news_answered, of_told, received_more, received_sent, request_more, tells_append, tells_each, tells_more, tells_sent}
+use Rattle.cs_theorems.proofs.Tells.{behind_has, known_behind, known_with, made_on}
 
 -- Flushes that were sent
 
@@ -162,7 +126,7 @@ knows_settled p h run whole none f served =
         let among : Member x (asked h) = subst (λ l. Member x l) (sym i.front) (member_right x i.got i.missing there) in
         let flies : Member x.tid (unsafe_tids (to_client h))
         = (filter_each (λ t. nat_lt (last_asked i.got) t) (unsafe_tids (to_client h)) x.tid
-            (subst (λ ts. Member x.tid ts) (sym (numbers.rest refl ∙ same_missing)) (member_tid x i.missing there))).1 in
+        (subst (λ ts. Member x.tid ts) (sym (numbers.rest refl ∙ same_missing)) (member_tid x i.missing there))).1 in
         let k : AnswerOn x.tid (to_client h) = answer_on_way x.tid (to_client h) flies in
         let told = all_told p h run (messages.Unsafe x.tid k.answer k.ttl) k.there in
         let y : Asked = record { tid = x.tid; op = told.0; answer = k.answer } in

@@ -1,13 +1,12 @@
 -- A request with an answer is on its way again, or another answer to it, only where it was sent again at a reconnect.
-use Rattle.std.proofs.Common.{◌≡◌, refl, sym, ap, ◌∙◌, subst, ℕ, ◌+◌, ◌<◌, ◌≤◌, ◌==◌, Bool, true, false, cond, List, [], ◌∷◌, ◌++◌, Option, Some, None, length, map, drop, append_assoc, unwrap_or, arith, ◌||◌, ◌⊎◌, nat_lt, inl, inr, ⊎_elim}
-use Rattle.std.specs.List.{cons_option, filter, list_any}
-use Rattle.std.proofs.lemmas.Bool.{both_ways, cases_lt, cond_both, eq-eqb, eqb-true, lt-ltb, or_cases, or_left}
+use Rattle.std.proofs.Common.{◌≡◌, refl, sym, ap, ◌∙◌, subst, ℕ, ◌+◌, ◌<◌, ◌==◌, Bool, true, false, cond, List, [], ◌∷◌, ◌++◌, Option, None, length, drop, append_assoc, unwrap_or, arith, ◌||◌, ◌⊎◌, nat_lt, inl, inr, ⊎_elim}
+use Rattle.std.specs.List.{cons_option}
+use Rattle.std.proofs.lemmas.Bool.{both_ways, cases_lt, cond_both, eqb-true, lt-ltb, or_cases, or_left}
 use Rattle.std.proofs.lemmas.List.{append-nil}
 use Rattle.std.proofs.lemmas.List.Folds.{list_any-append}
 use Rattle.cs_laws.specs.declared.events.Event.{Event}
 use Rattle.cs_laws.specs.declared.events.Event.TheVariants as e
 use Rattle.cs_laws.specs.declared.answers.Answer.{Answer}
-use Rattle.cs_laws.specs.declared.answers.Answer.TheVariants as a
 use Rattle.cs_laws.specs.declared.answers.Entry.{Entry}
 use Rattle.cs_laws.specs.declared.messages.Message.{Message}
 use Rattle.cs_laws.specs.declared.messages.Message.TheVariants as messages
@@ -25,19 +24,19 @@ use Rattle.cs_laws.specs.Reports.{capped, realm_seqs, reports, unretired}
 use Rattle.cs_laws.specs.Requests.{Reply, has_reply, is_open, is_resent, replies, requests}
 use Rattle.cs_laws.specs.Runs.{IsRun}
 use Rattle.cs_laws.specs.ServerKnows.{server_dirs, server_path}
-use Rattle.cs_laws.specs.Sessions.{is_active, is_broken, is_last, server_state}
+use Rattle.cs_laws.specs.Sessions.{is_broken, is_last, server_state}
 use Rattle.cs_laws.specs.Standing.{answer_kept, news, resumption}
-use Rattle.cs_theorems.specs.Asked.{asked, asked_of}
+use Rattle.cs_theorems.specs.Asked.{asked}
 use Rattle.cs_theorems.specs.Flushes.{is_whole}
 use Rattle.cs_theorems.specs.Phases.{PhaseAt}
 use Rattle.cs_theorems.specs.Replays.{above, last_tid}
 use Rattle.cs_theorems.proofs.Answered.{AskedAnswered, Goes, asked_answered, moved_answer, moved_more, no_unsafe, no_unsafe_news, no_unsafe_resumption, none_goes, one_answer, unsafe_append, unsafe_on, unsafe_tids}
-use Rattle.cs_theorems.proofs.Ascending.{above_one, member_above}
-use Rattle.cs_theorems.proofs.AskedStands.{Numbers, asked_tids, call_tids, flush_no_req, last_asked, req_append, req_end, req_first, req_on, req_tids, rises_plain}
+use Rattle.cs_theorems.proofs.Ascending.{above_one}
+use Rattle.cs_theorems.proofs.AskedStands.{Numbers, asked_tids, call_tids, flush_no_req, req_append, req_end, req_first, req_on, req_tids, rises_plain}
 use Rattle.cs_theorems.proofs.AsksRun.{AskedAlike, asked_alike}
-use Rattle.cs_theorems.proofs.Flying.{above_plain, got_reply, next_unanswered, reply_got}
+use Rattle.cs_theorems.proofs.Flying.{above_plain, got_reply, next_unanswered}
 use Rattle.cs_theorems.proofs.Inversions.{FlushIs, head_unknown, head_session, head_snap, head_clean, head_sent, flush_is, CheckIs, check_unknown, check_session, check_nothing, check_hold, check_ack, check_is, FlushSnapsIs, flush_unknown, flush_session, flush_none, flush_writing, flush_sent, flush_snaps_is, FirstIs, first_idle, first_cap, first_flush_ack, first_resumed, first_unsafe, first_safe, first_unlease, first_snap, first_is, GrantIs, grant_unknown, grant_session, grant_sent, grant_is, revoke_is, ReceivedIs, received_idle, received_ack, received_flush, received_again, received_reconnect, received_req, received_req_again, received_is, UnleaseIs, unlease_unknown, unlease_session, unlease_sent, unlease_is, ReqIs, req_session, req_sent, req_is, ReconnectIs, unbroken, reconnected, reconnect_is}
-use Rattle.cs_theorems.proofs.Listed.{Each, Member, each_append, each_cons, each_end, each_nil, each_tail}
+use Rattle.cs_theorems.proofs.Listed.{Each, Member, each_append, each_end, each_nil}
 use Rattle.cs_theorems.proofs.News.{each_again, each_news, each_resumption}
 use Rattle.cs_theorems.proofs.Phase.{all_realms, call, run_phase}
 use Rattle.cs_theorems.proofs.Replays as replays
@@ -67,7 +66,7 @@ not_behind : (xs got fl : List ℕ) (t : ℕ) → last_number got < t → Number
 not_behind xs got fl t more i there =
     let up : RisesFrom (last_number got) (t ∷ above (λ u. u) (last_number got) fl)
     = subst (λ us. RisesFrom (last_number got) us) (sym (sym (above_one (λ u. u) (last_number got) t fl more) ∙ i.rest refl))
-        (rises_plain (last_number got) i.missing (replays.missing_rise (λ u. u) true xs got (t ∷ fl) i)) in
+    (rises_plain (last_number got) i.missing (replays.missing_rise (λ u. u) true xs got (t ∷ fl) i)) in
     omega (arith, above_plain t t (above (λ u. u) (last_number got) fl) up.1 (filter_has (λ u. nat_lt (last_number got) u) fl t there (lt-ltb (last_number got) t more)))
 
 -- Steps
@@ -169,12 +168,12 @@ step_client h x (first_unsafe tid o ttl q is) phase told i =
     let fl : List ℕ = unsafe_tids q ++ req_tids (to_server h) in
     let numbers : Numbers true (asked_tids (asked h)) (asked_tids told.got) (tid ∷ fl)
     = subst (λ b. Numbers b (asked_tids (asked h)) (asked_tids told.got) (tid ∷ fl)) (whole_by_client h (messages.Unsafe tid o ttl) q is phase)
-        (subst (λ r. Numbers (is_whole h) (asked_tids (asked h)) (asked_tids told.got) (unsafe_tids r ++ req_tids (to_server h))) is told.numbers) in
+    (subst (λ r. Numbers (is_whole h) (asked_tids (asked h)) (asked_tids told.got) (unsafe_tids r ++ req_tids (to_server h))) is told.numbers) in
     let above_got : has_reply tid (replies h) ≡ false → last_number (asked_tids told.got) < tid = λ new. ⊎_elim
-        (λ less. less)
-        (λ low. absurd (both_ways (has_reply tid (replies h)) new
-        (got_reply h told tid (replays.repeat (λ n. n) true (asked_tids (asked h)) (asked_tids told.got) fl tid low numbers).1)))
-        (cases_lt (last_number (asked_tids told.got)) tid) in
+    (λ less. less)
+    (λ low. absurd (both_ways (has_reply tid (replies h)) new
+    (got_reply h told tid (replays.repeat (λ n. n) true (asked_tids (asked h)) (asked_tids told.got) fl tid low numbers).1)))
+    (cases_lt (last_number (asked_tids told.got)) tid) in
     subst (λ r. Each (λ u. has_reply u (replies h ++ record { tid = tid; answer = o } ∷ []) ≡ true → is_resent h u ≡ true) (unsafe_tids (drop 1 r) ++ req_tids (to_server h)))
     (sym is)
     (answered_once h tid o fl

@@ -8,7 +8,7 @@ use Rattle.cs_bits.specs.declared.Caps.{Caps}
 use Rattle.cs_bits.specs.Bits.{no_caps, is_empty}
 use Rattle.cs_parts.specs.declared.capabilities.ClientCaps.{ClientCaps}
 use Rattle.cs_parts.specs.declared.references.Live.{Live}
-use Rattle.cs_parts.specs.Capabilities.{no_client_caps, no_server_caps, granted, revoked, held_back, is_complete, restarted}
+use Rattle.cs_parts.specs.Capabilities.{no_client_caps, no_server_caps, held_back, is_complete, restarted}
 use Rattle.cs_capsnap.specs.declared.snap.CapSnap.{CapSnap as Snap}
 use Rattle.cs_flush.specs.declared.sent.Sent.{Sent}
 use Rattle.cs_laws.specs.declared.events.Event.{Event}
@@ -18,7 +18,7 @@ use Rattle.cs_laws.specs.declared.answers.Answer.{Answer}
 use Rattle.cs_laws.specs.declared.answers.Answer.TheVariants as a
 use Rattle.cs_laws.specs.declared.answers.Entry.{Entry}
 use Rattle.cs_laws.specs.declared.messages.Message.TheVariants as messages
-use Rattle.cs_laws.specs.Answers.{answer_check_of, answer_check, answer_grant, answer_revoke, sent_cap}
+use Rattle.cs_laws.specs.Answers.{answer_check_of, answer_check, answer_grant, answer_revoke}
 use Rattle.cs_laws.specs.CapSnaps.{CapSnap}
 use Rattle.cs_laws.specs.ClientKnows.{client_knows}
 use Rattle.cs_laws.specs.Events.{setup_file, setup_file_then}
@@ -219,7 +219,6 @@ capped_known p h run = of_run p CappedAreKnown (each_nil (λ f. client_knows [] 
 
 abbrev AllUngiven : List Entry → Type 0
 AllUngiven h = (f : ℕ) → server_knows h f ≡ false → client_knows h f ≡ false → server h f ≡ no_server_caps
-
 
 -- one that it doesn't know it didn't know
 known_more : (h : List Entry) (rs : List Record) (f : ℕ) → (setup_file h f || makes_file f (made_in (durable h ++ (fresh h ++ rs)))) ≡ false → server_knows h f ≡ false
