@@ -3,7 +3,7 @@
 use Rattle.std.proofs.Common.{◌≡◌, refl, sym, ap, ◌∙◌, subst, ℕ, ◌+◌, ◌<◌, ◌≤◌, ◌==◌, max, ◌&&◌, Bool, true, false, cond, List, [], ◌∷◌, ◌++◌, Option, Some, None, map, length, take, drop, append_assoc, arith, inl, inr}
 use Rattle.std.specs.Prelude.{not}
 use Rattle.std.specs.List.{cons_option, filter, filter_map}
-use Rattle.std.proofs.lemmas.Bool.{cond_both, cond-false, cond-true, eq-eqb, false_from_ne_true, ltb-false, ltb-true, ne_eqb}
+use Rattle.std.proofs.lemmas.Bool.{cond_both, cond-false, cond-true, eq-eqb, false_from_ne_true, ltb-false, ltb-true, ne_eqb, and_from}
 use Rattle.std.proofs.lemmas.List.{append-nil, map-append, take-append-drop}
 use Rattle.std.proofs.lemmas.List.Elements.{filter_map-append}
 use Rattle.cs_laws.specs.declared.events.Event.{Event}
@@ -570,10 +570,6 @@ step_client h x (first_snap number realm now q is) phase i = i
 step_client h x (first_resumed now q is) phase i =
     subst (λ b. Sending b (asked h) (asked_of (stand h)) (to_server h)) (whole_by_client h (messages.Resumed now) q is phase) i
 
-both_true : (b c : Bool) → b ≡ true → c ≡ true → (b && c) ≡ true
-both_true true c is also = also
-both_true false c is also = absurd cc
-
 -- a request whose number is above all that stand is open
 pub due_open : (h : List Entry) → AskedAlike h → SavedAreDurable h → RisesFrom 0 (asked_tids (asked_of (stand h)))
     → Each (λ t. last_asked (asked_of (stand h)) < t → is_open h t ≡ true) (asked_tids (asked h))
@@ -586,7 +582,7 @@ due_open h alike saved up t there more =
     = subst (λ ts. Member t ts) (sym (ap asked_tids (asked_append (durable h) (fresh h)) ∙ tids_append (asked_of (durable h)) (asked_of (fresh h))))
     (member_left t (asked_tids (asked_of (durable h))) (asked_tids (asked_of (fresh h))) durable_one) in
     omega (arith, more, member_upto (λ n. n) 0 t (asked_tids (asked_of (stand h))) (subst (λ ts. RisesFrom 0 ts) (sym (map_same (asked_tids (asked_of (stand h))))) up) stands)) in
-    both_true (has_request t (requests h)) (not (is_closed h t)) was (ap not open_still)
+    and_from (has_request t (requests h)) (not (is_closed h t)) was (ap not open_still)
 
 step_reconnect : (h : List Entry) (x : Answer) → ReconnectIs h x → PhaseAt h → AskedAlike h → SavedAreDurable h → AskedStands h
     → AskedStands (record { event = e.Reconnect; answer = x } ∷ h)

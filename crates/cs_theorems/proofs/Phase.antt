@@ -303,6 +303,10 @@ step_client h x (first_resumed told q is) i =
 abbrev pub all_realms : List Entry → List RealmRecord
 all_realms h = realm_records (λ d. server_path h d) (server_dirs h) (durable h)
 
+-- what the server tells with the last of what is sent again
+abbrev pub resumption_now : List Entry → List Message
+resumption_now h = resumption (is_last (server_state h)) (all_realms h)
+
 -- one that may be sent again arrives at the server, which answers so
 received : (h : List Entry) (m : Message) (p r : List Message) → IsResend m → Each IsNews r → to_server h ≡ m ∷ p → PhaseAt h
     → Phase (client_state h) (resent (server_state h)) (to_client h ++ (r ++ resumption (is_last (server_state h)) (all_realms h)))

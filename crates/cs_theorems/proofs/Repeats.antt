@@ -30,7 +30,7 @@ use Rattle.cs_theorems.specs.Asked.{asked}
 use Rattle.cs_theorems.specs.Flushes.{is_whole}
 use Rattle.cs_theorems.specs.Phases.{PhaseAt}
 use Rattle.cs_theorems.specs.Replays.{above, last_tid}
-use Rattle.cs_theorems.proofs.Answered.{AskedAnswered, Goes, asked_answered, moved_answer, moved_more, no_unsafe, no_unsafe_news, no_unsafe_resumption, none_goes, one_answer, unsafe_append, unsafe_on, unsafe_tids}
+use Rattle.cs_theorems.proofs.Answered.{AskedAnswered, asked_answered, moved_answer, moved_more, no_unsafe, no_unsafe_news, no_unsafe_resumption, none_goes, one_answer, unsafe_append, unsafe_on, unsafe_tids}
 use Rattle.cs_theorems.proofs.Ascending.{above_one}
 use Rattle.cs_theorems.proofs.AskedStands.{Numbers, asked_tids, call_tids, flush_no_req, req_append, req_end, req_first, req_on, req_tids, rises_plain}
 use Rattle.cs_theorems.proofs.AsksRun.{AskedAlike, asked_alike}
@@ -38,7 +38,7 @@ use Rattle.cs_theorems.proofs.Flying.{above_plain, got_reply, next_unanswered}
 use Rattle.cs_theorems.proofs.Inversions.{FlushIs, head_unknown, head_session, head_snap, head_clean, head_sent, flush_is, CheckIs, check_unknown, check_session, check_nothing, check_hold, check_ack, check_is, FlushSnapsIs, flush_unknown, flush_session, flush_none, flush_writing, flush_sent, flush_snaps_is, FirstIs, first_idle, first_cap, first_flush_ack, first_resumed, first_unsafe, first_safe, first_unlease, first_snap, first_is, GrantIs, grant_unknown, grant_session, grant_sent, grant_is, revoke_is, ReceivedIs, received_idle, received_ack, received_flush, received_again, received_reconnect, received_req, received_req_again, received_is, UnleaseIs, unlease_unknown, unlease_session, unlease_sent, unlease_is, ReqIs, req_session, req_sent, req_is, ReconnectIs, unbroken, reconnected, reconnect_is}
 use Rattle.cs_theorems.proofs.Listed.{Each, Member, each_append, each_end, each_nil}
 use Rattle.cs_theorems.proofs.News.{each_again, each_news, each_resumption}
-use Rattle.cs_theorems.proofs.Phase.{all_realms, call, run_phase}
+use Rattle.cs_theorems.proofs.Phase.{all_realms, call, run_phase, resumption_now}
 use Rattle.cs_theorems.proofs.Replays as replays
 use Rattle.cs_theorems.proofs.Rising.{at_first}
 use Rattle.cs_theorems.proofs.Runs.{of_run}
@@ -202,19 +202,19 @@ step_server h x (received_ack g seq bits q is) i =
     subst (λ r. OnceOf h (unsafe_tids r ++ req_tids (drop 1 (to_server h)))) (append-nil (to_client h)) (taken h (messages.CapAck g seq bits) q [] refl refl is i)
 step_server h x (received_reconnect caps known resends q is) i =
     taken h (messages.Reconnect caps known resends) q (resumption (resends == 0) (all_realms h)) refl (no_unsafe_resumption (resends == 0) (all_realms h)) is i
-step_server h x (received_flush y q is first) i = taken h (flush_message y) q (Goes h) (flush_no_req y) (none_goes h) is i
+step_server h x (received_flush y q is first) i = taken h (flush_message y) q (resumption_now h) (flush_no_req y) (none_goes h) is i
 step_server h x (received_again y q is again) i =
-    taken h (flush_message y) q (acked_again y.file y.tid (durable h) ++ Goes h) (flush_no_req y)
-    (no_unsafe (acked_again y.file y.tid (durable h) ++ Goes h)
-    (each_append (λ m. unsafe_on m ≡ None) (acked_again y.file y.tid (durable h)) (Goes h)
+    taken h (flush_message y) q (acked_again y.file y.tid (durable h) ++ resumption_now h) (flush_no_req y)
+    (no_unsafe (acked_again y.file y.tid (durable h) ++ resumption_now h)
+    (each_append (λ m. unsafe_on m ≡ None) (acked_again y.file y.tid (durable h)) (resumption_now h)
     (each_again (λ m. unsafe_on m ≡ None) y.file y.tid (durable h) (λ _. refl))
     (each_resumption (λ m. unsafe_on m ≡ None) (is_last (server_state h)) (all_realms h) refl))) is i
 step_server h x (received_req tid ino op q is first) i =
-    answered_one h tid ino op q (unsafe_message (server_state h) tid (answer_on (names h) op) ∷ Goes h) (ap (λ ts. tid ∷ ts) (none_goes h)) is i
+    answered_one h tid ino op q (unsafe_message (server_state h) tid (answer_on (names h) op) ∷ resumption_now h) (ap (λ ts. tid ∷ ts) (none_goes h)) is i
 step_server h x (received_req_again tid ino op q is again) i =
     let o : OpAnswer = unwrap_or (answer_kept tid (stand h)) replies_of.Missing in
-    answered_one h tid ino op q (answered_again tid o (durable h) ++ Goes h)
-    (unsafe_append (answered_again tid o (durable h)) (Goes h)
+    answered_one h tid ino op q (answered_again tid o (durable h) ++ resumption_now h)
+    (unsafe_append (answered_again tid o (durable h)) (resumption_now h)
     ∙ (ap (λ ts. unsafe_tids (answered_again tid o (durable h)) ++ ts) (none_goes h)
     ∙ (append-nil (unsafe_tids (answered_again tid o (durable h))) ∙ one_answer tid o (durable h)))) is i
 

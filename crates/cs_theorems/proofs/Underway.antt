@@ -1,7 +1,7 @@
 -- Messages on their way are of files that are known when their turn comes, and so are the flushes of the server's log.
 use Rattle.std.proofs.Common.{◌≡◌, refl, ℕ, true, List, [], ◌∷◌, ◌++◌, Option, Some, None, inl, drop, ◌⊎◌, ◌+◌, ◌==◌, ◌||◌, Bool, false, cond, sym, ap, ◌∙◌, subst, append_assoc, find, length, inr, unwrap_or, ⊎_elim, arith, ◌&&◌, take, map, not}
 use Rattle.std.specs.Option.{option_map}
-use Rattle.std.proofs.lemmas.Bool.{cond_both, both_ways, eq-eqb, eqb-true, false_from_ne_true, or_cases, or_left, or_parts, or_right, and_parts}
+use Rattle.std.proofs.lemmas.Bool.{cond_both, both_ways, eq-eqb, eqb-true, false_from_ne_true, or_cases, or_left, or_parts, or_right, and_parts, and_from}
 use Rattle.std.proofs.lemmas.List.{append-nil, length-append}
 use Rattle.std.proofs.lemmas.List.Folds.{list_any-append}
 use Rattle.std.proofs.lemmas.Grind.{flat_map-append}
@@ -46,7 +46,7 @@ use Rattle.cs_laws.specs.declared.requests.ReqOp.{ReqOp}
 use Rattle.cs_laws.specs.Names.{names}
 use Rattle.cs_laws.specs.Namespace.{answer_on}
 use Rattle.cs_laws.specs.Sessions.{is_active, server_state, client_state, is_client_active, is_broken, is_last}
-use Rattle.cs_theorems.proofs.Phase.{all_realms, again, call, run_phase}
+use Rattle.cs_theorems.proofs.Phase.{all_realms, again, call, run_phase, resumption_now}
 use Rattle.cs_laws.specs.Reports.{request_again, requests_again, flushes_again, open_requests, unretired}
 use Rattle.cs_theorems.proofs.Tests.{filter_each}
 use Rattle.cs_theorems.proofs.Sessions.{active_too, live_whole, active_live, settled}
@@ -71,16 +71,12 @@ told_one h m g way file answered known i =
     ((way, subst (λ o. IfFile (λ f. known_behind (requests h) (to_client h) (λ k. client_knows h k) f ≡ true) o) (sym file) (i.knows g known)), answered)
     (each_nil (λ n. ForClient (λ f. known_behind (requests h) (to_client h) (λ k. client_knows h k) f ≡ true) n × IsAnswered (requests h) n))
 
-both_true : (b c : Bool) → b ≡ true → c ≡ true → (b && c) ≡ true
-both_true true c is also = also
-both_true false c is also = absurd cc
-
 step_grant : (h : List Entry) (g : ℕ) (bits : Caps) (end : ℕ) → AllFly h → AllFly (record { event = e.Grant g bits end; answer = answer_grant h g bits end } ∷ h)
 step_grant h g bits end i =
     let m : Message = cap_message g (granted (server h g) bits end) in
     cond_both (server_knows h g) _ _ (λ x. AllFly (record { event = e.Grant g bits end; answer = x } ∷ h))
     (λ known. cond_both (is_active (server_state h)) _ _ (λ x. AllFly (record { event = e.Grant g bits end; answer = x } ∷ h))
-    (λ active. flies_told _ _ _ _ _ _ _ (m ∷ []) (told_one h m g refl refl tt (both_true (is_active (server_state h)) (server_knows h g) active known) i) i)
+    (λ active. flies_told _ _ _ _ _ _ _ (m ∷ []) (told_one h m g refl refl tt (and_from (is_active (server_state h)) (server_knows h g) active known) i) i)
     (λ _. i))
     (λ _. i)
 
@@ -89,7 +85,7 @@ step_revoke h g bits i =
     let m : Message = cap_message g (revoked (server h g) bits) in
     cond_both (server_knows h g) _ _ (λ x. AllFly (record { event = e.Revoke g bits; answer = x } ∷ h))
     (λ known. cond_both (is_active (server_state h)) _ _ (λ x. AllFly (record { event = e.Revoke g bits; answer = x } ∷ h))
-    (λ active. flies_told _ _ _ _ _ _ _ (m ∷ []) (told_one h m g refl refl tt (both_true (is_active (server_state h)) (server_knows h g) active known) i) i)
+    (λ active. flies_told _ _ _ _ _ _ _ (m ∷ []) (told_one h m g refl refl tt (and_from (is_active (server_state h)) (server_knows h g) active known) i) i)
     (λ _. i))
     (λ _. i)
 
@@ -240,7 +236,7 @@ served_with h fs f = is_active (server_state h) && (setup_file h f || makes_file
 still_served : (h : List Entry) (r : Record) → made_of r.body ≡ [] → (f : ℕ) → served_with h (fresh h ++ r ∷ []) f ≡ true → is_served h f ≡ true
 still_served h r none f is =
     let both = and_parts (is_active (server_state h)) _ is in
-    both_true (is_active (server_state h)) (server_knows h f) both.0 (served_before h (fresh h) r none f both.1)
+    and_from (is_active (server_state h)) (server_knows h f) both.0 (served_before h (fresh h) r none f both.1)
 
 -- after one record more
 abbrev Recorded : List Entry → List Message → List Message → Record → Type 0
@@ -254,10 +250,6 @@ recorded_plain h r none known i =
 abbrev Behind : List Entry → List Message → List Message → List Record → Type 0
 Behind h q p fs = Flies (requests h) (λ f. client_knows h f) (λ f. served_with h fs f) q p (durable h) fs
 
--- what the server tells with the last of what is sent again
-abbrev Goes : List Entry → List Message
-Goes h = resumption (is_last (server_state h)) (all_realms h)
-
 -- a message to the client that is of no file and makes none
 abbrev Quiet : List Entry → List Message → Message → Type 0
 Quiet h q n = ForClient (λ f. known_behind (requests h) q (λ k. client_knows h k) f ≡ true) n × IsAnswered (requests h) n
@@ -266,11 +258,11 @@ told_goes : (h : List Entry) (q p : List Message) (fs : List Record) (b : Bool) 
 told_goes h q p fs b i = flies_told _ _ _ _ _ _ _ (resumption b (all_realms h)) (each_resumption (Quiet h q) b (all_realms h) ((refl, tt), tt)) i
 
 behind_flushed : (h : List Entry) (y : Flush) (q : List Message) → to_server h ≡ flush_message y ∷ q → AllFly h
-    → Behind h (to_client h ++ Goes h) (drop 1 (to_server h)) (fresh h ++ recorded (to_server h))
+    → Behind h (to_client h ++ resumption_now h) (drop 1 (to_server h)) (fresh h ++ recorded (to_server h))
 behind_flushed h y q is i =
-    subst (λ p. Behind h (to_client h ++ Goes h) (drop 1 p) (fresh h ++ recorded p)) (sym is)
-    (subst (λ rs. Behind h (to_client h ++ Goes h) q (fresh h ++ rs)) (sym (recorded_one y))
-    (subst (λ p. Recorded h (to_client h ++ Goes h) (drop 1 p) (flush_record y)) is
+    subst (λ p. Behind h (to_client h ++ resumption_now h) (drop 1 p) (fresh h ++ recorded p)) (sym is)
+    (subst (λ rs. Behind h (to_client h ++ resumption_now h) q (fresh h ++ rs)) (sym (recorded_one y))
+    (subst (λ p. Recorded h (to_client h ++ resumption_now h) (drop 1 p) (flush_record y)) is
     (told_goes h (to_client h) (drop 1 (to_server h)) (fresh h ++ flush_record y ∷ []) (is_last (server_state h))
     (flies_served _ _ _ _ _ _ _ _ (λ f there. still_served h (flush_record y) refl f there)
     (flies_recorded _ _ _ _ _ _ _ (flush_record y) known (flies_gone _ _ _ _ _ _ _ i))))))
@@ -279,18 +271,18 @@ behind_flushed h y q is i =
     known = flush_known (requests h) (IsKnown h) y (i.received (flush_message y) (member_first (flush_message y) q (to_server h) is))
 
 behind_requested : (h : List Entry) (tid : ℕ) (ino : Option ℕ) (op : ReqOp) (q : List Message) → to_server h ≡ messages.Req tid ino op ∷ q → AllFly h
-    → Behind h (to_client h ++ unsafe_message (server_state h) tid (answer_on (names h) op) ∷ Goes h) (drop 1 (to_server h))
+    → Behind h (to_client h ++ unsafe_message (server_state h) tid (answer_on (names h) op) ∷ resumption_now h) (drop 1 (to_server h))
     (fresh h ++ requested (answer_on (names h) op) (to_server h))
 behind_requested h tid ino op q is i =
-    subst (λ p. Behind h (to_client h ++ m ∷ Goes h) (drop 1 p) (fresh h ++ requested reply p)) (sym is)
-    (subst (λ p. Recorded h (to_client h ++ m ∷ Goes h) (drop 1 p) done) is
-    (subst (λ r. Recorded h r (drop 1 (to_server h)) done) (append_assoc (to_client h) (m ∷ []) (Goes h))
+    subst (λ p. Behind h (to_client h ++ m ∷ resumption_now h) (drop 1 p) (fresh h ++ requested reply p)) (sym is)
+    (subst (λ p. Recorded h (to_client h ++ m ∷ resumption_now h) (drop 1 p) done) is
+    (subst (λ r. Recorded h r (drop 1 (to_server h)) done) (append_assoc (to_client h) (m ∷ []) (resumption_now h))
     (told_goes h (to_client h ++ m ∷ []) (drop 1 (to_server h)) (fresh h ++ done ∷ []) (is_last (server_state h))
     (flies_made (requests h) (λ f. client_knows h f) (λ f. is_served h f) _ (to_client h) (drop 1 (to_server h)) (durable h) (fresh h ++ done ∷ []) m refl refl
     asked.0
     (λ f there.
     let both = and_parts (is_active (server_state h)) _ there in
-    ⊎_elim (λ old. inl (both_true (is_active (server_state h)) (server_knows h f) both.0 old))
+    ⊎_elim (λ old. inl (and_from (is_active (server_state h)) (server_knows h f) both.0 old))
     (λ new. inr (ap (λ o. makes_file f (made_by o reply)) asked.1 ∙ new)) (served_more h (fresh h) done f both.1))
     (flies_recorded _ _ _ _ _ _ _ done tt (flies_gone _ _ _ _ _ _ _ i))))))
   where
@@ -324,7 +316,7 @@ settle_now h x now i =
     (λ f is.
     let both = and_parts (is_active (server_state (record { event = e.ToMds; answer = x } ∷ h))) _ is in
     ⊎_elim
-    (λ was. i.knows f (both_true (is_active (server_state h)) (server_knows (record { event = e.ToMds; answer = x } ∷ h) f) was both.1))
+    (λ was. i.knows f (and_from (is_active (server_state h)) (server_knows (record { event = e.ToMds; answer = x } ∷ h) f) was both.1))
     (λ all. all f both.1)
     (now both.0)) i
 
@@ -336,7 +328,7 @@ step_to_mds h x (received_reconnect caps known resends q is) now i =
 step_to_mds h x (received_flush y q is first) now i = settle_now h (a.Flushed y.file y.tid) now (behind_flushed h y q is i)
 step_to_mds h x (received_again y q is again) now i =
     settle_now h (a.FlushDup y.file y.tid) now
-    (subst (λ r. Behind h r (drop 1 (to_server h)) (fresh h)) (append_assoc (to_client h) (acked_again y.file y.tid (durable h)) (Goes h))
+    (subst (λ r. Behind h r (drop 1 (to_server h)) (fresh h)) (append_assoc (to_client h) (acked_again y.file y.tid (durable h)) (resumption_now h))
     (told_goes h (to_client h ++ acked_again y.file y.tid (durable h)) (drop 1 (to_server h)) (fresh h) (is_last (server_state h))
     (flies_gone _ _ _ _ _ _ _
     (flies_told _ _ _ _ _ _ _ (acked_again y.file y.tid (durable h))
@@ -349,7 +341,7 @@ step_to_mds h x (received_req tid ino op q is first) now i = settle_now h (a.Req
 step_to_mds h x (received_req_again tid ino op q is again) now i =
     let o : OpAnswer = unwrap_or (answer_kept tid (stand h)) replies.Missing in
     settle_now h (a.ReqDup tid o) now
-    (subst (λ r. Behind h r (drop 1 (to_server h)) (fresh h)) (append_assoc (to_client h) (answered_again tid o (durable h)) (Goes h))
+    (subst (λ r. Behind h r (drop 1 (to_server h)) (fresh h)) (append_assoc (to_client h) (answered_again tid o (durable h)) (resumption_now h))
     (told_goes h (to_client h ++ answered_again tid o (durable h)) (drop 1 (to_server h)) (fresh h) (is_last (server_state h))
     (flies_gone _ _ _ _ _ _ _
     (flies_told _ _ _ _ _ _ _ (answered_again tid o (durable h))
@@ -425,7 +417,7 @@ step_file p h g d i =
       knows = λ f is.
           ⊎_elim
           (λ setup. behind_has (requests h) (to_client h) more f (or_left _ _ setup))
-          (λ made. j.knows f (both_true (is_active (server_state h)) (server_knows h f) (active f is) (or_right (setup_file h f) _ made)))
+          (λ made. j.knows f (and_from (is_active (server_state h)) (server_knows h f) (active f is) (or_right (setup_file h f) _ made)))
           (or_cases (setup_file (entry p h (e.File g d) ∷ h) f) (makes_file f (server_made h)) (and_parts (is_active (server_state h)) _ is).1);
       received = j.received;
       durable = j.durable;
@@ -489,15 +481,6 @@ all_fly p h run =
 -- what is delivered to the client next is of a file that it knows
 pub told_known : (p : ℕ) (h : List Entry) (m : Message) (q : List Message) → IsRun p h → to_client h ≡ m ∷ q → IsToldClient h m
 told_known p h m q run is = (subst (λ l. Tells (requests h) (λ f. client_knows h f) l) is (all_fly p h run).told).0
-
--- what is on its way to the client goes there
-each_told_way : (xs : List Request) (q : List Message) (known : ℕ → Bool) → Tells xs known q → Each (λ m. is_for_client m ≡ true) q
-each_told_way xs [] known i = each_nil (λ m. is_for_client m ≡ true)
-each_told_way xs (m ∷ q) known i =
-    each_cons (λ n. is_for_client n ≡ true) m q i.0.0 (each_told_way xs q (λ f. known_with xs m known f) i.2)
-
-pub told_way : (p : ℕ) (h : List Entry) → IsRun p h → Each (λ m. is_for_client m ≡ true) (to_client h)
-told_way p h run = each_told_way (requests h) (to_client h) (λ f. client_knows h f) (all_fly p h run).told
 
 of_received : (xs : List Request) (Known : ℕ → Type 0) (m : Message) → IsReceived xs Known m → ForServer Known m
 of_received xs Known (messages.Req tid ino op) k = (refl, tt)

@@ -22,7 +22,7 @@ use Rattle.cs_laws.specs.Tree.{is_directory}
 use Rattle.cs_theorems.specs.Asked.{Asked, Settles, asked, asked_made, asked_of, stage}
 use Rattle.cs_theorems.proofs.Asked.{log_made, made_same, makes_is, names_stage, settle_front}
 use Rattle.cs_theorems.proofs.AsksRun.{alike_length, asked_alike, asked_settles, setup_fresh}
-use Rattle.cs_theorems.proofs.Sides.{all_dir, setup_used}
+use Rattle.cs_theorems.proofs.Sides.{setup_used}
 use Rattle.cs_theorems.proofs.Trees.{all_are_used, dirs_are, file_used, more_used, used_grow, used_of}
 use Rattle.cs_theorems.proofs.AskedTold.{asked_stands}
 
@@ -136,12 +136,3 @@ made_few p h run =
       alike_length (requests h) (asked h) (asked_alike p h run),
       requests_few h,
     )
-
--- each directory that was ever asked for has an inode of at most so much
-pub all_dirs_low : (p : ℕ) (h : List Entry) → IsRun p h → (d : ℕ) → all_dir h d ≡ true → d < 10000 + length h
-all_dirs_low p h run d is =
-    let settles = asked_settles p h run in
-    let low : d < next_ino (stage (setup_names h) (asked h))
-    = low_stage 0 (setup_names h) (asked h) (λ k. is_in_use h k) settles (setup_fresh p h run).low d
-    (all_are_used (asked_made (asked h)) (λ k. is_directory h k) (λ k. is_in_use h k) (setup_used h) d is) in
-    omega (arith, low, made_stage (setup_names h) (asked h), setup_made h, alike_length (requests h) (asked h) (asked_alike p h run), requests_few h)
