@@ -1,5 +1,5 @@
 -- What a run says of the message that is delivered next.
-use Rattle.std.proofs.Common.{◌≡◌, refl, sym, subst, ℕ, ◌≤◌, true, false, List, [], ◌∷◌, Option, Some, length, arith, inl}
+use Rattle.std.proofs.Common.{◌≡◌, refl, sym, subst, ℕ, ◌≤◌, true, false, List, [], ◌∷◌, Option, Some, length, arith, inl, Bool, cond, inr, ◌==◌, ◌∙◌}
 use Rattle.cs_laws.specs.declared.answers.Entry.{Entry}
 use Rattle.cs_laws.specs.declared.messages.Message.{Message}
 use Rattle.cs_laws.specs.declared.messages.Message.TheVariants as messages
@@ -17,7 +17,7 @@ use Rattle.cs_laws.specs.Sessions.{client_state, is_active, is_broken, is_client
 use Rattle.cs_theorems.specs.Phases.{Calls, IsWork}
 use Rattle.cs_laws.specs.Runs.{IsRun}
 use Rattle.cs_laws.specs.Standing.{answer_kept, greatest_request, greatest_tid}
-use Rattle.cs_theorems.specs.Asked.{Asked, asked, asked_of}
+use Rattle.cs_theorems.specs.Asked.{Asked, asked, asked_of, Settles}
 use Rattle.cs_theorems.specs.Flushes.{is_whole, flushes_in}
 use Rattle.cs_theorems.proofs.Acks.{run_acked}
 use Rattle.cs_theorems.proofs.AskedStands.{Sending, again_stands, answer_found, greatest_stands, same_tid, settles_rises, stands_rise, tid_member}
@@ -34,6 +34,14 @@ use Rattle.cs_laws.specs.Carried.{flush_in}
 use Rattle.cs_theorems.proofs.Standing.{HasTid, tid_has}
 use Rattle.cs_theorems.proofs.Replays.{stands_sent}
 use Rattle.std.proofs.lemmas.List.Elements.{filter_map-append}
+use Rattle.cs_laws.specs.Requests.{Reply, is_resent, replies, reply_to}
+use Rattle.cs_theorems.proofs.Asked.{settle_front}
+use Rattle.cs_theorems.proofs.Asks.{unsafe_next}
+use Rattle.cs_theorems.proofs.Repeats.{reply_again}
+use Rattle.cs_theorems.proofs.Tests.{any_true}
+use Rattle.std.specs.Prelude.{find}
+use Rattle.std.specs.Option.{option_map}
+use Rattle.std.proofs.lemmas.Bool.{eqb-true, eq-eqb}
 
 -- The session's phase
 
@@ -140,3 +148,34 @@ run_ack p h run f tid q is =
       number = y.tid;
       low = omega (arith, upto_numbered (sent h) (run_numbered p h run) y.flush was, y.tid);
     }
+
+-- Another answer to a request comes only where that was sent again, and is the same.
+pub record SameAgain (h : List Entry) (t : ℕ) (told o : OpAnswer) : Type 0 where
+  pub resent : is_resent h t ≡ true
+  pub same : told ≡ o
+
+-- the first answer of a number is one of them
+reply_there : (t : ℕ) (rs : List Reply) (o : OpAnswer) → reply_to t rs ≡ Some o → (r : Reply) × Member r rs × (r.tid ≡ t) × (r.answer ≡ o)
+reply_there t [] o is = absurd cc
+reply_there t (r ∷ rs) o is = at (r.tid == t) refl is (λ rest. reply_there t rs o rest)
+  where
+    at : (b : Bool) → (r.tid == t) ≡ b → option_map (λ (k : Reply). k.answer) (cond b (Some r) (find (λ k. k.tid == t) rs)) ≡ Some o
+        → (reply_to t rs ≡ Some o → (k : Reply) × Member k rs × (k.tid ≡ t) × (k.answer ≡ o))
+        → (k : Reply) × Member k (r ∷ rs) × (k.tid ≡ t) × (k.answer ≡ o)
+    at true same own rest = (r, inl refl, eqb-true r.tid t same, cc)
+    at false none own rest = let k = rest own in (k.0, inr k.1, k.2, k.3)
+
+pub run_same_again : (p : ℕ) (h : List Entry) → IsRun p h → (t : ℕ) (o : OpAnswer) (ttl : ℕ) (q : List Message) → to_client h ≡ messages.Unsafe t o ttl ∷ q
+    → (told : OpAnswer) → reply_to t (replies h) ≡ Some told → SameAgain h t told o
+run_same_again p h run t o ttl q is told had =
+    let k = reply_there t (replies h) told had in
+    record {
+      resent = reply_again p h run t o ttl q is (any_true (λ r. r.tid == t) (replies h) k.0 k.1 (eq-eqb k.0.tid t k.2));
+      same = sym k.3 ∙ (unsafe_next p h run t o ttl q is).again k.0 k.1 k.2;
+    }
+
+-- The standing requests are numbered 1, 2, 3, .., each with the answer on the names that those before it leave.
+pub run_settled : (p : ℕ) (h : List Entry) → IsRun p h → Settles 0 (setup_names h) (asked_of (stand h))
+run_settled p h run =
+    let i = asked_stands p h run in
+    settle_front 0 (setup_names h) (asked_of (stand h)) i.missing (subst (λ xs. Settles 0 (setup_names h) xs) i.front (asked_settles p h run))
