@@ -165,7 +165,8 @@ reply_there t (r ∷ rs) o is = at (r.tid == t) refl is (λ rest. reply_there t 
     at true same own rest = (r, inl refl, eqb-true r.tid t same, cc)
     at false none own rest = let k = rest own in (k.0, inr k.1, k.2, k.3)
 
-pub run_same_again : (p : ℕ) (h : List Entry) → IsRun p h → (t : ℕ) (o : OpAnswer) (ttl : ℕ) (q : List Message) → to_client h ≡ messages.Unsafe t o ttl ∷ q
+pub run_same_again : (p : ℕ) (h : List Entry) → IsRun p h → (t : ℕ) (o : OpAnswer) (ttl : ℕ) (q : List Message)
+    → to_client h ≡ messages.Unsafe t o ttl ∷ q
     → (told : OpAnswer) → reply_to t (replies h) ≡ Some told → SameAgain h t told o
 run_same_again p h run t o ttl q is told had =
     let k = reply_there t (replies h) told had in

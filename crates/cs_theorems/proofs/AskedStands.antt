@@ -405,7 +405,8 @@ flushes_asked zs [] = each_nil (λ m. IsAsked zs m)
 flushes_asked zs (x ∷ xs) = each_cons (λ m. IsAsked zs m) (flush_message x) (map flush_message xs) (flush_asked zs x) (flushes_asked zs xs)
 
 -- what a report and these requests and flushes behind it have of requests
-pub call_tids : (caps : List CapReport) (known : List RealmSeq) (rs : List Reply) (due : ℕ → Bool) (us : List Request) (xs : List Asked) (fs : List Flush)
+pub call_tids : (caps : List CapReport) (known : List RealmSeq) (rs : List Reply) (due : ℕ → Bool) (us : List Request) (xs : List Asked)
+    (fs : List Flush)
     → Alike us xs
     → req_tids (calling caps known (map (request_again rs) (filter (λ x. due x.tid) us) ++ map flush_message fs)) ≡ filter due (asked_tids xs)
 call_tids caps known rs due us xs fs alike =

@@ -181,9 +181,11 @@ told_server : (h : List Entry) (x : Answer) → ReceivedIs h x → AskedStands h
 told_server h x received_idle stands i = i
 told_server h x (received_ack g seq bits q is) stands i = i
 told_server h x (received_reconnect caps known resends q is) stands i =
-    each_append (λ m. Told h m) (to_client h) (resumption (resends == 0) (all_realms h)) i (each_resumption (λ m. Told h m) (resends == 0) (all_realms h) tt)
+    each_append (λ m. Told h m) (to_client h) (resumption (resends == 0) (all_realms h)) i
+    (each_resumption (λ m. Told h m) (resends == 0) (all_realms h) tt)
 told_server h x (received_flush y q is first) stands i =
-    subst (λ p. Each (λ m. IsTold (asked_of (durable h ++ (fresh h ++ recorded p))) (asked_of (durable h)) m) (to_client h ++ resumption_now h)) (sym is)
+    subst (λ p. Each (λ m. IsTold (asked_of (durable h ++ (fresh h ++ recorded p))) (asked_of (durable h)) m) (to_client h ++ resumption_now h))
+    (sym is)
     (subst (λ rs. Each (λ m. IsTold (asked_of (durable h ++ (fresh h ++ rs))) (asked_of (durable h)) m) (to_client h ++ resumption_now h))
     (sym (recorded_one y))
     (each_append (λ m. IsTold (asked_of (durable h ++ (fresh h ++ flush_record y ∷ []))) (asked_of (durable h)) m) (to_client h) (resumption_now h)

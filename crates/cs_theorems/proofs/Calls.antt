@@ -223,5 +223,6 @@ taken_is caps (g ∷ fs) f = at (g == f) refl (taken_is caps fs f)
     at : (b : Bool) → (g == f) ≡ b → TakenIs caps fs f (caps_reported (reports caps fs) f)
         → TakenIs caps (g ∷ fs) f (reported (cond b (Some (report_of g (caps g))) (find (λ r. r.ino == f) (reports caps fs))))
     at true same rest =
-        subst (λ k. TakenIs caps (k ∷ fs) f (adopted (caps k).issued (caps k).implemented (caps k).max)) (sym (eqb-true g f same)) (taken_report (inl refl))
+        subst (λ k. TakenIs caps (k ∷ fs) f (adopted (caps k).issued (caps k).implemented (caps k).max)) (sym (eqb-true g f same))
+        (taken_report (inl refl))
     at false other rest = taken_more caps g fs f _ (λ is. both_ways (g == f) other (eq-eqb g f is)) rest

@@ -71,10 +71,12 @@ not_behind xs got fl t more i there =
 
 -- Steps
 
-told_also : (h : List Entry) (r : List Message) → unsafe_tids r ≡ [] → RepliesOnce h → OnceOf h (unsafe_tids (to_client h ++ r) ++ req_tids (to_server h))
+told_also : (h : List Entry) (r : List Message) → unsafe_tids r ≡ [] → RepliesOnce h
+    → OnceOf h (unsafe_tids (to_client h ++ r) ++ req_tids (to_server h))
 told_also h r none i = subst (λ ts. OnceOf h ts) (moved_more (to_client h) r (req_tids (to_server h)) none) i
 
-sent_also : (h : List Entry) (m : Message) → req_on m ≡ None → RepliesOnce h → OnceOf h (unsafe_tids (to_client h) ++ req_tids (to_server h ++ m ∷ []))
+sent_also : (h : List Entry) (m : Message) → req_on m ≡ None → RepliesOnce h
+    → OnceOf h (unsafe_tids (to_client h) ++ req_tids (to_server h ++ m ∷ []))
 sent_also h m none i = subst (λ ts. OnceOf h (unsafe_tids (to_client h) ++ ts)) (req_end (to_server h) m none) i
 
 step_grant : (h : List Entry) (g : ℕ) (bits : Caps) (end : ℕ) (x : Answer) → GrantIs h g (granted (server h g) bits end) x → RepliesOnce h
@@ -184,7 +186,8 @@ step_client h x (first_unsafe tid o ttl q is) phase told i =
 taken : (h : List Entry) (m : Message) (p r : List Message) → req_on m ≡ None → unsafe_tids r ≡ [] → to_server h ≡ m ∷ p → RepliesOnce h
     → OnceOf h (unsafe_tids (to_client h ++ r) ++ req_tids (drop 1 (to_server h)))
 taken h m p r none quiet is i =
-    at_first (λ s. OnceOf h (unsafe_tids (to_client h) ++ req_tids s)) (λ s. OnceOf h (unsafe_tids (to_client h ++ r) ++ req_tids s)) m p (to_server h) is
+    at_first (λ s. OnceOf h (unsafe_tids (to_client h) ++ req_tids s)) (λ s. OnceOf h (unsafe_tids (to_client h ++ r) ++ req_tids s)) m p
+    (to_server h) is
     (λ j. subst (λ ts. OnceOf h ts) (ap (λ ts. unsafe_tids (to_client h) ++ ts) (req_first m p none) ∙ moved_more (to_client h) r (req_tids p) quiet) j) i
 
 -- a request does, and is answered
@@ -199,9 +202,11 @@ answered_one h tid ino op p r one is i =
 step_server : (h : List Entry) (x : Answer) → ReceivedIs h x → RepliesOnce h → RepliesOnce (record { event = e.ToMds; answer = x } ∷ h)
 step_server h x received_idle i = i
 step_server h x (received_ack g seq bits q is) i =
-    subst (λ r. OnceOf h (unsafe_tids r ++ req_tids (drop 1 (to_server h)))) (append-nil (to_client h)) (taken h (messages.CapAck g seq bits) q [] refl refl is i)
+    subst (λ r. OnceOf h (unsafe_tids r ++ req_tids (drop 1 (to_server h)))) (append-nil (to_client h))
+    (taken h (messages.CapAck g seq bits) q [] refl refl is i)
 step_server h x (received_reconnect caps known resends q is) i =
-    taken h (messages.Reconnect caps known resends) q (resumption (resends == 0) (all_realms h)) refl (no_unsafe_resumption (resends == 0) (all_realms h)) is i
+    taken h (messages.Reconnect caps known resends) q (resumption (resends == 0) (all_realms h)) refl
+    (no_unsafe_resumption (resends == 0) (all_realms h)) is i
 step_server h x (received_flush y q is first) i = taken h (flush_message y) q (resumption_now h) (flush_no_req y) (none_goes h) is i
 step_server h x (received_again y q is again) i =
     taken h (flush_message y) q (acked_again y.file y.tid (durable h) ++ resumption_now h) (flush_no_req y)
@@ -210,7 +215,8 @@ step_server h x (received_again y q is again) i =
     (each_again (λ m. unsafe_on m ≡ None) y.file y.tid (durable h) (λ _. refl))
     (each_resumption (λ m. unsafe_on m ≡ None) (is_last (server_state h)) (all_realms h) refl))) is i
 step_server h x (received_req tid ino op q is first) i =
-    answered_one h tid ino op q (unsafe_message (server_state h) tid (answer_on (names h) op) ∷ resumption_now h) (ap (λ ts. tid ∷ ts) (none_goes h)) is i
+    answered_one h tid ino op q (unsafe_message (server_state h) tid (answer_on (names h) op) ∷ resumption_now h)
+    (ap (λ ts. tid ∷ ts) (none_goes h)) is i
 step_server h x (received_req_again tid ino op q is again) i =
     let o : OpAnswer = unwrap_or (answer_kept tid (stand h)) replies_of.Missing in
     answered_one h tid ino op q (answered_again tid o (durable h) ++ resumption_now h)

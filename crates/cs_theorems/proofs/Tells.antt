@@ -61,7 +61,8 @@ abbrev pub Tells : List Request → (ℕ → Bool) → List Message → Type 0
 Tells xs known [] = Unit {0}
 Tells xs known (m ∷ q) = ForClient (λ f. known f ≡ true) m × IsAnswered xs m × Tells xs (λ f. known_with xs m known f) q
 
-pub behind_more : (xs : List Request) (q : List Message) (known more : ℕ → Bool) (f : ℕ) → ((k : ℕ) → known k ≡ true → more k ≡ true) → known_behind xs q known f ≡ true
+pub behind_more : (xs : List Request) (q : List Message) (known more : ℕ → Bool) (f : ℕ) → ((k : ℕ) → known k ≡ true → more k ≡ true)
+    → known_behind xs q known f ≡ true
     → known_behind xs q more f ≡ true
 behind_more xs [] known more f grows is = grows f is
 behind_more xs (m ∷ q) known more f grows is =
@@ -77,7 +78,8 @@ pub behind_append : (xs : List Request) (q p : List Message) (known : ℕ → Bo
 behind_append xs [] p known f = refl
 behind_append xs (m ∷ q) p known f = behind_append xs q p (λ k. known_with xs m known k) f
 
-pub tells_more : (xs : List Request) (q : List Message) (known more : ℕ → Bool) → ((k : ℕ) → known k ≡ true → more k ≡ true) → Tells xs known q → Tells xs more q
+pub tells_more : (xs : List Request) (q : List Message) (known more : ℕ → Bool) → ((k : ℕ) → known k ≡ true → more k ≡ true) → Tells xs known q
+    → Tells xs more q
 tells_more xs [] known more grows i = tt
 tells_more xs (m ∷ q) known more grows i = (
   (i.0.0, if_more (λ f. known f ≡ true) (λ f. more f ≡ true) grows (file_of m) i.0.1),
@@ -86,12 +88,14 @@ tells_more xs (m ∷ q) known more grows i = (
       (λ k was. ⊎_elim (λ old. or_left (more k) _ (grows k old)) (λ new. or_right (more k) _ new) (or_cases (known k) (makes_file k (made_on xs m)) was)) i.2,
 )
 
-pub tells_append : (xs : List Request) (q p : List Message) (known : ℕ → Bool) → Tells xs known q → Tells xs (λ k. known_behind xs q known k) p → Tells xs known (q ++ p)
+pub tells_append : (xs : List Request) (q p : List Message) (known : ℕ → Bool) → Tells xs known q → Tells xs (λ k. known_behind xs q known k) p
+    → Tells xs known (q ++ p)
 tells_append xs [] p known i j = j
 tells_append xs (m ∷ q) p known i j = (i.0, i.1, tells_append xs q p (λ k. known_with xs m known k) i.2 j)
 
 -- messages that make nothing
-pub tells_each : (xs : List Request) (p : List Message) (known : ℕ → Bool) → Each (λ m. ForClient (λ f. known f ≡ true) m × IsAnswered xs m) p → Tells xs known p
+pub tells_each : (xs : List Request) (p : List Message) (known : ℕ → Bool) → Each (λ m. ForClient (λ f. known f ≡ true) m × IsAnswered xs m) p
+    → Tells xs known p
 tells_each xs [] known ks = tt
 tells_each xs (m ∷ p) known ks = (
   (ks m (inl refl)).0,
@@ -130,7 +134,8 @@ tells_sent xs ys (m ∷ q) known i = (
   subst (λ ms. Tells (xs ++ ys) (λ f. known f || makes_file f ms) q) (sym (made_more xs ys m i.1)) (tells_sent xs ys q (λ f. known_with xs m known f) i.2),
 )
 
-pub behind_sent : (xs ys : List Request) (q : List Message) (known : ℕ → Bool) (f : ℕ) → Tells xs known q → known_behind (xs ++ ys) q known f ≡ known_behind xs q known f
+pub behind_sent : (xs ys : List Request) (q : List Message) (known : ℕ → Bool) (f : ℕ) → Tells xs known q
+    → known_behind (xs ++ ys) q known f ≡ known_behind xs q known f
 behind_sent xs ys [] known f i = refl
 behind_sent xs ys (m ∷ q) known f i =
     ap (λ ms. known_behind (xs ++ ys) q (λ k. known k || makes_file k ms) f) (made_more xs ys m i.1)
@@ -156,7 +161,8 @@ pub record Flies (xs : List Request) (known served : ℕ → Bool) (q p : List M
 
 -- More files are known
 
-pub received_more : (xs : List Request) (Known More : ℕ → Type 0) → ((f : ℕ) → Known f → More f) → (m : Message) → IsReceived xs Known m → IsReceived xs More m
+pub received_more : (xs : List Request) (Known More : ℕ → Type 0) → ((f : ℕ) → Known f → More f) → (m : Message) → IsReceived xs Known m
+    → IsReceived xs More m
 received_more xs Known More more (messages.Req tid ino op) i = i
 received_more xs Known More more (messages.CapAck f seq bits) i = (i.0, more f i.1)
 received_more xs Known More more (messages.Flush f tid follows meta) i = (i.0, more f i.1)
@@ -174,7 +180,8 @@ pub received_sent : (xs ys : List Request) (Known : ℕ → Type 0) (m : Message
 received_sent xs ys Known (messages.Req tid ino op) i = (request_more tid xs ys i.0, ap (option_map (λ y. y.op)) (found_more tid xs ys i.0) ∙ i.1)
 received_sent xs ys Known _ i = i
 
-pub flies_more : (xs : List Request) (known more served : ℕ → Bool) → ((f : ℕ) → known f ≡ true → more f ≡ true) → (q p : List Message) (ds fs : List Record)
+pub flies_more : (xs : List Request) (known more served : ℕ → Bool) → ((f : ℕ) → known f ≡ true → more f ≡ true)
+    → (q p : List Message) (ds fs : List Record)
     → Flies xs known served q p ds fs → Flies xs more served q p ds fs
 flies_more xs known more served grows q p ds fs i = record {
   told = tells_more xs q known more grows i.told;
@@ -187,7 +194,8 @@ flies_more xs known more served grows q p ds fs i = record {
 
 -- What is told and recorded
 
-pub of_told : (Known : ℕ → Type 0) (before : List Record) (realms : List RealmRecord) (b : RecordBody) → ForLog Known b → ForClient Known (news_of before realms b)
+pub of_told : (Known : ℕ → Type 0) (before : List Record) (realms : List RealmRecord) (b : RecordBody) → ForLog Known b
+    → ForClient Known (news_of before realms b)
 of_told Known before realms (bodies.Request tid op answer) k = (refl, tt)
 of_told Known before realms (bodies.Flush snap f tid follows meta) k = (refl, k)
 of_told Known before realms (bodies.Snap number d name) k = (refl, tt)
@@ -199,7 +207,8 @@ news_answered xs before realms (bodies.Flush snap f tid follows meta) = tt
 news_answered xs before realms (bodies.Snap number d name) = tt
 news_answered xs before realms (bodies.Removal t number) = tt
 
-pub each_told : (Known : ℕ → Type 0) (xs : List Request) (up : ℕ → List ℕ) (dirs : List ℕ) (ss : List RealmRecord) (before rs : List Record) → Each (λ x. ForLog Known x.body) rs
+pub each_told : (Known : ℕ → Type 0) (xs : List Request) (up : ℕ → List ℕ) (dirs : List ℕ) (ss : List RealmRecord) (before rs : List Record)
+    → Each (λ x. ForLog Known x.body) rs
     → Each (λ m. ForClient Known m × IsAnswered xs m) (news up dirs ss before rs)
 each_told Known xs up dirs ss before [] ks = each_nil (λ m. ForClient Known m × IsAnswered xs m)
 each_told Known xs up dirs ss before (x ∷ rs) ks =
@@ -214,7 +223,8 @@ module _ (xs : List Request) (known served : ℕ → Bool) where
   Is f = known f ≡ true
 
   -- messages that make nothing are sent to the client
-  pub flies_told : (q p : List Message) (ds fs : List Record) (new : List Message) → Each (λ m. ForClient (λ f. known_behind xs q known f ≡ true) m × IsAnswered xs m) new
+  pub flies_told : (q p : List Message) (ds fs : List Record) (new : List Message)
+      → Each (λ m. ForClient (λ f. known_behind xs q known f ≡ true) m × IsAnswered xs m) new
       → Flies xs known served q p ds fs → Flies xs known served (q ++ new) p ds fs
   flies_told q p ds fs new ks i = record {
     told = tells_append xs q new known i.told (tells_each xs new (λ k. known_behind xs q known k) ks);
@@ -269,7 +279,8 @@ module _ (xs : List Request) (known served : ℕ → Bool) where
   }
 
   -- the first message is delivered, and more may be known
-  pub flies_first : (m : Message) (q p : List Message) (ds fs : List Record) (more : ℕ → Bool) → ((f : ℕ) → known_with xs m known f ≡ true → more f ≡ true)
+  pub flies_first : (m : Message) (q p : List Message) (ds fs : List Record) (more : ℕ → Bool)
+      → ((f : ℕ) → known_with xs m known f ≡ true → more f ≡ true)
       → Flies xs known served (m ∷ q) p ds fs → Flies xs more served q p ds fs
   flies_first m q p ds fs more grows i =
       let from : (f : ℕ) → known f ≡ true → more f ≡ true = λ f is. grows f (or_left (known f) _ is) in
@@ -282,7 +293,8 @@ module _ (xs : List Request) (known served : ℕ → Bool) where
         low = i.low;
       }
 
-  pub flies_commit : (up : ℕ → List ℕ) (dirs : List ℕ) (ss : List RealmRecord) (q p : List Message) (ds fs : List Record) → Flies xs known served q p ds fs
+  pub flies_commit : (up : ℕ → List ℕ) (dirs : List ℕ) (ss : List RealmRecord) (q p : List Message) (ds fs : List Record)
+      → Flies xs known served q p ds fs
       → Flies xs known served (q ++ news up dirs ss ds fs) p (ds ++ fs) []
   flies_commit up dirs ss q p ds fs i =
       let j = flies_told q p ds fs (news up dirs ss ds fs) (each_told (λ f. known_behind xs q known f ≡ true) xs up dirs ss ds fs
@@ -297,7 +309,8 @@ module _ (xs : List Request) (known served : ℕ → Bool) where
       }
 
 -- the server knows more files: those that the last message to the client tells of
-pub flies_made : (xs : List Request) (known served more : ℕ → Bool) (q p : List Message) (ds fs : List Record) (m : Message) → is_for_client m ≡ true → file_of m ≡ None → IsAnswered xs m
+pub flies_made : (xs : List Request) (known served more : ℕ → Bool) (q p : List Message) (ds fs : List Record) (m : Message)
+    → is_for_client m ≡ true → file_of m ≡ None → IsAnswered xs m
     → ((f : ℕ) → more f ≡ true → (served f ≡ true) ⊎ (makes_file f (made_on xs m) ≡ true)) → Flies xs known served q p ds fs
     → Flies xs known more (q ++ m ∷ []) p ds fs
 flies_made xs known served more q p ds fs m way none answered grows i = record {
@@ -315,7 +328,8 @@ flies_made xs known served more q p ds fs m way none answered grows i = record {
 }
 
 -- fewer count as known to the server
-pub flies_served : (xs : List Request) (known served more : ℕ → Bool) (q p : List Message) (ds fs : List Record) → ((f : ℕ) → more f ≡ true → served f ≡ true)
+pub flies_served : (xs : List Request) (known served more : ℕ → Bool) (q p : List Message) (ds fs : List Record)
+    → ((f : ℕ) → more f ≡ true → served f ≡ true)
     → Flies xs known served q p ds fs → Flies xs known more q p ds fs
 flies_served xs known served more q p ds fs back i =
     record { told = i.told; knows = λ f is. i.knows f (back f is); received = i.received; durable = i.durable; fresh = i.fresh; low = i.low }

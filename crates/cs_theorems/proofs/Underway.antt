@@ -64,7 +64,8 @@ abbrev pub AllFly : List Entry → Type 0
 AllFly h = Flies (requests h) (λ f. client_knows h f) (λ f. is_served h f) (to_client h) (to_server h) (durable h) (fresh h)
 
 -- one message to the client, of a file that the server knows
-told_one : (h : List Entry) (m : Message) (g : ℕ) → is_for_client m ≡ true → file_of m ≡ Some g → IsAnswered (requests h) m → is_served h g ≡ true → AllFly h
+told_one : (h : List Entry) (m : Message) (g : ℕ) → is_for_client m ≡ true → file_of m ≡ Some g → IsAnswered (requests h) m → is_served h g ≡ true
+    → AllFly h
     → Each (λ n. ForClient (λ f. known_behind (requests h) (to_client h) (λ k. client_knows h k) f ≡ true) n × IsAnswered (requests h) n) (m ∷ [])
 told_one h m g way file answered known i =
     each_cons (λ n. ForClient (λ f. known_behind (requests h) (to_client h) (λ k. client_knows h k) f ≡ true) n × IsAnswered (requests h) n) m []
@@ -95,7 +96,8 @@ step_unlease h d name x unlease_session i = i
 step_unlease h d name x (unlease_sent active) i =
     flies_told _ _ _ _ _ _ _ (messages.Unlease d name ∷ [])
     (each_cons (λ n. ForClient (λ f. known_behind (requests h) (to_client h) (λ k. client_knows h k) f ≡ true) n × IsAnswered (requests h) n) (messages.Unlease d name) []
-    ((refl, tt), tt) (each_nil (λ n. ForClient (λ f. known_behind (requests h) (to_client h) (λ k. client_knows h k) f ≡ true) n × IsAnswered (requests h) n))) i
+    ((refl, tt), tt)
+    (each_nil (λ n. ForClient (λ f. known_behind (requests h) (to_client h) (λ k. client_knows h k) f ≡ true) n × IsAnswered (requests h) n))) i
 
 step_checked : (h : List Entry) (g : ℕ) (c : ClientCaps) (in_use : Caps) → client_knows h g ≡ true → AllFly h
     → AllFly (record { event = e.Check g; answer = answer_check_of c in_use } ∷ h)
@@ -155,7 +157,8 @@ sent_req h c op tid next i =
       told = tells_sent (requests h) ys (to_client h) (λ f. client_knows h f) i.told;
       knows = λ f is. behind_sent (requests h) ys (to_client h) (λ k. client_knows h k) f i.told ∙ i.knows f is;
       received = each_end (IsReceived (requests h ++ ys) (λ f. client_knows h f ≡ true)) (to_server h) (messages.Req tid None op)
-          (λ m there. received_sent (requests h) ys (λ f. client_knows h f ≡ true) m (i.received m there)) (found_last tid c op (requests h) (false_from_ne_true (has_request tid (requests h)) (λ was. omega (arith, i.low tid was, next))));
+          (λ m there. received_sent (requests h) ys (λ f. client_knows h f ≡ true) m (i.received m there))
+          (found_last tid c op (requests h) (false_from_ne_true (has_request tid (requests h)) (λ was. omega (arith, i.low tid was, next))));
       durable = i.durable;
       fresh = i.fresh;
       low = λ t was.
@@ -175,7 +178,8 @@ step_req h c op x (req_sent active) i = sent_req h c op _ refl i
 -- what an answer that is delivered first makes is known then
 abbrev ToldMakes : List Entry → Type 0
 ToldMakes h =
-    (tid : ℕ) (o : OpAnswer) (ttl : ℕ) (q : List Message) → to_client h ≡ messages.Unsafe tid o ttl ∷ q → (f : ℕ) → makes_file f (made_by (op_of tid (requests h)) o) ≡ true
+    (tid : ℕ) (o : OpAnswer) (ttl : ℕ) (q : List Message) → to_client h ≡ messages.Unsafe tid o ttl ∷ q → (f : ℕ) → makes_file f
+    (made_by (op_of tid (requests h)) o) ≡ true
     → client_knows (record { event = e.ToClient; answer = a.Unsafe tid o } ∷ h) f ≡ true
 
 first_of : (h : List Entry) (m : Message) (q : List Message) → to_client h ≡ m ∷ q → (more : ℕ → Bool)
@@ -204,11 +208,13 @@ step_to_client h x (first_unsafe tid o ttl q is) makes i =
 -- the file of a flush's message is the flush's
 pub flush_known : (xs : List Request) (Known : ℕ → Type 0) (x : Flush) → IsReceived xs Known (flush_message x) → Known x.file
 flush_known xs Known x =
-    cond_both x.snap (messages.FlushSnap x.file x.tid x.follows x.meta) (messages.Flush x.file x.tid x.follows x.meta) (λ m. IsReceived xs Known m → Known x.file)
+    cond_both x.snap (messages.FlushSnap x.file x.tid x.follows x.meta) (messages.Flush x.file x.tid x.follows x.meta)
+    (λ m. IsReceived xs Known m → Known x.file)
     (λ _ k. k.1) (λ _ k. k.1)
 
 -- one record more, which makes these
-served_more : (h : List Entry) (fs : List Record) (r : Record) (f : ℕ) → (setup_file h f || makes_file f (made_in (durable h ++ (fs ++ r ∷ [])))) ≡ true
+served_more : (h : List Entry) (fs : List Record) (r : Record) (f : ℕ)
+    → (setup_file h f || makes_file f (made_in (durable h ++ (fs ++ r ∷ [])))) ≡ true
     → ((setup_file h f || makes_file f (made_in (durable h ++ fs))) ≡ true) ⊎ (makes_file f (made_of r.body) ≡ true)
 served_more h fs r f is =
     ⊎_elim
@@ -224,7 +230,8 @@ served_more h fs r f is =
         ap (makes_file f) (ap made_in (sym (append_assoc (durable h) fs (r ∷ []))) ∙ flat_map-append (λ x. made_of x.body) (durable h ++ fs) (r ∷ []))
         ∙ list_any-append (is_made_file f) (made_in (durable h ++ fs)) (made_of r.body ++ [])
 
-served_before : (h : List Entry) (fs : List Record) (r : Record) → made_of r.body ≡ [] → (f : ℕ) → (setup_file h f || makes_file f (made_in (durable h ++ (fs ++ r ∷ [])))) ≡ true
+served_before : (h : List Entry) (fs : List Record) (r : Record) → made_of r.body ≡ [] → (f : ℕ)
+    → (setup_file h f || makes_file f (made_in (durable h ++ (fs ++ r ∷ [])))) ≡ true
     → (setup_file h f || makes_file f (made_in (durable h ++ fs))) ≡ true
 served_before h fs r none f is =
     ⊎_elim (λ old. old) (λ new. absurd (both_ways (makes_file f (made_of r.body)) (ap (makes_file f) none) new)) (served_more h fs r f is)
@@ -324,7 +331,8 @@ step_to_mds : (h : List Entry) (x : Answer) → ReceivedIs h x → KnowsNow h x 
 step_to_mds h x received_idle now i = i
 step_to_mds h x (received_ack g seq bits q is) now i = flies_gone _ _ _ _ _ _ _ i
 step_to_mds h x (received_reconnect caps known resends q is) now i =
-    settle_now h (a.Reconnected (length caps) resends) now (told_goes h (to_client h) (drop 1 (to_server h)) (fresh h) (resends == 0) (flies_gone _ _ _ _ _ _ _ i))
+    settle_now h (a.Reconnected (length caps) resends) now
+    (told_goes h (to_client h) (drop 1 (to_server h)) (fresh h) (resends == 0) (flies_gone _ _ _ _ _ _ _ i))
 step_to_mds h x (received_flush y q is first) now i = settle_now h (a.Flushed y.file y.tid) now (behind_flushed h y q is i)
 step_to_mds h x (received_again y q is again) now i =
     settle_now h (a.FlushDup y.file y.tid) now
@@ -350,7 +358,8 @@ step_to_mds h x (received_req_again tid ino op q is again) now i =
 
 -- what is sent again
 
-flush_again : (xs : List Request) (Known : ℕ → Type 0) (ys : List Flush) → Each (λ x. Known x.file) ys → Each (IsReceived xs Known) (map flush_message ys)
+flush_again : (xs : List Request) (Known : ℕ → Type 0) (ys : List Flush) → Each (λ x. Known x.file) ys
+    → Each (IsReceived xs Known) (map flush_message ys)
 flush_again xs Known [] all = each_nil (IsReceived xs Known)
 flush_again xs Known (y ∷ ys) all =
     each_cons (IsReceived xs Known) (flush_message y) (map flush_message ys) (flush_received xs Known y (all y (inl refl)))
@@ -428,7 +437,8 @@ step_file p h g d i =
     active : (f : ℕ) → is_served (entry p h (e.File g d) ∷ h) f ≡ true → is_active (server_state h) ≡ true
     active f is = (and_parts (is_active (server_state h)) _ is).0
 
-pub fly_step : (p : ℕ) (h : List Entry) (x : Event) → ToldMakes h → AreFound h → SentAreKnown h → KnowsNow h (answer_to_mds h) → AllFly h → AllFly (entry p h x ∷ h)
+pub fly_step : (p : ℕ) (h : List Entry) (x : Event) → ToldMakes h → AreFound h → SentAreKnown h → KnowsNow h (answer_to_mds h) → AllFly h
+    → AllFly (entry p h x ∷ h)
 fly_step p h (e.File f d) makes found known now i = step_file p h f d i
 fly_step p h (e.Grant g bits end) makes found known now i = step_grant h g bits end i
 fly_step p h (e.Revoke g bits) makes found known now i = step_revoke h g bits i

@@ -221,7 +221,8 @@ abbrev AllUngiven : List Entry → Type 0
 AllUngiven h = (f : ℕ) → server_knows h f ≡ false → client_knows h f ≡ false → server h f ≡ no_server_caps
 
 -- one that it doesn't know it didn't know
-known_more : (h : List Entry) (rs : List Record) (f : ℕ) → (setup_file h f || makes_file f (made_in (durable h ++ (fresh h ++ rs)))) ≡ false → server_knows h f ≡ false
+known_more : (h : List Entry) (rs : List Record) (f : ℕ) → (setup_file h f || makes_file f (made_in (durable h ++ (fresh h ++ rs)))) ≡ false
+    → server_knows h f ≡ false
 known_more h rs f unknown =
     false_from_ne_true (server_knows h f)
     (λ known. both_ways (setup_file h f || makes_file f (made_in (durable h ++ (fresh h ++ rs)))) unknown
@@ -249,7 +250,8 @@ ungiven_revoke h g bits i =
     (λ _ f unknown none. rw (server_apart h g f known unknown) (i f unknown none)) (λ _. i)) (λ _. i)
 
 -- what is reported is of known files
-taken_none_of : (h : List Entry) (f : ℕ) (s : ServerCaps) → CappedAreKnown h → client_knows h f ≡ false → TakenIs (λ g. client h g) (capped h) f s → s ≡ no_server_caps
+taken_none_of : (h : List Entry) (f : ℕ) (s : ServerCaps) → CappedAreKnown h → client_knows h f ≡ false → TakenIs (λ g. client h g) (capped h) f s
+    → s ≡ no_server_caps
 taken_none_of h f s known none (taken_report there) = absurd (both_ways (client_knows h f) none (known f there))
 taken_none_of h f s known none (taken_none gone) = refl
 
@@ -304,7 +306,8 @@ pub ungiven_both : (p : ℕ) (h : List Entry) → IsRun p h → AllUngiven h
 ungiven_both p h run = of_run p AllUngiven (λ f unknown none. refl) (λ g x fit before i. ungiven_step p g x before i) h run
 
 -- While its session is active it has none of a file that it doesn't know.
-pub ungiven : (p : ℕ) (h : List Entry) → IsRun p h → is_active (server_state h) ≡ true → (f : ℕ) → server_knows h f ≡ false → server h f ≡ no_server_caps
+pub ungiven : (p : ℕ) (h : List Entry) → IsRun p h → is_active (server_state h) ≡ true → (f : ℕ) → server_knows h f ≡ false
+    → server h f ≡ no_server_caps
 ungiven p h run active f unknown =
     ungiven_both p h run f unknown
     (false_from_ne_true (client_knows h f) (λ known. both_ways (server_knows h f) unknown (client_in_server p h run active f known)))
