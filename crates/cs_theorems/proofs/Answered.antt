@@ -452,7 +452,8 @@ step_client h x (first_unsafe tid o ttl q is) phase alike settles stands told i 
     let whole : is_whole h ≡ true = whole_by_client h (messages.Unsafe tid o ttl) q is phase in
     let first : Telling true (is_active (server_state h)) (asked h) (asked_of (stand h)) (replies h) (client_made h) (messages.Unsafe tid o ttl ∷ q)
     (to_server h)
-    = subst (λ b. Telling b (is_active (server_state h)) (asked h) (asked_of (stand h)) (replies h) (client_made h) (messages.Unsafe tid o ttl ∷ q) (to_server h))
+    =
+    subst (λ b. Telling b (is_active (server_state h)) (asked h) (asked_of (stand h)) (replies h) (client_made h) (messages.Unsafe tid o ttl ∷ q) (to_server h))
     whole (subst (λ r. On h r (to_server h)) is i) in
     subst
     (λ r. Telling (is_whole h) (is_active (server_state h)) (asked h) (asked_of (stand h))
@@ -722,7 +723,8 @@ pub next_answer : (p : ℕ) (h : List Entry) → IsRun p h → (t : ℕ) (o : Op
 next_answer p h run t o ttl q is new =
     let stands = asked_stands p h run in
     let i : Telling true (is_active (server_state h)) (asked h) (asked_of (stand h)) (replies h) (client_made h) (messages.Unsafe t o ttl ∷ q) (to_server h)
-    = subst (λ b. Telling b (is_active (server_state h)) (asked h) (asked_of (stand h)) (replies h) (client_made h) (messages.Unsafe t o ttl ∷ q) (to_server h))
+    =
+    subst (λ b. Telling b (is_active (server_state h)) (asked h) (asked_of (stand h)) (replies h) (client_made h) (messages.Unsafe t o ttl ∷ q) (to_server h))
     (whole_by_client h (messages.Unsafe t o ttl) q is (run_phase p h run)) (subst (λ r. On h r (to_server h)) is (asked_answered p h run)) in
     let told : IsTold (asked_of (stand h)) [] (messages.Unsafe t o ttl)
     = all_told p h run (messages.Unsafe t o ttl) (subst (λ r. Member (messages.Unsafe t o ttl) r) (sym is) (inl refl)) in

@@ -245,7 +245,8 @@ own_check h g x check_unknown i = i
 own_check h g x check_session i = i
 own_check h g x check_nothing i = i
 own_check h g x (check_hold bits) i = i
-own_check h g x (check_ack active free) i = λ f. owns_ack (g == f) f g (client h f) (client h g) (capped h) refl (λ same. ap (λ k. client h k) same) (i f)
+own_check h g x (check_ack active free) i =
+    λ f. owns_ack (g == f) f g (client h f) (client h g) (capped h) refl (λ same. ap (λ k. client h k) same) (i f)
 
 own_reconnect : (h : List Entry) (x : Answer) → ReconnectIs h x → AllOwn h → AllOwn (record { event = e.Reconnect; answer = x } ∷ h)
 own_reconnect h x unbroken i = i
@@ -293,7 +294,9 @@ step_grant : (h : List Entry) (g : ℕ) (bits : Caps) (end : ℕ) (x : Answer) �
 step_grant h g bits end x grant_unknown i = record { live = i.live; calls = i.calls }
 step_grant h g bits end x grant_session i = record { live = i.live; calls = i.calls }
 step_grant h g bits end x (grant_sent active) i = record {
-  live = λ l f. told_if (g == f) f g (server h f) (granted (server h f) bits end) (granted (server h g) bits end) (client h f) (to_client h) (to_server h) refl
+  live =
+      λ l f. told_if (g == f) f g (server h f) (granted (server h f) bits end) (granted (server h g) bits end) (client h f) (to_client h)
+      (to_server h) refl
       (λ same. ap (λ k. granted (server h k) bits end) same) (moves_granted (server h f) bits end (i.live l f).given) (i.live l f);
   calls = λ c s. absurd (active_unbroken (server_state h) active s);
 }
@@ -303,7 +306,8 @@ step_revoke : (h : List Entry) (g : ℕ) (bits : Caps) (x : Answer) → GrantIs 
 step_revoke h g bits x grant_unknown i = record { live = i.live; calls = i.calls }
 step_revoke h g bits x grant_session i = record { live = i.live; calls = i.calls }
 step_revoke h g bits x (grant_sent active) i = record {
-  live = λ l f. told_if (g == f) f g (server h f) (revoked (server h f) bits) (revoked (server h g) bits) (client h f) (to_client h) (to_server h) refl
+  live =
+      λ l f. told_if (g == f) f g (server h f) (revoked (server h f) bits) (revoked (server h g) bits) (client h f) (to_client h) (to_server h) refl
       (λ same. ap (λ k. revoked (server h k) bits) same) (moves_revoked (server h f) bits (i.live l f).given) (i.live l f);
   calls = λ c s. absurd (active_unbroken (server_state h) active s);
 }
@@ -326,7 +330,9 @@ unheard h m q is phase s = not_broken (server_state h) (live_by_client h m q is 
 step_to_client : (h : List Entry) (x : Answer) → FirstIs h x → PhaseAt h → AllHold h → AllHold (record { event = e.ToClient; answer = x } ∷ h)
 step_to_client h x first_idle phase i = record { live = i.live; calls = i.calls }
 step_to_client h x (first_cap g seq bits end q is) phase i = record {
-  live = λ l f. at_first (λ y. Client h f y) (λ y. Holds f (server h f) (cond (g == f) (delivered (client h f) bits seq end) (client h f)) y (to_server h))
+  live =
+      λ l f. at_first (λ y. Client h f y)
+      (λ y. Holds f (server h f) (cond (g == f) (delivered (client h f) bits seq end) (client h f)) y (to_server h))
       (messages.Cap g seq bits end) q (to_client h) is
       (λ j. holds_delivered (g == f) f g seq bits end (server h f) (client h f) q (to_server h) refl j) (i.live l f);
   calls = λ c s. absurd (unheard h (messages.Cap g seq bits end) q is phase s);

@@ -101,7 +101,8 @@ knows_settled p h run whole none f served =
     stands = asked_stands p h run
 
     all : asked_of (stand h) ≡ asked h
-    all = all_stand (subst (λ b. Sending b (asked h) (asked_of (stand h)) []) whole (subst (λ r. Sending (is_whole h) (asked h) (asked_of (stand h)) r) none stands))
+    all =
+        all_stand (subst (λ b. Sending b (asked h) (asked_of (stand h)) []) whole (subst (λ r. Sending (is_whole h) (asked h) (asked_of (stand h)) r) none stands))
 
     split : makes_file f (server_made h) ≡ (makes_file f (asked_made i.got) || makes_file f (asked_made i.missing))
     split =
@@ -118,7 +119,8 @@ knows_settled p h run whole none f served =
         (subst (λ b. Numbers b (asked_tids (asked h)) (asked_tids i.got) (unsafe_tids (to_client h) ++ req_tids (to_server h))) whole i.numbers))
 
     same_missing : numbers.missing ≡ asked_tids i.missing
-    same_missing = cancel (asked_tids i.got) numbers.missing (asked_tids i.missing) (sym numbers.front ∙ (ap asked_tids i.front ∙ tids_append i.got i.missing))
+    same_missing =
+        cancel (asked_tids i.got) numbers.missing (asked_tids i.missing) (sym numbers.front ∙ (ap asked_tids i.front ∙ tids_append i.got i.missing))
 
     on_way : (x : Asked) → Member x i.missing → makes_file f (made_by (Some x.op) x.answer) ≡ true
         → known_behind (requests h) (to_client h) (λ k. client_knows h k) f ≡ true

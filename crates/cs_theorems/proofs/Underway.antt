@@ -192,12 +192,18 @@ first_of h m q is more grows i =
 
 step_to_client : (h : List Entry) (x : Answer) → FirstIs h x → ToldMakes h → AllFly h → AllFly (record { event = e.ToClient; answer = x } ∷ h)
 step_to_client h x first_idle makes i = i
-step_to_client h x (first_cap g seq bits end q is) makes i = first_of h (messages.Cap g seq bits end) q is (λ f. client_knows h f) (λ f was. plain (client_knows h f) was) i
-step_to_client h x (first_flush_ack g tid q is) makes i = first_of h (messages.FlushAck g tid) q is (λ f. client_knows h f) (λ f was. plain (client_knows h f) was) i
-step_to_client h x (first_safe tid q is) makes i = first_of h (messages.Safe tid) q is (λ f. client_knows h f) (λ f was. plain (client_knows h f) was) i
-step_to_client h x (first_resumed told_now q is) makes i = first_of h (messages.Resumed told_now) q is (λ f. client_knows h f) (λ f was. plain (client_knows h f) was) i
-step_to_client h x (first_unlease d name q is) makes i = first_of h (messages.Unlease d name) q is (λ f. client_knows h f) (λ f was. plain (client_knows h f) was) i
-step_to_client h x (first_snap number d now q is) makes i = first_of h (messages.Snap number d now) q is (λ f. client_knows h f) (λ f was. plain (client_knows h f) was) i
+step_to_client h x (first_cap g seq bits end q is) makes i =
+    first_of h (messages.Cap g seq bits end) q is (λ f. client_knows h f) (λ f was. plain (client_knows h f) was) i
+step_to_client h x (first_flush_ack g tid q is) makes i =
+    first_of h (messages.FlushAck g tid) q is (λ f. client_knows h f) (λ f was. plain (client_knows h f) was) i
+step_to_client h x (first_safe tid q is) makes i =
+    first_of h (messages.Safe tid) q is (λ f. client_knows h f) (λ f was. plain (client_knows h f) was) i
+step_to_client h x (first_resumed told_now q is) makes i =
+    first_of h (messages.Resumed told_now) q is (λ f. client_knows h f) (λ f was. plain (client_knows h f) was) i
+step_to_client h x (first_unlease d name q is) makes i =
+    first_of h (messages.Unlease d name) q is (λ f. client_knows h f) (λ f was. plain (client_knows h f) was) i
+step_to_client h x (first_snap number d now q is) makes i =
+    first_of h (messages.Snap number d now) q is (λ f. client_knows h f) (λ f was. plain (client_knows h f) was) i
 step_to_client h x (first_unsafe tid o ttl q is) makes i =
     first_of h (messages.Unsafe tid o ttl) q is (λ f. client_knows (record { event = e.ToClient; answer = a.Unsafe tid o } ∷ h) f)
     (λ f was. ⊎_elim
@@ -345,7 +351,8 @@ step_to_mds h x (received_again y q is again) now i =
   where
     known : IsKnown h y.file
     known = flush_known (requests h) (IsKnown h) y (i.received (flush_message y) (member_first (flush_message y) q (to_server h) is))
-step_to_mds h x (received_req tid ino op q is first) now i = settle_now h (a.Req tid (answer_on (names h) op)) now (behind_requested h tid ino op q is i)
+step_to_mds h x (received_req tid ino op q is first) now i =
+    settle_now h (a.Req tid (answer_on (names h) op)) now (behind_requested h tid ino op q is i)
 step_to_mds h x (received_req_again tid ino op q is again) now i =
     let o : OpAnswer = unwrap_or (answer_kept tid (stand h)) replies.Missing in
     settle_now h (a.ReqDup tid o) now
@@ -393,7 +400,8 @@ step_snap : (h : List Entry) (d : ℕ) (name : List ℕ) (x : Answer) → SnapIs
 step_snap h d name x snap_unknown i = i
 step_snap h d name x snap_session i = i
 step_snap h d name x snap_exists i = i
-step_snap h d name x (snap_taken directory active free) i = recorded_plain h (record { body = bodies.Snap (greatest_number (stand h) + 1) d name }) refl tt i
+step_snap h d name x (snap_taken directory active free) i =
+    recorded_plain h (record { body = bodies.Snap (greatest_number (stand h) + 1) d name }) refl tt i
 
 step_remove : (h : List Entry) (t : ℕ) (x : Answer) → RemoveIs h t x → AllFly h → AllFly (record { event = e.RmSnap t; answer = x } ∷ h)
 step_remove h t x remove_none i = i

@@ -268,20 +268,23 @@ ungiven_to_mds p h x run (received_reconnect caps known resends q is) i = λ f u
     (taken_none_of h f _ (capped_known p h run) none (taken_is (λ g. client h g) (capped h) f))
 ungiven_to_mds p h x run (received_flush y q is first) i = λ f unknown none. i f (known_more h (recorded (to_server h)) f unknown) none
 ungiven_to_mds p h x run (received_again y q is again) i = i
-ungiven_to_mds p h x run (received_req tid ino op q is first) i = λ f unknown none. i f (known_more h (requested (answer_on (names h) op) (to_server h)) f unknown) none
+ungiven_to_mds p h x run (received_req tid ino op q is first) i =
+    λ f unknown none. i f (known_more h (requested (answer_on (names h) op) (to_server h)) f unknown) none
 ungiven_to_mds p h x run (received_req_again tid ino op q is again) i = i
 
 ungiven_snap : (h : List Entry) (d : ℕ) (name : List ℕ) (x : Answer) → SnapIs h d name x → AllUngiven h → AllUngiven (record { event = e.Snap d name; answer = x } ∷ h)
 ungiven_snap h d name x snap_unknown i = i
 ungiven_snap h d name x snap_session i = i
 ungiven_snap h d name x snap_exists i = i
-ungiven_snap h d name x (snap_taken directory active free) i = λ f unknown none. i f (known_more h (record { body = bodies.Snap (greatest_number (stand h) + 1) d name } ∷ []) f unknown) none
+ungiven_snap h d name x (snap_taken directory active free) i =
+    λ f unknown none. i f (known_more h (record { body = bodies.Snap (greatest_number (stand h) + 1) d name } ∷ []) f unknown) none
 
 ungiven_remove : (h : List Entry) (s : ℕ) (x : Answer) → RemoveIs h s x → AllUngiven h → AllUngiven (record { event = e.RmSnap s; answer = x } ∷ h)
 ungiven_remove h s x remove_none i = i
 ungiven_remove h s x remove_session i = i
 ungiven_remove h s x remove_gone i = i
-ungiven_remove h s x (removed there stays active) i = λ f unknown none. i f (known_more h (record { body = bodies.Removal s (greatest_number (stand h) + 1) } ∷ []) f unknown) none
+ungiven_remove h s x (removed there stays active) i =
+    λ f unknown none. i f (known_more h (record { body = bodies.Removal s (greatest_number (stand h) + 1) } ∷ []) f unknown) none
 
 setup_before : (x : Event) (y : Answer) (f : ℕ) (was made : Bool) → (setup_file_then x y f was || made) ≡ false → (was || made) ≡ false
 setup_before x y f was made none =
