@@ -1,4 +1,4 @@
--- Answers in the order of their requests, and which come twice.
+-- The requests with an answer are the first ones: while one has none, none behind it has any.
 use Rattle.std.proofs.Common.{◌≡◌, refl, sym, ap, ◌∙◌, subst, ℕ, ◌+◌, ◌<◌, ◌==◌, true, false, List, [], ◌∷◌, ◌++◌, map, length, arith, inl, inr, ⊎_elim}
 use Rattle.std.proofs.lemmas.Bool.{both_ways, eqb-true, false_from_ne_true}
 use Rattle.cs_laws.specs.declared.answers.Entry.{Entry}
