@@ -1,5 +1,5 @@
 -- The files that are reported, from the table's entries, which stand by rising inodes.
-use Rattle.std.proofs.Common.{◌≡◌, ◌∙◌, refl, sym, ap, subst, ℕ, ◌<◌, ◌==◌, ◌||◌, ◌↔◌, nat_lt, Bool, true, false, cond, is_some, List, [], ◌∷◌, filter, map, Contains, Option, Some, None, zero, suc, inl, inr, arith}
+use Rattle.std.proofs.Common.{◌≡◌, ◌∙◌, refl, sym, ap, subst, ℕ, ◌<◌, ◌==◌, ◌||◌, Bool, true, false, cond, is_some, List, [], ◌∷◌, filter, map, Contains, Option, Some, None, suc, inl, inr, arith}
 use Rattle.std.proofs.lemmas.Bool.{eqb-true, eq-eqb}
 use Rattle.std.proofs.lemmas.Cmp.{nat_cmp_total}
 use Rattle.std.proofs.lemmas.List.Kept.{AllPairs-filter, AllPairs-from_increasing}
@@ -11,7 +11,6 @@ use Rattle.std.specs.List.{list_any, slice_get}
 use Rattle.std.specs.Map.{keys_of}
 use Rattle.std.specs.Option.{option_map_or}
 use Rattle.std.specs.Ordering.{nat_cmp}
-use Rattle.cs_laws.specs.declared.reports.CapReport.{CapReport}
 use Rattle.cs_laws.specs.Reports.{report_of, reports, rising}
 use Rattle.cs_parts.specs.Capabilities.{no_client_caps}
 use Rattle.cs_realms.proofs.Rising.{IsRising, is_rising}
