@@ -9,10 +9,10 @@ use Rattle.cs_client.proofs.Counts.{first_counts}
 
 -- Members
 
-head_in : {X : Type 0} (x : X) (xs : List X) → Contains (x ∷ xs) x
+pub head_in : {X : Type 0} (x : X) (xs : List X) → Contains (x ∷ xs) x
 head_in x xs = (0, omega arith, refl)
 
-tail_in : {X : Type 0} (x : X) (xs : List X) (y : X) → Contains xs y → Contains (x ∷ xs) y
+pub tail_in : {X : Type 0} (x : X) (xs : List X) (y : X) → Contains xs y → Contains (x ∷ xs) y
 tail_in x xs y (k, below, is) = (suc k, omega arith, is)
 
 none_in : {X : Type 0} (y : X) → Contains [] y → ⊥
