@@ -533,6 +533,7 @@ impl Mds {
         ensures answer { IfOk result (λ a. a ≡ served_answer self.old true (events.Failover keep)) }
         ensures after { OnOk result (Restarted keep self.old self.new) }
         ensures whole { OnOk result (IsWhole self.new) }
+        ensures made { OnOk result (self.new.names.made < 10000) }
         ensures sent { out.new ≡ out.old }
         ensures same { OnErr result (self.new ≡ self.old) }
         ensures log { OnOk result (LogHolds (L.records log.new) (L.durable log.new) self.new) }

@@ -1,8 +1,7 @@
-use Rattle.std.proofs.Common.{◌≡◌, ◌∙◌, ◌+◌, ◌<◌, ◌≤◌, ◌++◌, [], ap, sym, subst, arith, rules, inr, length, take, Some, slice_get}
-use Rattle.std.proofs.lemmas.List.{append-nil, take_all}
-use Rattle.cs_laws.specs.declared.records.Record.{Record}
-use Rattle.cs_laws.specs.Logged.{LogIs}
+use Rattle.std.proofs.Common.{◌≡◌, ◌∙◌, ◌<◌, ◌≤◌, ◌++◌, ap, sym, subst, arith, rules, inr, length, take, Some, slice_get}
+use Rattle.std.proofs.lemmas.List.{length-append, length-take, append-nil, take_all}
 use Rattle.cs_laws.specs.Names.{setup_names}
+use Rattle.cs_laws.specs.Namespace.{Names}
 use Rattle.cs_records.specs.Log.{IsNext}
 use Rattle.cs_records.proofs.Lists.{any_err}
 use Rattle.cs_mds.specs.Restart.{AreRemade, HasSpelled, kept_of}
@@ -142,3 +141,15 @@ returns-clause-log g c =
     let durable : c.settle.new.self.records.durable ≡ kept = done.durable ∙ ((λ j. was.durable j ++ was.fresh j) ∙ take_all c.loop-at.at kept end) in
     log_moved (g.L.MdsLog.records c.loop-at.log) (g.L.MdsLog.durable c.loop-at.log) kept c.settle.new.self.records.durable c.settle.new.self.records.fresh
     durable done.fresh c.loop-at.invariant.log
+
+pub returns-clause-made : goal.returns-clause-made
+returns-clause-made g c =
+    let rs = c.args.records.now in
+    let kept = kept_of c.args.keep rs in
+    let count = kept_length c.args.keep rs in
+    let few = c.requires.few in
+    let sum = length-append rs.durable rs.fresh in
+    let taken = length-take c.loop-at.at kept in
+    let made = c.loop-at.invariant.remade.made in
+    let same : c.settle.new.self.names.made ≡ c.loop-at.tables.names.made = ap (λ (n : Names). n.made) c.in_ok-settle.ensures.names in
+    omega (arith, count, few, sum, taken, made, same)
