@@ -3,6 +3,7 @@ use crate::steps::{add_request, add_snap, commit, commit_in, ino, tid};
 use cs_ids::{FileMeta, Seq, Snap};
 use cs_laws::{Message, MessageList, OpAnswer, Record, RecordBody};
 use cs_records::Records;
+use cs_tree::Directories;
 use std::alloc::Global;
 use std::process::Abort;
 use std::test::Fail;
