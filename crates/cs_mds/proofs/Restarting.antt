@@ -17,7 +17,7 @@ use Rattle.cs_records.proofs.Logs.{log_front, log_next}
 use Rattle.cs_mds.specs.Restart.{HasRecord, kept_of}
 use Rattle.cs_tree.specs.declared.directories.Directory.{Directory}
 use Rattle.cs_laws.specs.declared.answers.Entry.{Entry}
-use Rattle.cs_mds.specs.Views.{AreRecords, AreWhole, Homes}
+use Rattle.cs_mds.specs.Views.{AreRecords, Homes}
 use Rattle.cs_mds.specs.Whole.{AreAnswered, AreStanding, IsAnswered}
 use Rattle.cs_mds.proofs.Standing.{answered_next}
 
@@ -115,9 +115,6 @@ all_read k keep n s counted end = let count = kept_length keep s in take_all n (
 pub standing_moved : (xs : List Entry) (rs ss : List Record) (old new : List Directory) (was homes : Homes) (ns now : Names) → new ≡ old → homes ≡ was → now ≡ ns
     → rs ≡ ss → AreStanding xs rs old was ns → AreStanding xs ss new homes now
 standing_moved xs rs ss old new was homes ns now tree lie names same i = rw (tree, lie, names) (subst (λ r. AreStanding xs r old was ns) same i)
-
-pub whole_moved : (old new : List Directory) (was homes : Homes) (ns now : Names) → new ≡ old → homes ≡ was → now ≡ ns → AreWhole old was ns → AreWhole new homes now
-whole_moved old new was homes ns now tree lie names i = rw (tree, lie, names) i
 
 pub log_moved : (rs : List (List ℕ)) (n : ℕ) (kept ds fs : List Record) → ds ≡ kept → fs ≡ [] → LogIs rs n kept [] → LogIs rs n ds fs
 log_moved rs n kept ds fs durable fresh log = rw (durable, fresh) log

@@ -2,7 +2,7 @@
 ghost use Rattle.std.specs.Prelude.{◌≡◌, ◌+◌, ◌<◌, ◌≤◌, OnOk, false};
 ghost use Rattle.cs_laws.specs.Carried.{is_for_client};
 ghost use Rattle.cs_mds.specs.Served.{LogHolds};
-ghost use Rattle.cs_mds.specs.Views.{IsWhole};
+ghost use Rattle.cs_mds.specs.Whole.{IsWhole};
 
 use crate::numbers::{ino, tid};
 use cs_bits::Caps;

@@ -1,7 +1,7 @@
 // Requests of the client, and what they leave of names, leases and snapshots.
 ghost use Rattle.std.specs.Prelude.{◌≡◌, ◌+◌, ◌≤◌, ◌<◌, OnOk};
 ghost use Rattle.cs_mds.specs.Served.{LogHolds};
-ghost use Rattle.cs_mds.specs.Views.{IsWhole};
+ghost use Rattle.cs_mds.specs.Whole.{IsWhole};
 
 use crate::messages::{committed, delivered};
 use crate::numbers::{ino, snap, tid};
