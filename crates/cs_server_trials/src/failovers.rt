@@ -63,7 +63,9 @@ pub fn set_up(rt: &impl Abort, mds: &mut Mds) -> Result<(), Fail>
     requires whole { IsWhole mds.old }
     requires durable { mds.old.durable ≡ [] }
     requires fresh { mds.old.fresh ≡ [] }
+    requires few { mds.old.names.made ≤ 0 }
     ensures whole { OnOk result (IsWhole mds.new) }
+    ensures few { OnOk result (mds.new.names.made ≤ 0) }
     ensures durable { OnOk result (mds.new.durable ≡ []) }
     ensures fresh { OnOk result (mds.new.fresh ≡ []) }
 {
@@ -92,10 +94,17 @@ fn ask_anew(
     let made = OpAnswer::Made(ino(10_001)?);
     let op = mkdir(rt, alloc, 1, b"b")?;
     let answer = requested(rt, mds, log, 9999, 2, op, out)?;
-    assert!(rt; matches!(answer, Answer::ReqDup { answer, .. } if answer == made));
+    assert!(rt; is_repeated(&answer, made));
     let wanted = OpAnswer::Made(ino(10_002)?);
     let op = mkdir(rt, alloc, 1, b"d")?;
     ask(rt, mds, log, 10_000, 3, op, wanted, out)
+}
+
+fn is_repeated(answer: &Answer, wanted: OpAnswer) -> bool {
+    match answer {
+        Answer::ReqDup { answer, .. } => *answer == wanted,
+        _ => false,
+    }
 }
 
 // Directory a, whose record is durable, and b and c, of which the first stays.
