@@ -54,7 +54,9 @@ fn reconnect(
 {
     let message = report(alloc, sent_again)?;
     let answer = delivered(rt, mds, log, 0, &message, last, out)?;
-    assert!(rt; matches!(answer, Answer::Reconnected { caps: 1, resends } if resends == sent_again));
+    assert!(rt;
+        matches!(answer, Answer::Reconnected { caps: 1, resends } if resends == sent_again)
+    );
     Ok(())
 }
 
