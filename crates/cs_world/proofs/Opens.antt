@@ -13,6 +13,7 @@ use Rattle.cs_laws.specs.declared.answers.Entry.{Entry}
 use Rattle.cs_laws.specs.declared.requests.OpAnswer.{OpAnswer}
 use Rattle.cs_laws.specs.declared.requests.ReqOp.{ReqOp}
 use Rattle.cs_laws.specs.Leases.{is_named_later}
+use Rattle.cs_laws.specs.Lists.{RisesFrom}
 use Rattle.cs_laws.specs.Names.{setup_names}
 use Rattle.cs_laws.specs.Namespace.{names_entry}
 use Rattle.cs_laws.specs.Requests.{Reply, Request, has_reply, has_request, is_closed, is_open, is_resent, op_of, replies, reply_to, requests}
@@ -20,9 +21,9 @@ use Rattle.cs_laws.specs.Runs.{IsRun}
 use Rattle.cs_requests.specs.declared.requests.OpenReq.{OpenReq}
 use Rattle.cs_requests.specs.Requests.{answered, is_told, named_later, open_at, resent, sent_as, without}
 use Rattle.cs_client.specs.Requests as client
-use Rattle.cs_theorems.specs.Asked.{Asked, asked}
+use Rattle.cs_theorems.specs.Asked.{asked}
 use Rattle.cs_theorems.proofs.Ascending.{member_upto}
-use Rattle.cs_theorems.proofs.AskedStands.{asked_next, settles_rises, was_asked}
+use Rattle.cs_theorems.proofs.AskedStands.{asked_next, asked_tids, member_tid, settles_rises, was_asked}
 use Rattle.cs_theorems.proofs.AsksRun.{asked_alike, asked_settles}
 use Rattle.cs_theorems.proofs.Tests.{any_some}
 use Rattle.cs_world.specs.OpenRequests.{open_as, open_requests}
@@ -330,8 +331,15 @@ next_unsent p h run =
       arith,
       eqb-true x.tid (length (requests h) + 1) same,
       asked_next h (asked_alike p h run) (asked_settles p h run),
-      member_upto (λ (y : Asked). y.tid) 0 (record { tid = x.tid; op = x.op; answer = own.0 }) (asked h) (settles_rises 0 (setup_names h) (asked h) (asked_settles p h run)) own.1,
+      member_upto (λ t. t) 0 x.tid (asked_tids (asked h)) up (member_tid (record { tid = x.tid; op = x.op; answer = own.0 }) (asked h) own.1),
     )))
+  where
+    plain : (ts : List ℕ) → map (λ t. t) ts ≡ ts
+    plain [] = refl
+    plain (t ∷ ts) = ap (λ us. t ∷ us) (plain ts)
+
+    up : RisesFrom 0 (map (λ t. t) (asked_tids (asked h)))
+    up = subst (λ ts. RisesFrom 0 ts) (sym (plain (asked_tids (asked h)))) (settles_rises 0 (setup_names h) (asked h) (asked_settles p h run))
 
 pub next_resent : (p : ℕ) (h : List Entry) → IsRun p h → is_resent h (length (requests h) + 1) ≡ false
 next_resent p h run = unsent h (length (requests h) + 1) (next_unsent p h run)
