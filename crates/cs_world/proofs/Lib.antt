@@ -4,20 +4,14 @@ pub mod Opens
 pub mod Answered
 pub mod Numbers
 pub mod Client
-pub mod Recorded
+pub mod CallSent
+pub mod Setups
 pub mod SetupNames
 pub mod Serves
-pub mod News
-pub mod Sent
--- Parts that an event leaves as they are
 pub mod Stays
-pub mod Made
 -- Deliveries
-pub mod Accepted
-pub mod Replies
-pub mod Delivered
--- Shows
-pub mod Showing
+pub mod First
+pub mod Received
 -- The devices
 pub mod Stored
 pub mod Halts
