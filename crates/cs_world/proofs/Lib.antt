@@ -4,8 +4,7 @@ pub mod Opens
 pub mod Answered
 pub mod Numbers
 pub mod Client
-pub mod Recorded
-pub mod SetupNames
+pub mod Setups
 pub mod Serves
 pub mod News
 pub mod Sent
