@@ -9,6 +9,7 @@ use Rattle.cs_laws.specs.declared.events.Event.{Event}
 use Rattle.cs_laws.specs.declared.events.Event.TheVariants as events
 use Rattle.cs_laws.specs.declared.answers.Answer.{Answer}
 use Rattle.cs_laws.specs.declared.answers.Answer.TheVariants as answers
+use Rattle.cs_laws.specs.declared.answers.Why.TheVariants as why
 use Rattle.cs_laws.specs.declared.answers.Entry.{Entry}
 use Rattle.cs_laws.specs.declared.messages.Message.{Message}
 use Rattle.cs_laws.specs.Answers.{answer}
@@ -20,8 +21,9 @@ use Rattle.cs_laws.specs.Leases.{lease}
 use Rattle.cs_laws.specs.Made.{makes_dir, path_with, with_files}
 use Rattle.cs_laws.specs.Operations.{brought, operations_drawn}
 use Rattle.cs_laws.specs.References.{live_then}
-use Rattle.cs_laws.specs.Requests.{has_reply, replies, requests}
+use Rattle.cs_laws.specs.Requests.{has_reply, is_resent, replies, requests}
 use Rattle.cs_laws.specs.Runs.{CanFollow, IsRun}
+use Rattle.cs_laws.specs.Sessions.{client_state, is_client_active}
 use Rattle.cs_laws.specs.Tree.{path, setup_dir}
 use Rattle.cs_requests.specs.RequestTable.{RequestTable}
 use Rattle.cs_client.specs.Calls.{AddsDirectory, Called, TreeAfter, flushes_after, is_call, made_after, seq_of}
@@ -31,7 +33,7 @@ use Rattle.cs_theorems.proofs.AsksRun.{quiet}
 use Rattle.cs_theorems.proofs.Flying.{next_unanswered}
 use Rattle.cs_world.specs.OpenRequests.{request_table}
 use Rattle.cs_world.specs.Parts.{ClientAt, TreeIs}
-use Rattle.cs_world.proofs.Opens.{opens_sent}
+use Rattle.cs_world.proofs.Opens.{next_resent, opens_sent}
 use Rattle.cs_world.proofs.Numbers.{drawn_is, flushes_then, operations_are}
 use Rattle.cs_world.proofs.Rows.{row_is_by, rows_then}
 
@@ -79,15 +81,22 @@ begun_known : (b : Bool) (x : Answer) (n : ℕ) → answers.Ref n ≡ cond b x a
 begun_known true x n is = refl
 begun_known false x n is = absurd (cc)
 
+-- a request is sent in a session that is active
+sent_next : (active : Bool) (n tid : ℕ) → answers.Sent tid ≡ cond active (answers.Sent n) (answers.Again why.Session) → tid ≡ n
+sent_next true n tid is = cc
+sent_next false n tid is = absurd (cc)
+
 -- the next request is sent
 table_then : (p : ℕ) (h : List Entry) → IsRun p h → (e : Event) (a : Answer) → is_call e ≡ true → a ≡ answer p h e
     → requests_after e a (request_table h) ≡ request_table (record { event = e; answer = a } ∷ h)
 table_then p h run (events.Req c op) (answers.Sent tid) call is =
-    let next : tid ≡ length (requests h) + 1 = cc in
+    let next : tid ≡ length (requests h) + 1 = sent_next (is_client_active (client_state h)) (length (requests h) + 1) tid is in
+    let once : is_resent h tid ≡ false = subst (λ t. is_resent h t ≡ false) (sym next) (next_resent p h run) in
     let none : has_reply tid (replies h) ≡ false = subst (λ t. has_reply t (replies h) ≡ false) (sym next) (next_unanswered p h run) in
     let count : length (requests h) + 1 ≡ length (requests h ++ record { tid = tid; caller = c; op = op } ∷ []) = sym (length-append (requests h) _) in
-    (λ k. let t : RequestTable = record { sent = count k; requests = sym (opens_sent h c op tid none) k } in t)
+    (λ k. let t : RequestTable = record { sent = count k; requests = sym (opens_sent h c op tid none once) k } in t)
 table_then p h run events.ToClient a call is = absurd (cc)
+table_then p h run events.Reconnect a call is = absurd (cc)
 table_then p h run _ _ call is = refl
 
 -- the leases on the entries that it names end
@@ -96,6 +105,7 @@ leases_then : (e : Event) (a : Answer) (h : List Entry) (d : ℕ) (name : List �
 leases_then (events.Req c op) (answers.Sent tid) h d name call = refl
 leases_then (events.Req c op) _ h d name call = refl
 leases_then events.ToClient a h d name call = absurd (cc)
+leases_then events.Reconnect a h d name call = absurd (cc)
 leases_then _ _ h d name call = refl
 
 module _ (p : ℕ) (h : List Entry) (run : IsRun p h) (v w : ClientView) (i : ClientAt h v) where

@@ -1,8 +1,8 @@
 -- The client's table of open requests follows the history.
 use Rattle.std.proofs.Common.{◌≡◌, refl, sym, ap, ◌∙◌, subst, ℕ, ◌+◌, ◌<◌, ◌≤◌, ◌==◌, ◌||◌, ◌&&◌, not, nat_lt, Bool, true, false, cond, List, [], ◌∷◌, ◌++◌, filter, find, is_some, length, map, Option, Some, None, arith, inl, inr, ⊎_elim}
 use Rattle.std.specs.List.{list_any}
-use Rattle.std.specs.Option.{option_and_then, option_map}
-use Rattle.std.proofs.lemmas.Bool.{both_ways, eq-eqb, eqb-true, false_from_ne_true, le-ltb, ne_eqb, ltb-true, or_parts}
+use Rattle.std.specs.Option.{option_and_then, option_map, option_map_or}
+use Rattle.std.proofs.lemmas.Bool.{both_ways, eq-eqb, eqb-true, false_from_ne_true, ltb-true, ne_eqb, or_left, or_parts, or_right}
 use Rattle.std.proofs.lemmas.List.{append-nil, length-append, map-append}
 use Rattle.std.proofs.lemmas.List.Elements.{filter-append}
 use Rattle.cs_laws.specs.declared.events.Event.{Event}
@@ -13,12 +13,20 @@ use Rattle.cs_laws.specs.declared.answers.Entry.{Entry}
 use Rattle.cs_laws.specs.declared.requests.OpAnswer.{OpAnswer}
 use Rattle.cs_laws.specs.declared.requests.ReqOp.{ReqOp}
 use Rattle.cs_laws.specs.Leases.{is_named_later}
+use Rattle.cs_laws.specs.Lists.{RisesFrom}
+use Rattle.cs_laws.specs.Names.{setup_names}
 use Rattle.cs_laws.specs.Namespace.{names_entry}
-use Rattle.cs_laws.specs.Requests.{Reply, Request, has_reply, is_closed, is_closed_then, op_of, replies, requests}
+use Rattle.cs_laws.specs.Requests.{Reply, Request, has_reply, has_request, is_closed, is_open, is_resent, op_of, replies, reply_to, requests}
+use Rattle.cs_laws.specs.Runs.{IsRun}
 use Rattle.cs_requests.specs.declared.requests.OpenReq.{OpenReq}
-use Rattle.cs_requests.specs.RequestTable.{RequestTable}
-use Rattle.cs_requests.specs.Requests.{answered, is_told, named_later, open_at, sent_as, without}
-use Rattle.cs_world.specs.OpenRequests.{open_as, open_requests, reply_to, request_table}
+use Rattle.cs_requests.specs.Requests.{answered, is_told, named_later, open_at, resent, sent_as, without}
+use Rattle.cs_client.specs.Requests as client
+use Rattle.cs_theorems.specs.Asked.{asked}
+use Rattle.cs_theorems.proofs.Ascending.{member_upto}
+use Rattle.cs_theorems.proofs.AskedStands.{asked_next, asked_tids, member_tid, settles_rises, was_asked}
+use Rattle.cs_theorems.proofs.AsksRun.{asked_alike, asked_settles}
+use Rattle.cs_theorems.proofs.Tests.{any_some}
+use Rattle.cs_world.specs.OpenRequests.{open_as, open_requests}
 
 -- Answers
 
@@ -57,17 +65,31 @@ reply_own t o (r ∷ rs) none =
     ap (λ b. option_map (λ (x : Reply). x.answer) (cond b (Some r) (find (λ x. x.tid == t) (rs ++ record { tid = t; answer = o } ∷ [])))) parts.0
     ∙ reply_own t o rs parts.1
 
--- Those that are open. c: whether the request of a number is closed.
-
-abbrev opens : List Reply → (ℕ → Bool) → List Request → List OpenReq
-opens rs c xs = map (open_as rs) (filter (λ x. not (c x.tid)) xs)
-
-found_as : (rs : List Reply) (t : ℕ) (ys : List Request) → open_at t (map (open_as rs) ys) ≡ option_map (open_as rs) (find (λ x. x.tid == t) ys)
-found_as rs t [] = refl
-found_as rs t (y ∷ ys) = at (y.tid == t) (found_as rs t ys)
+-- nor does one more change the first answer to a request that has one
+reply_again : (t u : ℕ) (o : OpAnswer) (rs : List Reply) → has_reply t rs ≡ true → reply_to u (rs ++ record { tid = t; answer = o } ∷ []) ≡ reply_to u rs
+reply_again t u o [] had = absurd cc
+reply_again t u o (r ∷ rs) had = at (r.tid == u) refl (r.tid == t) refl had (λ rest. reply_again t u o rs rest)
   where
-    at : (b : Bool) → open_at t (map (open_as rs) ys) ≡ option_map (open_as rs) (find (λ x. x.tid == t) ys)
-        → cond b (Some (open_as rs y)) (open_at t (map (open_as rs) ys)) ≡ option_map (open_as rs) (cond b (Some y) (find (λ x. x.tid == t) ys))
+    at : (b : Bool) → (r.tid == u) ≡ b → (k : Bool) → (r.tid == t) ≡ k → (k || has_reply t rs) ≡ true
+        → (has_reply t rs ≡ true → reply_to u (rs ++ record { tid = t; answer = o } ∷ []) ≡ reply_to u rs)
+        → option_map (λ (x : Reply). x.answer) (cond b (Some r) (find (λ x. x.tid == u) (rs ++ record { tid = t; answer = o } ∷ [])))
+        ≡ option_map (λ (x : Reply). x.answer) (cond b (Some r) (find (λ x. x.tid == u) rs))
+    at true here k own had go = refl
+    at false other true own had go =
+        reply_other t u o rs (ne_eqb t u (λ same. both_ways (r.tid == u) other (eq-eqb r.tid u (eqb-true r.tid t own ∙ same))))
+    at false other false own had go = go had
+
+-- Those that are open. again, c: whether the request of a number was sent again, and whether it is closed.
+
+abbrev opens : List Reply → (ℕ → Bool) → (ℕ → Bool) → List Request → List OpenReq
+opens rs again c xs = map (open_as rs again) (filter (λ x. not (c x.tid)) xs)
+
+found_as : (rs : List Reply) (again : ℕ → Bool) (t : ℕ) (ys : List Request) → open_at t (map (open_as rs again) ys) ≡ option_map (open_as rs again) (find (λ x. x.tid == t) ys)
+found_as rs again t [] = refl
+found_as rs again t (y ∷ ys) = at (y.tid == t) (found_as rs again t ys)
+  where
+    at : (b : Bool) → open_at t (map (open_as rs again) ys) ≡ option_map (open_as rs again) (find (λ x. x.tid == t) ys)
+        → cond b (Some (open_as rs again y)) (open_at t (map (open_as rs again) ys)) ≡ option_map (open_as rs again) (cond b (Some y) (find (λ x. x.tid == t) ys))
     at true rest = refl
     at false rest = rest
 
@@ -90,18 +112,18 @@ chosen c t (x ∷ xs) free = at (c x.tid) refl (chosen c t xs free)
         (false_from_ne_true (x.tid == t) (λ same. both_ways (c t) free (subst (λ n. c n ≡ true) (eqb-true x.tid t same) closed))))
     at false is rest = kept (x.tid == t) rest
 
-pub open_found : (rs : List Reply) (c : ℕ → Bool) (t : ℕ) (xs : List Request) → c t ≡ false
-    → open_at t (opens rs c xs) ≡ option_map (open_as rs) (find (λ x. x.tid == t) xs)
-open_found rs c t xs free = found_as rs t (filter (λ x. not (c x.tid)) xs) ∙ ap (option_map (open_as rs)) (chosen c t xs free)
+pub open_found : (rs : List Reply) (again c : ℕ → Bool) (t : ℕ) (xs : List Request) → c t ≡ false
+    → open_at t (opens rs again c xs) ≡ option_map (open_as rs again) (find (λ x. x.tid == t) xs)
+open_found rs again c t xs free = found_as rs again t (filter (λ x. not (c x.tid)) xs) ∙ ap (option_map (open_as rs again)) (chosen c t xs free)
 
 -- where all behind a number are open, those that name an entry are found among them
-pub open_named : (rs : List Reply) (c : ℕ → Bool) (t d : ℕ) (name : List ℕ) (xs : List Request) → ((u : ℕ) → t < u → c u ≡ false)
-    → named_later t d name (opens rs c xs) ≡ is_named_later t d name xs
-open_named rs c t d name [] free = refl
-open_named rs c t d name (x ∷ xs) free = at (c x.tid) refl (open_named rs c t d name xs free)
+pub open_named : (rs : List Reply) (again c : ℕ → Bool) (t d : ℕ) (name : List ℕ) (xs : List Request) → ((u : ℕ) → t < u → c u ≡ false)
+    → named_later t d name (opens rs again c xs) ≡ is_named_later t d name xs
+open_named rs again c t d name [] free = refl
+open_named rs again c t d name (x ∷ xs) free = at (c x.tid) refl (open_named rs again c t d name xs free)
   where
-    at : (b : Bool) → c x.tid ≡ b → named_later t d name (opens rs c xs) ≡ is_named_later t d name xs
-        → named_later t d name (map (open_as rs) (cond (not b) (x ∷ filter (λ y. not (c y.tid)) xs) (filter (λ y. not (c y.tid)) xs)))
+    at : (b : Bool) → c x.tid ≡ b → named_later t d name (opens rs again c xs) ≡ is_named_later t d name xs
+        → named_later t d name (map (open_as rs again) (cond (not b) (x ∷ filter (λ y. not (c y.tid)) xs) (filter (λ y. not (c y.tid)) xs)))
         ≡ ((nat_lt t x.tid && names_entry x.op d name) || is_named_later t d name xs)
     at true closed rest =
         rest
@@ -111,73 +133,108 @@ open_named rs c t d name (x ∷ xs) free = at (c x.tid) refl (open_named rs c t 
 
 -- What becomes of them
 
-map_same : (rs ss : List Reply) (xs : List Request) → ((t : ℕ) → reply_to t ss ≡ reply_to t rs) → map (open_as ss) xs ≡ map (open_as rs) xs
-map_same rs ss [] same = refl
-map_same rs ss (x ∷ xs) same =
-    (λ i. (let r : OpenReq = record { tid = x.tid; caller = x.caller; op = x.op; answer = same x.tid i; resent = false } in r) ∷ map_same rs ss xs same i)
-
 -- one is answered that had no answer
-pub open_answered : (rs : List Reply) (t : ℕ) (o : OpAnswer) (xs : List Request) → has_reply t rs ≡ false
-    → map (open_as (rs ++ record { tid = t; answer = o } ∷ [])) xs ≡ map (answered t o) (map (open_as rs) xs)
-open_answered rs t o [] none = refl
-open_answered rs t o (x ∷ xs) none = (λ i. at (x.tid == t) refl i ∷ open_answered rs t o xs none i)
+pub open_answered : (rs : List Reply) (again : ℕ → Bool) (t : ℕ) (o : OpAnswer) (xs : List Request) → has_reply t rs ≡ false
+    → map (open_as (rs ++ record { tid = t; answer = o } ∷ []) again) xs ≡ map (answered t o) (map (open_as rs again) xs)
+open_answered rs again t o [] none = refl
+open_answered rs again t o (x ∷ xs) none = (λ i. at (x.tid == t) refl i ∷ open_answered rs again t o xs none i)
   where
     same_number : (m n : ℕ) → (m == n) ≡ (n == m)
     same_number m n = grind arith
 
     at : (b : Bool) → (x.tid == t) ≡ b
-        → (let r : OpenReq = open_as (rs ++ record { tid = t; answer = o } ∷ []) x in r)
-        ≡ cond b (record (open_as rs x) { answer = Some o }) (open_as rs x)
+        → (let r : OpenReq = open_as (rs ++ record { tid = t; answer = o } ∷ []) again x in r)
+        ≡ cond b (record (open_as rs again x) { answer = Some o }) (open_as rs again x)
     at true same =
-        ap (λ k. let r : OpenReq = record { tid = x.tid; caller = x.caller; op = x.op; answer = k; resent = false } in r)
+        ap (λ k. let r : OpenReq = record { tid = x.tid; caller = x.caller; op = x.op; answer = k; resent = again x.tid } in r)
         (subst (λ n. reply_to n (rs ++ record { tid = t; answer = o } ∷ []) ≡ Some o) (sym (eqb-true x.tid t same)) (reply_own t o rs none))
     at false other =
-        ap (λ k. let r : OpenReq = record { tid = x.tid; caller = x.caller; op = x.op; answer = k; resent = false } in r)
+        ap (λ k. let r : OpenReq = record { tid = x.tid; caller = x.caller; op = x.op; answer = k; resent = again x.tid } in r)
         (reply_other t x.tid o rs (same_number t x.tid ∙ other))
 
+-- one is answered that had an answer
+open_again : (rs : List Reply) (again : ℕ → Bool) (t : ℕ) (o : OpAnswer) (xs : List Request) → has_reply t rs ≡ true
+    → map (open_as (rs ++ record { tid = t; answer = o } ∷ []) again) xs ≡ map (open_as rs again) xs
+open_again rs again t o [] had = refl
+open_again rs again t o (x ∷ xs) had =
+    (λ i. (let r : OpenReq = record { tid = x.tid; caller = x.caller; op = x.op; answer = reply_again t x.tid o rs had i; resent = again x.tid } in r)
+    ∷ open_again rs again t o xs had i)
+
+-- that answer is there
+open_kept : (rs : List Reply) (again : ℕ → Bool) (t : ℕ) (o : OpAnswer) (xs : List Request) → reply_to t rs ≡ Some o
+    → map (answered t o) (map (open_as rs again) xs) ≡ map (open_as rs again) xs
+open_kept rs again t o [] kept = refl
+open_kept rs again t o (x ∷ xs) kept = (λ i. at (x.tid == t) refl i ∷ open_kept rs again t o xs kept i)
+  where
+    at : (b : Bool) → (x.tid == t) ≡ b → cond b (record (open_as rs again x) { answer = Some o }) (open_as rs again x) ≡ (let r : OpenReq = open_as rs again x in r)
+    at true same =
+        ap (λ k. let r : OpenReq = record { tid = x.tid; caller = x.caller; op = x.op; answer = k; resent = again x.tid } in r)
+        (sym (subst (λ n. reply_to n rs ≡ Some o) (sym (eqb-true x.tid t same)) kept))
+    at false other = refl
+
+-- those that are open are sent again
+open_resent : (rs : List Reply) (again next c : ℕ → Bool) (xs : List Request)
+    → ((t : ℕ) → has_request t xs ≡ true → c t ≡ false → next t ≡ true) → opens rs next c xs ≡ map resent (opens rs again c xs)
+open_resent rs again next c [] all = refl
+open_resent rs again next c (x ∷ xs) all =
+    at (c x.tid) refl (open_resent rs again next c xs (λ t there free. all t (or_right (x.tid == t) (has_request t xs) there) free))
+  where
+    at : (b : Bool) → c x.tid ≡ b → opens rs next c xs ≡ map resent (opens rs again c xs)
+        → map (open_as rs next) (cond (not b) (x ∷ filter (λ y. not (c y.tid)) xs) (filter (λ y. not (c y.tid)) xs))
+        ≡ map resent (map (open_as rs again) (cond (not b) (x ∷ filter (λ y. not (c y.tid)) xs) (filter (λ y. not (c y.tid)) xs)))
+    at true closed rest = rest
+    at false free rest =
+        (λ i. (let r : OpenReq = record {
+          tid = x.tid;
+          caller = x.caller;
+          op = x.op;
+          answer = reply_to x.tid rs;
+          resent = all x.tid (or_left (x.tid == x.tid) (has_request x.tid xs) (eq-eqb x.tid x.tid refl)) free i;
+        } in r) ∷ rest i)
+
 -- the request of a number is closed
-closing : (rs : List Reply) (c : ℕ → Bool) (t : ℕ) (b : Bool) (xs : List Request)
-    → opens rs (λ u. cond ((t == u) && b) true (c u)) xs ≡ cond b (without t (opens rs c xs)) (opens rs c xs)
-closing rs c t false xs = same xs
+closing : (rs : List Reply) (again c : ℕ → Bool) (t : ℕ) (b : Bool) (xs : List Request)
+    → opens rs again (λ u. cond ((t == u) && b) true (c u)) xs ≡ cond b (without t (opens rs again c xs)) (opens rs again c xs)
+closing rs again c t false xs = same xs
   where
     and_none : (k : Bool) → (k && false) ≡ false
     and_none true = refl
     and_none false = refl
 
-    same : (ys : List Request) → opens rs (λ u. cond ((t == u) && false) true (c u)) ys ≡ opens rs c ys
+    same : (ys : List Request) → opens rs again (λ u. cond ((t == u) && false) true (c u)) ys ≡ opens rs again c ys
     same [] = refl
     same (y ∷ ys) =
-        ap (λ k. map (open_as rs) (cond (not (cond k true (c y.tid))) (y ∷ filter (λ z. not (cond ((t == z.tid) && false) true (c z.tid))) ys) (filter (λ z. not (cond ((t == z.tid) && false) true (c z.tid))) ys))) (and_none (t == y.tid))
+        ap (λ k. map (open_as rs again) (cond (not (cond k true (c y.tid))) (y ∷ filter (λ z. not (cond ((t == z.tid) && false) true (c z.tid))) ys) (filter (λ z. not (cond ((t == z.tid) && false) true (c z.tid))) ys))) (and_none (t == y.tid))
         ∙ at (c y.tid) (same ys)
       where
-        at : (k : Bool) → opens rs (λ u. cond ((t == u) && false) true (c u)) ys ≡ opens rs c ys
-            → map (open_as rs) (cond (not k) (y ∷ filter (λ z. not (cond ((t == z.tid) && false) true (c z.tid))) ys) (filter (λ z. not (cond ((t == z.tid) && false) true (c z.tid))) ys))
-            ≡ map (open_as rs) (cond (not k) (y ∷ filter (λ z. not (c z.tid)) ys) (filter (λ z. not (c z.tid)) ys))
+        at : (k : Bool) → opens rs again (λ u. cond ((t == u) && false) true (c u)) ys ≡ opens rs again c ys
+            → map (open_as rs again) (cond (not k) (y ∷ filter (λ z. not (cond ((t == z.tid) && false) true (c z.tid))) ys) (filter (λ z. not (cond ((t == z.tid) && false) true (c z.tid))) ys))
+            ≡ map (open_as rs again) (cond (not k) (y ∷ filter (λ z. not (c z.tid)) ys) (filter (λ z. not (c z.tid)) ys))
         at true rest = rest
-        at false rest = ap (λ l. open_as rs y ∷ l) rest
-closing rs c t true [] = refl
-closing rs c t true (x ∷ xs) = at (t == x.tid) (same_number t x.tid) (c x.tid) (closing rs c t true xs)
+        at false rest = ap (λ l. open_as rs again y ∷ l) rest
+closing rs again c t true [] = refl
+closing rs again c t true (x ∷ xs) = at (t == x.tid) (same_number t x.tid) (c x.tid) (closing rs again c t true xs)
   where
     same_number : (m n : ℕ) → (m == n) ≡ (n == m)
     same_number m n = grind arith
 
-    at : (b : Bool) → (t == x.tid) ≡ (x.tid == t) → (k : Bool) → opens rs (λ u. cond ((t == u) && true) true (c u)) xs ≡ without t (opens rs c xs)
-        → map (open_as rs) (cond (not (cond ((t == x.tid) && true) true k)) (x ∷ filter (λ z. not (cond ((t == z.tid) && true) true (c z.tid))) xs) (filter (λ z. not (cond ((t == z.tid) && true) true (c z.tid))) xs))
-        ≡ without t (map (open_as rs) (cond (not k) (x ∷ filter (λ z. not (c z.tid)) xs) (filter (λ z. not (c z.tid)) xs)))
+    at : (b : Bool) → (t == x.tid) ≡ (x.tid == t) → (k : Bool) → opens rs again (λ u. cond ((t == u) && true) true (c u)) xs ≡ without t (opens rs again c xs)
+        → map (open_as rs again) (cond (not (cond ((t == x.tid) && true) true k)) (x ∷ filter (λ z. not (cond ((t == z.tid) && true) true (c z.tid))) xs) (filter (λ z. not (cond ((t == z.tid) && true) true (c z.tid))) xs))
+        ≡ without t (map (open_as rs again) (cond (not k) (x ∷ filter (λ z. not (c z.tid)) xs) (filter (λ z. not (c z.tid)) xs)))
     at b turn true rest = by (t == x.tid)
       where
-        by : (w : Bool) → map (open_as rs) (cond (not (cond (w && true) true true)) (x ∷ filter (λ z. not (cond ((t == z.tid) && true) true (c z.tid))) xs) (filter (λ z. not (cond ((t == z.tid) && true) true (c z.tid))) xs))
-            ≡ without t (opens rs c xs)
+        by : (w : Bool) → map (open_as rs again) (cond (not (cond (w && true) true true)) (x ∷ filter (λ z. not (cond ((t == z.tid) && true) true (c z.tid))) xs) (filter (λ z. not (cond ((t == z.tid) && true) true (c z.tid))) xs))
+            ≡ without t (opens rs again c xs)
         by true = rest
         by false = rest
     at b turn false rest =
-        ap (λ w. map (open_as rs) (cond (not (cond (w && true) true false)) (x ∷ filter (λ z. not (cond ((t == z.tid) && true) true (c z.tid))) xs) (filter (λ z. not (cond ((t == z.tid) && true) true (c z.tid))) xs))) turn
+        ap (λ w. map (open_as rs again) (cond (not (cond (w && true) true false)) (x ∷ filter (λ z. not (cond ((t == z.tid) && true) true (c z.tid))) xs) (filter (λ z. not (cond ((t == z.tid) && true) true (c z.tid))) xs))) turn
         ∙ by (x.tid == t)
       where
-        by : (w : Bool) → map (open_as rs) (cond (not (cond (w && true) true false)) (x ∷ filter (λ z. not (cond ((t == z.tid) && true) true (c z.tid))) xs) (filter (λ z. not (cond ((t == z.tid) && true) true (c z.tid))) xs))
-            ≡ cond (not w) (open_as rs x ∷ without t (opens rs c xs)) (without t (opens rs c xs))
+        by : (w : Bool) → map (open_as rs again) (cond (not (cond (w && true) true false)) (x ∷ filter (λ z. not (cond ((t == z.tid) && true) true (c z.tid))) xs) (filter (λ z. not (cond ((t == z.tid) && true) true (c z.tid))) xs))
+            ≡ cond (not w) (open_as rs again x ∷ without t (opens rs again c xs)) (without t (opens rs again c xs))
         by true = rest
-        by false = ap (λ l. open_as rs x ∷ l) rest
+        by false = ap (λ l. open_as rs again x ∷ l) rest
 
 none_without : (t : ℕ) (os : List OpenReq) → open_at t os ≡ None → without t os ≡ os
 none_without t [] none = refl
@@ -197,9 +254,9 @@ found_tid t (y ∷ ys) x is = at (y.tid == t) refl is (λ rest. found_tid t ys x
     at false other is go = go is
 
 -- a Safe closes a request that is open and has an answer, and no other
-pub open_closed : (rs : List Reply) (c : ℕ → Bool) (t : ℕ) (xs : List Request)
-    → opens rs (λ u. cond ((t == u) && has_reply t rs) true (c u)) xs ≡ cond (is_told t (opens rs c xs)) (without t (opens rs c xs)) (opens rs c xs)
-open_closed rs c t xs = closing rs c t (has_reply t rs) xs ∙ at (find (λ x. x.tid == t) ys) refl
+pub open_closed : (rs : List Reply) (again c : ℕ → Bool) (t : ℕ) (xs : List Request)
+    → opens rs again (λ u. cond ((t == u) && has_reply t rs) true (c u)) xs ≡ cond (is_told t (opens rs again c xs)) (without t (opens rs again c xs)) (opens rs again c xs)
+open_closed rs again c t xs = closing rs again c t (has_reply t rs) xs ∙ at (find (λ x. x.tid == t) ys) refl
   where
     ys : List Request
     ys = filter (λ x. not (c x.tid)) xs
@@ -209,14 +266,14 @@ open_closed rs c t xs = closing rs c t (has_reply t rs) xs ∙ at (find (λ x. x
     by false os same = refl
 
     at : (o : Option Request) → find (λ x. x.tid == t) ys ≡ o
-        → cond (has_reply t rs) (without t (opens rs c xs)) (opens rs c xs) ≡ cond (is_told t (opens rs c xs)) (without t (opens rs c xs)) (opens rs c xs)
+        → cond (has_reply t rs) (without t (opens rs again c xs)) (opens rs again c xs) ≡ cond (is_told t (opens rs again c xs)) (without t (opens rs again c xs)) (opens rs again c xs)
     at None none =
-        let away : open_at t (opens rs c xs) ≡ None = found_as rs t ys ∙ ap (option_map (open_as rs)) none in
-        by (has_reply t rs) (opens rs c xs) (none_without t (opens rs c xs) away)
-        ∙ sym (ap (λ r. cond (is_some (option_and_then (λ (x : OpenReq). x.answer) r)) (without t (opens rs c xs)) (opens rs c xs)) away)
+        let away : open_at t (opens rs again c xs) ≡ None = found_as rs again t ys ∙ ap (option_map (open_as rs again)) none in
+        by (has_reply t rs) (opens rs again c xs) (none_without t (opens rs again c xs) away)
+        ∙ sym (ap (λ r. cond (is_some (option_and_then (λ (x : OpenReq). x.answer) r)) (without t (opens rs again c xs)) (opens rs again c xs)) away)
     at (Some x) is =
-        let there : open_at t (opens rs c xs) ≡ Some (open_as rs x) = found_as rs t ys ∙ ap (option_map (open_as rs)) is in
-        sym (ap (λ b. cond b (without t (opens rs c xs)) (opens rs c xs))
+        let there : open_at t (opens rs again c xs) ≡ Some (open_as rs again x) = found_as rs again t ys ∙ ap (option_map (open_as rs again)) is in
+        sym (ap (λ b. cond b (without t (opens rs again c xs)) (opens rs again c xs))
         (ap (λ r. is_some (option_and_then (λ (y : OpenReq). y.answer) r)) there
         ∙ (ap (λ n. is_some (reply_to n rs)) (found_tid t ys x is) ∙ reply_some t rs)))
 
@@ -244,57 +301,136 @@ closed_replied (x ∷ h) t none = step x.event x.answer none (λ rest. closed_re
     step e.ToClient _ is go = go is
     step _ _ is go = go is
 
+-- one that wasn't sent wasn't sent again
+pub unsent : (h : List Entry) (t : ℕ) → has_request t (requests h) ≡ false → is_resent h t ≡ false
+unsent [] t none = refl
+unsent (x ∷ h) t none = step x.event x.answer none (λ rest. unsent h t rest)
+  where
+    front : (xs ys : List Request) → has_request t (xs ++ ys) ≡ false → has_request t xs ≡ false
+    front [] ys is = refl
+    front (y ∷ xs) ys is =
+        let parts = or_parts (y.tid == t) (has_request t (xs ++ ys)) is in
+        ap (λ b. b || has_request t xs) parts.0 ∙ front xs ys parts.1
+
+    step : (x : Event) (y : Answer) → has_request t (requests (record { event = x; answer = y } ∷ h)) ≡ false
+        → (has_request t (requests h) ≡ false → is_resent h t ≡ false) → is_resent (record { event = x; answer = y } ∷ h) t ≡ false
+    step (e.Req c op) (a.Sent tid) is go = go (front (requests h) (record { tid = tid; caller = c; op = op } ∷ []) is)
+    step (e.Req c op) _ is go = go is
+    step e.Reconnect (a.Reconnect caps asked flushes) is go = ap (λ b. (b && not (is_closed h t)) || is_resent h t) is ∙ go is
+    step e.Reconnect _ is go = go is
+    step _ _ is go = go is
+
+-- nor was the next one
+pub next_unsent : (p : ℕ) (h : List Entry) → IsRun p h → has_request (length (requests h) + 1) (requests h) ≡ false
+next_unsent p h run =
+    false_from_ne_true (has_request (length (requests h) + 1) (requests h))
+    (λ had.
+    let (x, there, same) = any_some (λ k. k.tid == length (requests h) + 1) (requests h) had in
+    let own = was_asked (requests h) (asked h) x (asked_alike p h run) there in
+    absurd (omega (
+      arith,
+      eqb-true x.tid (length (requests h) + 1) same,
+      asked_next h (asked_alike p h run) (asked_settles p h run),
+      member_upto (λ t. t) 0 x.tid (asked_tids (asked h)) up (member_tid (record { tid = x.tid; op = x.op; answer = own.0 }) (asked h) own.1),
+    )))
+  where
+    plain : (ts : List ℕ) → map (λ t. t) ts ≡ ts
+    plain [] = refl
+    plain (t ∷ ts) = ap (λ us. t ∷ us) (plain ts)
+
+    up : RisesFrom 0 (map (λ t. t) (asked_tids (asked h)))
+    up = subst (λ ts. RisesFrom 0 ts) (sym (plain (asked_tids (asked h)))) (settles_rises 0 (setup_names h) (asked h) (asked_settles p h run))
+
+pub next_resent : (p : ℕ) (h : List Entry) → IsRun p h → is_resent h (length (requests h) + 1) ≡ false
+next_resent p h run = unsent h (length (requests h) + 1) (next_unsent p h run)
+
 -- the next request is sent
-pub opens_sent : (h : List Entry) (c : ℕ) (op : ReqOp) (t : ℕ) → has_reply t (replies h) ≡ false
+pub opens_sent : (h : List Entry) (c : ℕ) (op : ReqOp) (t : ℕ) → has_reply t (replies h) ≡ false → is_resent h t ≡ false
     → open_requests (record { event = e.Req c op; answer = a.Sent t } ∷ h) ≡ open_requests h ++ sent_as t c op ∷ []
-opens_sent h c op t none =
-    ap (map (open_as (replies h))) (filter-append (λ (x : Request). not (is_closed h x.tid)) (requests h) (record { tid = t; caller = c; op = op } ∷ []))
-    ∙ (map-append (open_as (replies h)) (filter (λ (x : Request). not (is_closed h x.tid)) (requests h)) _
+opens_sent h c op t none once =
+    ap (map (open_as (replies h) (λ u. is_resent h u))) (filter-append (λ (x : Request). not (is_closed h x.tid)) (requests h) (record { tid = t; caller = c; op = op } ∷ []))
+    ∙ (map-append (open_as (replies h) (λ u. is_resent h u)) (filter (λ (x : Request). not (is_closed h x.tid)) (requests h)) _
     ∙ ap (λ l. open_requests h ++ l)
-    (ap (λ b. map (open_as (replies h)) (cond (not b) (record { tid = t; caller = c; op = op } ∷ []) [])) (closed_replied h t none)
-    ∙ ap (λ k. (let r : OpenReq = record { tid = t; caller = c; op = op; answer = k; resent = false } in r) ∷ []) (reply_none t (replies h) none)))
+    (ap (λ b. map (open_as (replies h) (λ u. is_resent h u)) (cond (not b) (record { tid = t; caller = c; op = op } ∷ []) [])) (closed_replied h t none)
+    ∙ (λ i. (let r : OpenReq = record { tid = t; caller = c; op = op; answer = reply_none t (replies h) none i; resent = once i } in r) ∷ [])))
 
 -- an answer is delivered to one that had none
 pub opens_answered : (h : List Entry) (t : ℕ) (o : OpAnswer) → has_reply t (replies h) ≡ false
     → open_requests (record { event = e.ToClient; answer = a.Unsafe t o } ∷ h) ≡ map (answered t o) (open_requests h)
-opens_answered h t o none = open_answered (replies h) t o (filter (λ x. not (is_closed h x.tid)) (requests h)) none
+opens_answered h t o none = open_answered (replies h) (λ u. is_resent h u) t o (filter (λ x. not (is_closed h x.tid)) (requests h)) none
+
+-- one is told again
+pub opens_again : (h : List Entry) (t : ℕ) (o : OpAnswer) → has_reply t (replies h) ≡ true
+    → open_requests (record { event = e.ToClient; answer = a.Unsafe t o } ∷ h) ≡ open_requests h
+opens_again h t o had = open_again (replies h) (λ u. is_resent h u) t o (filter (λ x. not (is_closed h x.tid)) (requests h)) had
+
+-- the answer that is kept is there
+pub opens_kept : (h : List Entry) (t : ℕ) (o : OpAnswer) → reply_to t (replies h) ≡ Some o → map (answered t o) (open_requests h) ≡ open_requests h
+opens_kept h t o kept = open_kept (replies h) (λ u. is_resent h u) t o (filter (λ x. not (is_closed h x.tid)) (requests h)) kept
+
+-- the client sends those that are open again
+pub opens_reconnected : (h : List Entry) (caps asked flushes : ℕ)
+    → open_requests (record { event = e.Reconnect; answer = a.Reconnect caps asked flushes } ∷ h) ≡ map resent (open_requests h)
+opens_reconnected h caps asked flushes =
+    open_resent (replies h) (λ u. is_resent h u) (λ u. is_open h u || is_resent h u) (λ u. is_closed h u) (requests h)
+    (λ t there free. (λ i. (there i && not (free i)) || is_resent h t))
 
 -- it is told to be durable
 pub opens_closed : (h : List Entry) (t : ℕ)
     → open_requests (record { event = e.ToClient; answer = a.Safe t } ∷ h) ≡ cond (is_told t (open_requests h)) (without t (open_requests h)) (open_requests h)
-opens_closed h t = own (requests h) ∙ open_closed (replies h) (λ u. is_closed h u) t (requests h)
+opens_closed h t = own (requests h) ∙ open_closed (replies h) (λ u. is_resent h u) (λ u. is_closed h u) t (requests h)
   where
     turn : (b : Bool) (u : ℕ) → (t == u) ≡ b → cond ((t == u) && has_reply u (replies h)) true (is_closed h u) ≡ cond ((t == u) && has_reply t (replies h)) true (is_closed h u)
     turn true u same = ap (λ n. cond ((t == u) && has_reply n (replies h)) true (is_closed h u)) (sym (eqb-true t u same))
     turn false u other = ap (λ b. cond (b && has_reply u (replies h)) true (is_closed h u)) other ∙ sym (ap (λ b. cond (b && has_reply t (replies h)) true (is_closed h u)) other)
 
-    own : (xs : List Request) → opens (replies h) (λ u. cond ((t == u) && has_reply u (replies h)) true (is_closed h u)) xs
-        ≡ opens (replies h) (λ u. cond ((t == u) && has_reply t (replies h)) true (is_closed h u)) xs
-    own xs = λ i. opens (replies h) (λ u. turn (t == u) u refl i) xs
+    own : (xs : List Request) → opens (replies h) (λ u. is_resent h u) (λ u. cond ((t == u) && has_reply u (replies h)) true (is_closed h u)) xs
+        ≡ opens (replies h) (λ u. is_resent h u) (λ u. cond ((t == u) && has_reply t (replies h)) true (is_closed h u)) xs
+    own xs = λ i. opens (replies h) (λ u. is_resent h u) (λ u. turn (t == u) u refl i) xs
 
 -- What is found of one that has no answer
 
 pub first_op : (h : List Entry) (t : ℕ) → has_reply t (replies h) ≡ false
     → option_map (λ (r : OpenReq). r.op) (open_at t (open_requests h)) ≡ op_of t (requests h)
 first_op h t none =
-    ap (option_map (λ (r : OpenReq). r.op)) (open_found (replies h) (λ u. is_closed h u) t (requests h) (closed_replied h t none))
+    ap (option_map (λ (r : OpenReq). r.op)) (open_found (replies h) (λ u. is_resent h u) (λ u. is_closed h u) t (requests h) (closed_replied h t none))
     ∙ at (find (λ x. x.tid == t) (requests h))
   where
-    at : (o : Option Request) → option_map (λ (r : OpenReq). r.op) (option_map (open_as (replies h)) o) ≡ option_map (λ (x : Request). x.op) o
+    at : (o : Option Request) → option_map (λ (r : OpenReq). r.op) (option_map (open_as (replies h) (λ u. is_resent h u)) o) ≡ option_map (λ (x : Request). x.op) o
     at None = refl
     at (Some x) = refl
 
 pub first_answer : (h : List Entry) (t : ℕ) → has_reply t (replies h) ≡ false
     → option_and_then (λ (r : OpenReq). r.answer) (open_at t (open_requests h)) ≡ None
 first_answer h t none =
-    ap (option_and_then (λ (r : OpenReq). r.answer)) (open_found (replies h) (λ u. is_closed h u) t (requests h) (closed_replied h t none))
+    ap (option_and_then (λ (r : OpenReq). r.answer)) (open_found (replies h) (λ u. is_resent h u) (λ u. is_closed h u) t (requests h) (closed_replied h t none))
     ∙ at (find (λ x. x.tid == t) (requests h)) refl
   where
-    at : (o : Option Request) → find (λ x. x.tid == t) (requests h) ≡ o → option_and_then (λ (r : OpenReq). r.answer) (option_map (open_as (replies h)) o) ≡ None
+    at : (o : Option Request) → find (λ x. x.tid == t) (requests h) ≡ o → option_and_then (λ (r : OpenReq). r.answer) (option_map (open_as (replies h) (λ u. is_resent h u)) o) ≡ None
     at None is = refl
     at (Some x) is = ap (λ n. reply_to n (replies h)) (found_tid t (requests h) x is) ∙ reply_none t (replies h) none
+
+-- one that isn't closed was sent again where the history says so
+pub open_resends : (h : List Entry) (t : ℕ) → is_closed h t ≡ false → client.is_resent t (open_requests h) ≡ is_resent h t
+open_resends h t free =
+    ap (λ r. option_map_or (λ (x : OpenReq). x.resent) r false) (open_found (replies h) (λ u. is_resent h u) (λ u. is_closed h u) t (requests h) free)
+    ∙ at (find (λ x. x.tid == t) (requests h)) refl
+  where
+    missed : (xs : List Request) → find (λ x. x.tid == t) xs ≡ None → has_request t xs ≡ false
+    missed [] none = refl
+    missed (x ∷ xs) none = on (x.tid == t) none (λ rest. missed xs rest)
+      where
+        on : (b : Bool) → cond b (Some x) (find (λ y. y.tid == t) xs) ≡ None → (find (λ y. y.tid == t) xs ≡ None → has_request t xs ≡ false)
+            → (b || has_request t xs) ≡ false
+        on true is go = absurd cc
+        on false is go = go is
+
+    at : (o : Option Request) → find (λ x. x.tid == t) (requests h) ≡ o
+        → option_map_or (λ (x : OpenReq). x.resent) (option_map (open_as (replies h) (λ u. is_resent h u)) o) false ≡ is_resent h t
+    at None none = sym (unsent h t (missed (requests h) none))
+    at (Some x) is = ap (λ n. is_resent h n) (found_tid t (requests h) x is)
 
 -- the requests behind it that name an entry are free
 pub named_open : (h : List Entry) (t d : ℕ) (name : List ℕ) → ((u : ℕ) → t < u → has_reply u (replies h) ≡ false)
     → named_later t d name (open_requests h) ≡ is_named_later t d name (requests h)
-named_open h t d name none = open_named (replies h) (λ u. is_closed h u) t d name (requests h) (λ u less. closed_replied h u (none u less))
+named_open h t d name none = open_named (replies h) (λ u. is_resent h u) (λ u. is_closed h u) t d name (requests h) (λ u less. closed_replied h u (none u less))
