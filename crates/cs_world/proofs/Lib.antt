@@ -6,8 +6,10 @@ pub mod Numbers
 pub mod Client
 pub mod CallSent
 pub mod Setups
-pub mod SetupNames
 pub mod Serves
+pub mod News
+pub mod Sent
+-- Parts that an event leaves as they are
 pub mod Stays
 -- Deliveries
 pub mod First
