@@ -4,6 +4,7 @@ pub mod Opens
 pub mod Answered
 pub mod Numbers
 pub mod Client
+pub mod CallSent
 pub mod Recorded
 pub mod SetupNames
 pub mod Serves
