@@ -5,8 +5,7 @@ pub mod Answered
 pub mod Numbers
 pub mod Client
 pub mod CallSent
-pub mod Recorded
-pub mod SetupNames
+pub mod Setups
 pub mod Serves
 pub mod News
 pub mod Sent
