@@ -8,6 +8,7 @@ pub mod Setups
 pub mod Serves
 pub mod News
 pub mod Sent
+pub mod CallSent
 -- Parts that an event leaves as they are
 pub mod Stays
 pub mod Made

@@ -28,6 +28,7 @@ returns-in-Absent-clause-ok g c =
         answer = sym (show_is s.pages (past s) s.server c.args.file a c.args.off c.args.len states.Absent c.requires.ready.run t.server is);
         client = t.client;
         server = t.server;
+        session = t.session;
         links = t.links;
       };
       entries = refl;
@@ -45,6 +46,7 @@ returns-in-Gone-clause-ok g c =
         answer = sym (show_is s.pages (past s) s.server c.args.file a c.args.off c.args.len states.Gone c.requires.ready.run t.server is);
         client = t.client;
         server = t.server;
+        session = t.session;
         links = t.links;
       };
       entries = refl;
@@ -68,6 +70,7 @@ returns-then-owed-clause-ok g c =
             sym (show_is s.pages h s.server f a c.args.off c.args.len (states.Meta c.in-Meta.meta) run t.server is ∙ cond-true (owed h f a) answers.Pending _ owing);
         client = t.client;
         server = t.server;
+        session = t.session;
         links = t.links;
       };
       entries = refl;
@@ -137,6 +140,7 @@ returns-in_ok-bytes-in-Meta-clause-ok g c =
         answer = ap (λ b. answers.Size m b) held ∙ sym shows;
         client = t.client;
         server = t.server;
+        session = t.session;
         links = t.links;
       };
       entries = refl;
