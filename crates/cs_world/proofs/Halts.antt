@@ -1,5 +1,5 @@
 -- The log after an event, and which events call which device.
-use Rattle.std.proofs.Common.{◌≡◌, ◌∙◌, refl, sym, ap, subst, inl, inr, ℕ, false, List, ◌∷◌, Result, OnErr, IsErrOf}
+use Rattle.std.proofs.Common.{◌≡◌, refl, sym, subst, inl, inr, ℕ, List, ◌∷◌, Result, IsErrOf}
 use Rattle.cs_laws.specs.declared.events.Event.{Event}
 use Rattle.cs_laws.specs.declared.events.Event.TheVariants as events
 use Rattle.cs_laws.specs.declared.answers.Answer.{Answer}
@@ -10,7 +10,6 @@ use Rattle.cs_laws.specs.declared.records.Record.{Record}
 use Rattle.cs_laws.specs.declared.faults.StepFault.{StepFault}
 use Rattle.cs_laws.specs.declared.faults.StepFault.TheVariants as faults
 use Rattle.cs_laws.specs.Answers.{answer}
-use Rattle.cs_laws.specs.Devices.{FaultsOf}
 use Rattle.cs_laws.specs.History.{durable, fresh, to_server}
 use Rattle.cs_laws.specs.Logged.{LogHalts, LogIs}
 use Rattle.cs_laws.specs.Standing.{durable_then, fresh_then}
@@ -54,16 +53,6 @@ log_after records count failed p h e old new r q none halted l = record {
   halted = any_err q halted;
   quiet = l.quiet;
   faults = no_fault faults.Log (calls_log e (answer p h e)) (failed old) (failed new) r q none l.faults;
-}
-
--- the clause on the log, by the answer of the server
-pub log_of : {S T : Type 0} (records : S → List (List ℕ)) (count failed : S → ℕ) (p : ℕ) (h : List Entry) (e : Event) (old new : S) (r : Result T StepFault) (a : Answer)
-    → a ≡ answer p h e → OnErr r (HaltsAt p h e (records new) (count new)) → (calls_log e a ≡ false → new ≡ old)
-    → FaultsOf faults.Log (calls_log e a) (failed old) (failed new) r → LogOf records count failed p h e old new r
-log_of records count failed p h e old new r a is halted quiet faulty = record {
-  halted = halted;
-  quiet = λ none. quiet (ap (λ y. calls_log e y) is ∙ none);
-  faults = subst (λ y. FaultsOf faults.Log (calls_log e y) (failed old) (failed new) r) is faulty;
 }
 
 -- Which events call which device

@@ -1,14 +1,16 @@
-use Rattle.std.proofs.Common.{◌≡◌, ◌∙◌, ◌∷◌, ◌++◌, not, [], refl, sym, ap, subst, rules, arith}
+use Rattle.std.proofs.Common.{◌≡◌, ◌∙◌, ◌∷◌, ◌++◌, ◌||◌, not, true, [], refl, sym, ap, subst, rules, arith}
 use Rattle.std.proofs.lemmas.List.{length-reverse}
 use Rattle.cs_laws.specs.Answers.{answer}
+use Rattle.cs_laws.specs.Events.{is_setup}
+use Rattle.cs_laws.specs.History.{fresh}
 use Rattle.cs_laws.specs.Sessions.{is_active, is_broken, server_state}
 use Rattle.cs_mds.specs.Answers.{calls_log, served_answer}
 use Rattle.cs_theorems.specs.Spellings.{AllFit}
 use Rattle.cs_world.specs.Serving.{event_sent}
 use Rattle.cs_world.specs.Tables.{past}
-use Rattle.cs_world.proofs.Halts.{halts_logged, log_of, logged_after}
+use Rattle.cs_world.proofs.Halts.{halts_at, halts_logged, logged_after}
 use Rattle.cs_world.proofs.Sent.{served_fit, served_links}
-use Rattle.cs_world.proofs.Serves.{has_number, served_after, served_answer_is}
+use Rattle.cs_world.proofs.Serves.{has_number, own_tells, served_after, served_answer_is}
 use Rattle.cs_world.proofs.Stays.{client_stays, session_served}
 use Rattle.cs_world.proofs.Stored.{any_err}
 use Rattle.cs_world.proofs.server.serve.Goals as goal
@@ -63,4 +65,70 @@ returns-clause-ok g c =
       };
       entries = refl;
       pages = refl;
+    }
+
+pub returns-in_err-answer-clause-log : goal.returns-in_err-answer-clause-log
+returns-in_err-answer-clause-log g c =
+    let s = c.args.state.now in
+    let h = past s in
+    let e = c.args.event.now in
+    let i = c.requires.ready.parts.server in
+    let new = c.serve_by.new.log in
+    let done = c.in_err-answer.ensures in
+    let on : c.is_server_active-active.result ≡ is_active (server_state h) =
+    c.is_server_active-active.ensures ∙ ap is_active c.requires.ready.parts.session.server in
+    let said = served_answer s.server c.is_server_active-active.result e in
+    let is : said ≡ answer s.pages h e = served_answer_is h s.server i s.pages c.is_server_active-active.result e on c.requires.served in
+    record {
+      halted =
+          any_err c.from_residual.result
+          (halts_at s.pages h s.server e said [] (g.L.MdsLog.records new) (g.L.MdsLog.durable new) i is
+          ((own_tells h e said (ap (λ b. b || is_setup e) c.requires.served)).fresh (fresh h)) done.halted);
+      quiet = λ none. done.quiet (ap (λ y. calls_log e y) is ∙ none);
+      faults = record {
+        later = done.faults.later;
+        cause = λ failed. search rules;
+        called = λ failed. let k : calls_log e said ≡ true = search rules in sym (ap (λ y. calls_log e y) is) ∙ k;
+      };
+    }
+
+pub returns-in_err-send_all-clause-log : goal.returns-in_err-send_all-clause-log
+returns-in_err-send_all-clause-log g c =
+    let s = c.args.state.now in
+    let h = past s in
+    let e = c.args.event.now in
+    let a = c.in_ok-answer.answer in
+    let t = c.requires.ready.parts in
+    let new = c.serve_by.new.log in
+    let done = c.in_ok-answer.ensures in
+    let active : c.is_server_active-active.result ≡ is_active (server_state h) = c.is_server_active-active.ensures ∙ ap is_active t.session.server in
+    let on : c.is_server_sending-sending.result ≡ not (is_broken (server_state h)) =
+    c.is_server_sending-sending.ensures ∙ ap (λ k. not (is_broken k)) t.session.server in
+    let served = served_answer_is h s.server t.server s.pages c.is_server_active-active.result e active c.requires.served in
+    let is : a ≡ answer s.pages h e = done.answer ∙ served in
+    let after =
+    served_after s.pages h s.server c.serve_by.new.server e a t.server done.after done.replaying (done.whole t.server.whole) c.requires.served is
+    c.is_server_sending-sending.result on done.told in
+    record {
+      halted =
+          any_err c.from_residual-in_err-send_all.result
+          (halts_logged s.pages h e a (g.L.MdsLog.records new) (g.L.MdsLog.durable new) is
+          (logged_after (record { event = e; answer = a } ∷ h) c.serve_by.new.server (g.L.MdsLog.records new) (g.L.MdsLog.durable new) after done.log));
+      quiet = λ none. done.quiet (ap (λ y. calls_log e y) served ∙ none);
+      faults = record { later = done.faults.later; cause = λ failed. search rules; called = λ failed. search rules };
+    }
+
+pub returns-clause-log : goal.returns-clause-log
+returns-clause-log g c =
+    let s = c.args.state.now in
+    let h = past s in
+    let e = c.args.event.now in
+    let t = c.requires.ready.parts in
+    let done = c.in_ok-answer.ensures in
+    let active : c.is_server_active-active.result ≡ is_active (server_state h) = c.is_server_active-active.ensures ∙ ap is_active t.session.server in
+    let served = served_answer_is h s.server t.server s.pages c.is_server_active-active.result e active c.requires.served in
+    record {
+      halted = tt;
+      quiet = λ none. done.quiet (ap (λ y. calls_log e y) served ∙ none);
+      faults = record { later = done.faults.later; cause = λ failed. search rules; called = λ failed. search rules };
     }

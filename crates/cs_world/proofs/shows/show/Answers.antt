@@ -17,6 +17,24 @@ use Rattle.cs_world.proofs.Showing.{called_by, owes, quiet_by, show_is, shows_it
 use Rattle.cs_world.proofs.Stored.{any_err, front_none}
 use Rattle.cs_world.proofs.shows.show.Goals as goal
 
+pub returns-in-Unknown-clause-ok : goal.returns-in-Unknown-clause-ok
+returns-in-Unknown-clause-ok g c =
+    let s = c.args.state.now in
+    let a = c.args.at.now in
+    let t = c.requires.ready.parts in
+    let is : states.Unknown ≡ shown_of s.server c.args.file a = sym c.in-Unknown.is ∙ c.shown.ensures in
+    record {
+      after = record {
+        answer = sym (show_is s.pages (past s) s.server c.args.file a c.args.off c.args.len states.Unknown c.requires.ready.run t.server is);
+        client = t.client;
+        server = t.server;
+        session = t.session;
+        links = t.links;
+      };
+      entries = refl;
+      pages = refl;
+    }
+
 pub returns-in-Absent-clause-ok : goal.returns-in-Absent-clause-ok
 returns-in-Absent-clause-ok g c =
     let s = c.args.state.now in
