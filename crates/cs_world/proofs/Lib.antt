@@ -11,9 +11,14 @@ pub mod News
 pub mod Sent
 -- Parts that an event leaves as they are
 pub mod Stays
+pub mod Made
 -- Deliveries
 pub mod First
 pub mod Received
+-- What is sent again
+pub mod Resending
+-- Shows
+pub mod Showing
 -- The devices
 pub mod Stored
 pub mod Halts

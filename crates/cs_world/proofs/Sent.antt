@@ -1,5 +1,6 @@
 -- The links after an event of the server's own.
-use Rattle.std.proofs.Common.{◌≡◌, ◌∙◌, refl, sym, ap, ℕ, not, Bool, true, false, cond, List, [], ◌∷◌, ◌++◌}
+use Rattle.std.proofs.Common.{◌≡◌, ◌∙◌, refl, sym, ap, ℕ, ◌<◌, not, Bool, true, false, cond, List, [], ◌∷◌, ◌++◌, length}
+use Rattle.std.proofs.lemmas.Bool.{true≢false}
 use Rattle.std.proofs.lemmas.List.{append-nil}
 use Rattle.cs_parts.specs.Capabilities.{granted, revoked}
 use Rattle.cs_snapctx.specs.declared.realm.RealmRecord.{RealmRecord}
@@ -10,10 +11,12 @@ use Rattle.cs_laws.specs.declared.answers.Answer.TheVariants as answers
 use Rattle.cs_laws.specs.declared.answers.Entry.{Entry}
 use Rattle.cs_laws.specs.declared.messages.Message.{Message}
 use Rattle.cs_laws.specs.Answers.{answer}
+use Rattle.cs_laws.specs.Events.{is_setup}
+use Rattle.cs_laws.specs.Fits.{fits}
 use Rattle.cs_laws.specs.Flight.{cap_message, to_client_then}
 use Rattle.cs_laws.specs.History.{durable, fresh, last_sent, server, to_client, to_server}
 use Rattle.cs_laws.specs.Realms.{realm_records}
-use Rattle.cs_laws.specs.Runs.{IsRun}
+use Rattle.cs_laws.specs.Runs.{CanFollow, IsRun}
 use Rattle.cs_laws.specs.ServerKnows.{server_dirs, server_path}
 use Rattle.cs_laws.specs.Sessions.{is_broken, server_state}
 use Rattle.cs_laws.specs.Standing.{news}
@@ -21,7 +24,9 @@ use Rattle.cs_records.specs.CommitNews.{commit_news}
 use Rattle.cs_tree.specs.Directories.{inos, path_of}
 use Rattle.cs_mds.specs.Answers.{committed_sent}
 use Rattle.cs_mds.specs.Views.{ServerView}
+use Rattle.cs_theorems.specs.Spellings.{AllFit}
 use Rattle.cs_theorems.specs.Told.{told_realms}
+use Rattle.cs_theorems.proofs.Spelled.{sent_client_fit}
 use Rattle.cs_world.specs.Parts.{LinksAt, ServerAt}
 use Rattle.cs_world.specs.Serving.{event_sent, is_served}
 use Rattle.cs_world.proofs.News.{news_told}
@@ -91,3 +96,16 @@ served_links p h s e a sending ms qs rest run i is said on links sent = record {
       sent ∙ (ap (λ q. q ++ event_sent e a sending s) links.to_client ∙ sym (served_out p h s e a sending run i is said on));
   to_server = links.to_server ∙ here_then e a h is;
 }
+
+-- it comes behind the setup lines
+served_later : (e : Event) → is_served e ≡ true → is_setup e ≡ false
+served_later (events.Dir d x) is = absurd (cc)
+served_later (events.File f x) is = absurd (cc)
+served_later _ is = refl
+
+-- each of these messages has a spelling
+pub served_fit : (p : ℕ) (h : List Entry) (s : ServerView) (e : Event) (a : Answer) (sending : Bool) → IsRun p h → ServerAt h s → is_served e ≡ true
+    → fits e ≡ true → a ≡ answer p h e → sending ≡ not (is_broken (server_state h)) → length h < 10000 → AllFit (event_sent e a sending s)
+served_fit p h s e a sending run i is fit said on room =
+    let can : CanFollow h e = record { spelled = fit; setup = λ line. absurd (true≢false (sym line ∙ served_later e is)) } in
+    sent_client_fit p h (record { event = e; answer = a }) (event_sent e a sending s) ((can, said), run) room (served_out p h s e a sending run i is said on)

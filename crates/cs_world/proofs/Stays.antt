@@ -1,9 +1,8 @@
 -- The parts that an event doesn't touch: the facts as they are, whatever the answer.
-use Rattle.std.proofs.Common.{◌≡◌, ℕ, true, false, List, ◌∷◌}
+use Rattle.std.proofs.Common.{◌≡◌, true, false, List, ◌∷◌}
 use Rattle.cs_laws.specs.declared.events.Event.{Event}
 use Rattle.cs_laws.specs.declared.events.Event.TheVariants as events
 use Rattle.cs_laws.specs.declared.answers.Answer.{Answer}
-use Rattle.cs_laws.specs.declared.answers.Answer.TheVariants as answers
 use Rattle.cs_laws.specs.declared.answers.Entry.{Entry}
 use Rattle.cs_laws.specs.Events.{is_setup}
 use Rattle.cs_client.specs.Calls.{is_call}
@@ -30,19 +29,6 @@ server_stays (events.Dir d p) a h s call later i = absurd (cc)
 server_stays (events.File f p) a h s call later i = absurd (cc)
 server_stays _ a h s call later i = absurd (cc)
 
--- where the links are dropped the server's session is broken
-pub server_dropped : (to_client to_server : ℕ) (h : List Entry) (s : ServerView) → ServerAt h s
-    → ServerAt (record { event = events.DropLinks; answer = answers.DroppedLinks to_client to_server } ∷ h) s
-server_dropped to_client to_server h s i = record {
-  setup = i.setup;
-  caps = i.caps;
-  durable = i.durable;
-  fresh = i.fresh;
-  told = i.told;
-  replaying = λ on. absurd (cc);
-  whole = i.whole;
-}
-
 pub client_stays : (e : Event) (a : Answer) (h : List Entry) (v : ClientView) → is_served e ≡ true → ClientAt h v → ClientAt (record { event = e; answer = a } ∷ h) v
 client_stays (events.Grant f bits end) a h v is i = i
 client_stays (events.Revoke f bits) a h v is i = i
@@ -52,35 +38,7 @@ client_stays (events.Unlease d name) a h v is i = i
 client_stays events.Commit a h v is i = i
 client_stays _ a h v is i = absurd (cc)
 
--- what is lost leaves the client as it is
-
-pub client_dropped : (to_client to_server : ℕ) (h : List Entry) (v : ClientView) → ClientAt h v
-    → ClientAt (record { event = events.DropLinks; answer = answers.DroppedLinks to_client to_server } ∷ h) v
-client_dropped to_client to_server h v i = i
-
-pub client_failed_over : (keep kept : ℕ) (h : List Entry) (v : ClientView) → ClientAt h v
-    → ClientAt (record { event = events.Failover keep; answer = answers.Failover kept } ∷ h) v
-client_failed_over keep kept h v i = i
-
--- The session
-
-pub session_called : (e : Event) (a : Answer) (h : List Entry) (s : States) → is_call e ≡ true → SessionAt h s
-    → SessionAt (record { event = e; answer = a } ∷ h) s
-session_called (events.Clock t) a h s call i = i
-session_called (events.Begin c f bits end) a h s call i = i
-session_called (events.End c name) a h s call i = i
-session_called (events.Write c name off bytes) a h s call i = i
-session_called (events.Read c name off len) a h s call i = i
-session_called (events.Chmod c name mode) a h s call i = i
-session_called (events.Check f) a h s call i = i
-session_called (events.Flush f) a h s call i = i
-session_called (events.FlushSnaps f) a h s call i = i
-session_called (events.Lookup c d name) a h s call i = i
-session_called (events.Req c op) a h s call i = i
-session_called (events.Dir d p) a h s call i = i
-session_called (events.File f p) a h s call i = i
-session_called _ a h s call i = absurd (cc)
-
+-- an event of the server's own leaves both states of the session
 pub session_served : (e : Event) (a : Answer) (h : List Entry) (s : States) → is_served e ≡ true → SessionAt h s
     → SessionAt (record { event = e; answer = a } ∷ h) s
 session_served (events.Grant f bits end) a h s is i = i
