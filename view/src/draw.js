@@ -8,7 +8,9 @@
   const FONT = '"Segoe UI", "Noto Sans", "DejaVu Sans", Arial, sans-serif';
   const FAMILY = {
     cap: 'caps', capack: 'caps', snap: 'snaps', flush: 'flushes', flushack: 'flushes', req: 'requests', unsafe: 'requests', safe: 'requests', unlease: 'requests',
+    reconnect: 'sessions', resumed: 'sessions',
   };
+  const SHORT_KIND = { flushack: 'fl.ack', reconnect: 'recon.', resumed: 'resum.' };
   const RECORD_FAMILY = { request: 'requests', flush: 'flushes', snapshot: 'snaps', removal: 'snaps' };
   const BAR = 18;
   const CLIENT = 40;  // where the client's and the server's lines are in the link's row
@@ -56,7 +58,10 @@
       this.height = this.axisHeight + 4;
       this.index();
       for (const caller of this.callers()) this.addCaller(caller);
+      const { sessions, losses } = this.run.tracks;
+      if (losses.length) this.addRow(22, (row) => this.drawSession(row, sessions.client), 'client’s session');
       this.addRow(162, (row) => this.drawLink(row), '', { labels: [['client', CLIENT, 600], ['link', (CLIENT + SERVER) / 2, 400], ['server', SERVER, 600]] });
+      if (losses.length) this.addRow(22, (row) => this.drawSession(row, sessions.server), 'server’s session');
       this.addLanes(this.run.tracks.leases.map((bar) => ({ from: bar.from, to: open(bar.to), bar })), 'leases', (row, lane) => this.drawLeases(row, lane));
       this.addRow(50, (row) => this.drawLog(row), 'server’s log');
       this.addRow(28, (row) => this.drawStore(row), 'object store');
@@ -81,7 +86,7 @@
       }
       this.differsAt = new Set(this.run.differences.map((d) => d.entry));
       const { records, commits } = this.run.tracks;
-      this.logLane = records.map((record) => ({ from: record.from, to: open(record.durable), record }));
+      this.logLane = records.map((record) => ({ from: record.from, to: open(record.durable ?? record.lost), record }));
       this.durableSpans = commits.map((c, i) => ({ from: c.entry, to: i + 1 < commits.length ? commits[i + 1].entry : Infinity, value: c.durable }));
     }
 
@@ -240,16 +245,44 @@
       for (const { bar } of this.seen(lane)) {
         const told = Math.min(open(bar.told), open(bar.to));
         const { tid, op } = bar.request;
-        const marks = [bar.recorded, bar.durable].filter((entry) => entry !== null).map((entry) => ({ entry }));
+        const { marks } = bar;
         const asked = this.bar(bar.from, told, row.middle, BAR - 2, 'asked');
         this.textBetween(asked, row.middle, [`${tid} ${op.kind} ${op.name}`, `${tid} ${op.kind}`, String(tid)], marks, this.palette.ink);
         if (bar.told !== null && open(bar.to) > told) {
           const answered = this.bar(told, open(bar.to), row.middle, BAR - 2, 'answered');
           this.textBetween(answered, row.middle, [answerText(bar.answer), bar.answer.word], marks, this.palette.ink);
         }
-        if (this.cell < 12) continue;
-        if (bar.recorded !== null) this.diamond(this.x(bar.recorded), row.middle, false, 'requests');
-        if (bar.durable !== null) this.diamond(this.x(bar.durable), row.middle, true, 'requests');
+        this.drawPhases(bar, row.middle, 'requests');
+      }
+    }
+
+    // what became of a request or a flush on the way
+    drawPhases(bar, y, family) {
+      if (this.cell < 12) return;
+      for (const { entry, phase } of this.seenMarks(bar.marks)) {
+        if (phase === 'lost') this.cross(this.x(entry), y);
+        else if (phase === 'again') this.drawAgain(this.x(entry), y, family);
+        else this.diamond(this.x(entry), y, phase === 'durable', family);
+      }
+    }
+
+    drawAgain(x, y, family) {
+      this.drawn.add('again');
+      this.disc(x, y, 6, this.palette.paper);
+      this.text('↻', x, y + 0.5, { align: 'center', size: 11, weight: 700, colour: this.palette[family] });
+    }
+
+    // what is lost ends at a cross
+    cross(x, y) {
+      this.drawn.add('lost');
+      for (const up of [-4, 4]) this.line(x - 4, y - up, x + 4, y + up, this.palette.wrong, 2);
+    }
+
+    drawSession(row, band) {
+      for (const span of this.seen(band.spans)) {
+        const [word] = span.value.split(' ');
+        const box = this.bar(span.from, span.to, row.middle, BAR - 2, { Active: 'sessionactive', Broken: 'broken' }[word] || 'renewing');
+        this.textIn(box, row.middle, this.labelThatFits([span.value, span.value.replace(/[a-z]+/, '…'), '…'], box.right - Math.max(box.left, LABEL_WIDTH) - 8), this.palette.ink);
       }
     }
 
@@ -276,6 +309,7 @@
       const server = row.y + SERVER;
       this.line(LABEL_WIDTH, client, view.width, client, palette.soft, 1.5);
       this.line(LABEL_WIDTH, server, view.width, server, palette.soft, 1.5);
+      for (const { entry } of this.seenMarks(this.run.tracks.losses)) this.line(this.x(entry), client, this.x(entry), server, palette.wrong, 1.5, [2, 3]);
       for (const arrow of this.seenArrows(this.arrows.client)) this.drawArrow(arrow, server, client);
       for (const arrow of this.seenArrows(this.arrows.server)) this.drawArrow(arrow, client, server);
       this.drawUnderWay(this.arrows.client, server, client);
@@ -284,7 +318,7 @@
     }
 
     seenArrows(arrows) {
-      const from = firstWhere(arrows, (a) => open(a.to) >= this.firstSeen - 1);
+      const from = firstWhere(arrows, (a) => open(a.to ?? a.lost) >= this.firstSeen - 1);
       const to = firstWhere(arrows, (a) => a.from > this.lastSeen + 1);
       return arrows.slice(from, to);
     }
@@ -294,18 +328,23 @@
       this.drawn.add(FAMILY[arrow.message.kind]);
       const shift = Math.min(arrow.place * 4, this.cell / 3);
       const x0 = this.x(arrow.from) + shift;
-      const underWay = arrow.to === null;
-      if (underWay) this.drawn.add('underway');
-      const x1 = underWay ? this.x(this.last + 0.5) : this.x(arrow.to);
-      const y1 = underWay ? fromY + (toY - fromY) * 0.75 : toY;
       const down = Math.sign(toY - fromY);
-      this.line(x0, fromY, x1, y1 - (underWay ? 0 : down * 5), colour, 2, underWay ? [5, 4] : []);
-      if (!underWay) this.head(x0, fromY, x1, y1 - down * 4, colour);
+      const isLost = arrow.lost !== null;
+      if (arrow.to === null) {
+        const x1 = isLost ? this.x(arrow.lost) : this.x(this.last + 0.5);
+        const y1 = fromY + (toY - fromY) * (isLost ? 0.62 : 0.75);
+        this.line(x0, fromY, x1, y1, colour, 2, [5, 4]);
+        if (isLost) this.cross(x1, y1); else this.drawn.add('underway');
+        return;
+      }
+      const x1 = this.x(arrow.to);
+      this.line(x0, fromY, x1, toY - down * 5, colour, 2);
+      this.head(x0, fromY, x1, toY - down * 4, colour);
     }
 
     // how many messages are still under way in a direction, behind the ends of their arrows
     drawUnderWay(arrows, fromY, toY) {
-      const count = arrows.length - firstWhere(arrows, (a) => a.to === null);
+      const count = arrows.length - firstWhere(arrows, (a) => a.to === null && a.lost === null);
       if (!count) return;
       const text = count === 1 ? 'under way' : `${count} under way`;
       this.text(text, this.x(this.last + 0.5) + 6, fromY + (toY - fromY) * 0.75 + Math.sign(toY - fromY) * 9, { align: 'right', size: 10.5, colour: this.palette.soft });
@@ -326,6 +365,7 @@
     drawEnds(n, client, server) {
       const entry = this.run.entries[n - 1];
       const { lane } = EVENTS[entry.event.kind];
+      if (lane === 'link') { this.text(entry.answerText.split(' ').slice(1).join('+'), this.x(n), (client + server) / 2, { align: 'center', size: 10.5, colour: this.palette.wrong }); return; }
       if (lane !== 'client' && lane !== 'server') return;
       const y = lane === 'client' ? client : server;
       const did = this.effectOf(entry);
@@ -343,9 +383,9 @@
       if (arrows.length === 1) {
         const colour = this.palette[FAMILY[arrows[0].message.kind]];
         const [kind, number] = messageShort(arrows[0].message);
-        return [{ text: this.labelThatFits([kind, kind === 'flushack' ? 'fl.ack' : kind], this.cell - 2, 10.5), colour }, { text: String(number), colour }];
+        return [{ text: this.labelThatFits([kind, SHORT_KIND[kind] || kind], this.cell - 2, 10.5), colour }, { text: String(number), colour }];
       }
-      if (arrows.length > 1) return [{ text: String(arrows.length), colour: soft }, { text: 'news', colour: soft }];
+      if (arrows.length > 1) return [{ text: String(arrows.length), colour: soft }, { text: entry.event.kind === 'commit' ? 'news' : 'sent', colour: soft }];
       const words = entry.answerText.split(' ');
       return words.slice(0, 2).map((text) => ({ text, colour: soft }));
     }
@@ -368,7 +408,8 @@
       const lower = row.y + 36;
       for (const { record } of this.seen(this.logLane)) {
         const x = this.x(record.from);
-        this.line(x, upper, this.x(open(record.durable)), upper, palette.soft, 1.5, [2, 3]);
+        this.line(x, upper, this.x(open(record.durable ?? record.lost)), upper, palette.soft, 1.5, [2, 3]);
+        if (record.lost !== null) this.cross(this.x(record.lost), upper);
       }
       for (const { record } of this.seen(this.logLane)) {
         const x = this.x(record.from);
@@ -431,11 +472,9 @@
     // from its sending to its acknowledgement, with the entries at which it was recorded and became durable
     drawFlush(row, bar) {
       const box = this.bar(bar.from, open(bar.acked), row.middle, BAR - 2, 'flush');
-      const first = bar.recorded === null ? box.right : this.x(bar.recorded) - 7;
+      const first = bar.marks.length ? this.x(bar.marks[0].entry) - 7 : box.right;
       this.textIn({ ...box, right: Math.max(box.left, Math.min(box.right, first)) }, row.middle, this.labelThatFits([`flush ${bar.flush.tid}`, String(bar.flush.tid)], Math.min(box.right, first) - box.left - 8), this.palette.ink);
-      if (this.cell < 12) return;
-      if (bar.recorded !== null) this.diamond(this.x(bar.recorded), row.middle, false);
-      if (bar.durable !== null) this.diamond(this.x(bar.durable), row.middle, true);
+      this.drawPhases(bar, row.middle, 'flushes');
     }
 
     labelled(from, to, y, kind, labels) {
@@ -445,6 +484,7 @@
 
     drawState(row, state) {
       for (const span of this.seen(state.band.spans)) {
+        if (span.value === null) continue;
         const pending = span.value === 'pending';
         const box = this.bar(span.from, span.to, row.middle, BAR, pending ? 'pending' : 'settled');
         const short = span.label.replace(/ mtime.*/, '');

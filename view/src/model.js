@@ -11,8 +11,12 @@
   const { OPERATIONS, ANSWERS, keyOf, keysNamed, answerText, namespaceAfter, listing, leaseOn } = root.JournalNames || require('./namespace.js');
   const {
     newState, copyState, fileOf, stands, pathOf, named, writersOf, usedOf, heldBack, isOpen, isWriting, metaOf, lastFlush, metaAt,
-    isSame, isSameRecord, withRealms, pathContext, standingContext, settledUpTo, headReasons, reasonsOf, refText, answerNow, COMPUTED,
+    isSame, isSameRecord, makeDirectory, withRealms, pathContext, standingContext, settledUpTo, headReasons, reasonsOf, refText, answerNow,
   } = root.JournalStates || require('./states.js');
+  const {
+    NO_CAPS, COMPUTED, isServerActive, clientWords, serverWords, withClient, replaying, broken, cappedFiles, openRequests, unackedFlushes, reportOf,
+    reportedCaps, keptOf, keptCount, keepRecords,
+  } = root.JournalSessions || require('./sessions.js');
   const OBJECT = 65536;
 
   // ---- messages and records
@@ -26,6 +30,8 @@
     req: { short: (m) => ['req', m.tid], words: (m) => `request ${m.tid}: ${OPERATIONS[m.op.kind].words(m.op)}` },
     unsafe: { short: (m) => ['unsafe', m.tid], words: (m) => `the answer to request ${m.tid}: ${answerText(m.answer)}` },
     safe: { short: (m) => ['safe', m.tid], words: (m) => `the record of request ${m.tid} is durable` },
+    reconnect: { short: (m) => ['reconnect', m.resends], words: (m) => `the client’s report of ${m.caps.length} files, with ${m.resends} messages that it sends again behind it` },
+    resumed: { short: (m) => ['resumed', m.realms ? m.realms.length : ''], words: () => 'the session goes on, with the durable records of all realms' },
     unlease: { short: (m) => ['unlease', m.name], words: (m) => `the lease on ${m.name} in directory ${m.directory} ends` },
   };
   const messageWords = (m) => MESSAGES[m.kind].words(m);
@@ -62,15 +68,14 @@
 
   // ---- effects
 
-  function makeDirectory(state, e) {
-    state.paths.set(e.directory, [e.directory, ...pathOf(state, e.parent)]);
-    state.order = [...state.paths.keys()].sort((a, b) => pathOf(state, a).length - pathOf(state, b).length || a - b);
+  // what lines before the run make stands for good
+  function enter(state, directory, name, ino, isDirectory) {
+    state.entries = new Map(state.entries).set(keyOf(directory, name), { directory, name, ino, isDirectory });
+    state.kept = { ...state.kept, entries: state.entries };
   }
 
-  const enter = (state, directory, name, ino, isDirectory) => state.entries.set(keyOf(directory, name), { directory, name, ino, isDirectory });
-
   function setUpDirectory(state, e) {
-    makeDirectory(state, e);
+    makeDirectory(state, e.directory, e.parent);
     enter(state, e.parent, `d${e.directory}`, e.directory, true);
   }
 
@@ -112,8 +117,8 @@
     if (op.kind === 'create') {
       Object.assign(fileOf(state, answer.ino), { stands: true, home: op.directory });
       trace.made(answer.ino);
-    } else if (op.kind === 'mkdir' && !state.paths.has(answer.ino)) {
-      makeDirectory(state, { directory: answer.ino, parent: op.directory });
+    } else if (op.kind === 'mkdir' && !state.order.includes(answer.ino)) {
+      makeDirectory(state, answer.ino, op.directory);
       state.since.set(answer.ino, state.greatest + 1);
     }
   }
@@ -127,23 +132,27 @@
     if (computed.word === 'made') state.made++;
     state.answered.set(a.tid, answer);
     makeInode(state, message.op, answer, trace);
-    record(state, { kind: 'request', tid: a.tid, op: message.op, answer }, trace);
+    record(state, { kind: 'request', tid: a.tid, op: message.op, answer, computed }, trace);
     send(state, state.toClient, { kind: 'unsafe', tid: a.tid, answer }, trace);
+    countResent(state, trace);
   }
+
+  const isDurable = (state, test) => state.records.slice(0, state.durable).some(test);
 
   // a request that came again is answered again, and told to be durable where its record is
   function receiveAgain(state, e, a, trace) {
     const answer = replyOf(a);
     deliver(state.toServer, `reqdup ${a.tid} ${answerText(answer)}`, trace);
     send(state, state.toClient, { kind: 'unsafe', tid: a.tid, answer }, trace);
-    if (state.records.slice(0, state.durable).some((r) => r.kind === 'request' && r.tid === a.tid)) send(state, state.toClient, { kind: 'safe', tid: a.tid }, trace);
+    if (isDurable(state, (r) => r.kind === 'request' && r.tid === a.tid)) send(state, state.toClient, { kind: 'safe', tid: a.tid }, trace);
+    countResent(state, trace);
   }
 
-  // the lease that an answer gives, where no later request named the entry
+  // the lease that an answer gives, where the request wasn't sent again and no later one named the entry
   function leaseBy(state, request, answer) {
     const { op, tid } = request;
     const isAsked = OPERATIONS[op.kind].asks && answer.ino !== undefined;
-    return isAsked && state.namedLast.get(keyOf(op.directory, op.name)) <= tid ? leaseOn(answer, state.clock) : null;
+    return isAsked && !state.resent.has(tid) && state.namedLast.get(keyOf(op.directory, op.name)) <= tid ? leaseOn(answer, state.clock) : null;
   }
 
   function deliverUnsafe(state, e, a, trace) {
@@ -165,8 +174,10 @@
 
   function deliverSafe(state, e, a, trace) {
     deliver(state.toClient, `safe ${a.tid}`, trace);
-    state.saved.add(a.tid);
-    trace.saved(a.tid);
+    // the request is over where its answer was delivered before
+    const isOver = state.replied.has(a.tid);
+    if (isOver) state.closed.add(a.tid);
+    trace.saved(a.tid, isOver);
   }
 
   function deliverUnlease(state, e, a, trace) {
@@ -255,6 +266,7 @@
   function deliverCap(state, e, a, trace) {
     deliver(state.toClient, `cap ${a.file} ${a.seq} ${capsText(a.bits)} ${a.max}`, trace);
     const file = fileOf(state, a.file);
+    file.capped = true;
     file.client = { ...file.client, issued: a.bits, implemented: file.client.implemented | a.bits, seq: a.seq, max: a.max };
     trace.touch(a.file);
   }
@@ -270,12 +282,22 @@
     trace.touch(a.file);
   }
 
+  const isOther = (old, context) => old.seq !== context.seq || !isSame(old.snaps, context.snaps);
+  const makesCapSnap = (state, file, context) => isOther(file.context, context) && !isWriting(state, file.number) && (writersOf(state, file.number).length || file.dirty);
+
+  // the files that the client knows, each with its context by these realm records
+  function contextsBy(state, realms) {
+    const known = new Map();
+    return [...state.files.values()].filter((file) => file.known).map((file) => ({ file, context: pathContext(pathOf(state, file.home), realms, known) }));
+  }
+
+  const realmsWith = (state, told) => new Map([...state.realms, ...told.map((r) => [r.realm, r])]);
+  const countMade = (state, told) => contextsBy(state, realmsWith(state, told)).filter(({ file, context }) => makesCapSnap(state, file, context)).length;
+
   function newContext(state, file, context, trace) {
-    const old = file.context;
-    if (old.seq === context.seq && isSame(old.snaps, context.snaps)) return;
-    const writers = writersOf(state, file.number);
-    if (!isWriting(state, file.number) && (writers.length || file.dirty)) {
-      const snap = { id: state.capSnaps++, follows: old.seq, mode: file.mode, writers };
+    if (!isOther(file.context, context)) return;
+    if (makesCapSnap(state, file, context)) {
+      const snap = { id: state.capSnaps++, follows: file.context.seq, mode: file.mode, writers: writersOf(state, file.number) };
       file.queued.push(snap);
       trace.queued(file.number, snap);
     }
@@ -283,17 +305,18 @@
     trace.touch(file.number);
   }
 
+  function hearRealms(state, told, trace) {
+    state.realms = realmsWith(state, told);
+    for (const { file, context } of contextsBy(state, state.realms)) newContext(state, file, context, trace);
+  }
+
   function deliverSnap(state, e, a, trace) {
-    const message = deliver(state.toClient, `snap ${a.number} ${a.directory}`, trace);
-    for (const r of (message && message.realms) || []) state.realms.set(r.realm, r);
-    const known = new Map();
-    for (const file of state.files.values()) {
-      if (file.known) newContext(state, file, pathContext(pathOf(state, file.home), state.realms, known), trace);
-    }
+    const message = deliver(state.toClient, `snap ${a.number} ${a.directory} ${a.made}`, trace);
+    hearRealms(state, (message && message.realms) || [], trace);
   }
 
   function receiveAck(state, e, a, trace) {
-    deliver(state.toServer, `capack ${a.file} ${a.seq}`, trace);
+    deliver(state.toServer, `capack ${a.file} ${a.seq} held ${capsText(a.bits)}`, trace);
     const file = fileOf(state, a.file);
     file.server = { ...file.server, held: a.bits };
     trace.touch(a.file);
@@ -305,6 +328,14 @@
     fileOf(state, message.flush.file).recorded.push(message.flush);
     record(state, { kind: 'flush', flush: message.flush }, trace);
     trace.touch(message.flush.file);
+    countResent(state, trace);
+  }
+
+  // a flush that came again is acknowledged where its record is durable
+  function receiveFlushAgain(state, e, a, trace) {
+    deliver(state.toServer, `flushdup ${a.file} ${a.tid}`, trace);
+    if (isDurable(state, (r) => r.kind === 'flush' && r.flush.file === a.file && r.flush.tid === a.tid)) send(state, state.toClient, { kind: 'flushack', file: a.file, tid: a.tid }, trace);
+    countResent(state, trace);
   }
 
   function sendCap(state, f, server, trace) {
@@ -338,31 +369,114 @@
 
   // the realm records that differ from those sent last, parents first
   function differing(state) {
-    const changed = state.order.filter((d) => state.atCommit.has(d) && !isSameRecord(state.lastSent.get(d), state.atCommit.get(d)));
-    return changed.map((d) => state.atCommit.get(d));
+    const { standing } = state.kept;
+    const changed = state.order.filter((d) => standing.has(d) && !isSameRecord(state.lastSent.get(d), standing.get(d)));
+    return changed.map((d) => standing.get(d));
   }
+
+  function sendRealms(state, message, trace) {
+    const realms = differing(state);
+    for (const told of realms) state.lastSent.set(told.realm, told);
+    send(state, state.toClient, { ...message, realms }, trace);
+  }
+
+  const NEWS = {
+    request: (state, r, trace) => send(state, state.toClient, { kind: 'safe', tid: r.tid }, trace),
+    flush: (state, r, trace) => send(state, state.toClient, { kind: 'flushack', file: r.flush.file, tid: r.flush.tid }, trace),
+    snapshot: (state, r, trace) => sendRealms(state, { kind: 'snap', number: r.number, directory: r.directory }, trace),
+    removal: (state, r, trace) => sendRealms(state, { kind: 'snap', number: r.number, directory: r.directory }, trace),
+  };
 
   function commit(state, e, a, trace) {
     for (const r of state.records.slice(state.durable)) {
-      if (r.kind === 'request') {
-        send(state, state.toClient, { kind: 'safe', tid: r.tid }, trace);
-        continue;
-      }
-      if (r.kind === 'flush') {
-        send(state, state.toClient, { kind: 'flushack', file: r.flush.file, tid: r.flush.tid }, trace);
-        continue;
-      }
-      state.atCommit = withRealms(state, state.atCommit, r);
-      const realms = differing(state);
-      for (const told of realms) state.lastSent.set(told.realm, told);
-      send(state, state.toClient, { kind: 'snap', number: r.number, directory: r.directory, realms }, trace);
+      state.kept = keptOf(state, state.kept, [r]);
+      if (state.session.server !== 'Broken') NEWS[r.kind](state, r, trace);
     }
     state.durable = state.records.length;
     trace.committed(state.durable);
   }
 
+  // ---- sessions
+
+  function changeSession(state, session, trace) {
+    state.session = session;
+    trace.session(session);
+  }
+
+  function breakSession(state, trace) {
+    trace.lost(state.toClient, state.toServer);
+    Object.assign(state, { toClient: [], toServer: [] });
+    changeSession(state, broken(), trace);
+  }
+
+  const dropLinks = (state, e, a, trace) => breakSession(state, trace);
+
+  // another server goes on with the records that are kept, and knows nothing of capabilities
+  function failOver(state, e, a, trace) {
+    const lost = keepRecords(state, e.keep);
+    for (const file of state.files.values()) {
+      file.server = NO_CAPS;
+      trace.touch(file.number);
+    }
+    breakSession(state, trace);
+    trace.failedOver(state.durable, lost);
+  }
+
+  function reconnect(state, e, a, trace) {
+    for (const file of state.files.values()) file.client = { ...file.client, seq: 0, acked: 0 };
+    for (const key of [...state.leases.keys()]) endLease(state, key, trace);
+    changeSession(state, withClient(state.session, 'Reconnecting'), trace);
+    const requests = openRequests(state);
+    const flushes = unackedFlushes(state);
+    send(state, state.toServer, { kind: 'reconnect', caps: cappedFiles(state).map(reportOf), resends: requests.length + flushes.length }, trace);
+    for (const { tid, op } of requests) {
+      state.resent.add(tid);
+      trace.askedAgain(tid);
+      send(state, state.toServer, { kind: 'req', tid, op }, trace);
+    }
+    for (const flush of flushes) {
+      trace.flushedAgain(flush);
+      send(state, state.toServer, { kind: 'flush', flush }, trace);
+    }
+  }
+
+  // what is reported is what the server takes for given and held; of all other files it has nothing. A session begins.
+  function receiveReconnect(state, e, a, trace) {
+    const message = deliver(state.toServer, `reconnect ${a.caps} ${a.resends}`, trace);
+    const reports = new Map(((message && message.caps) || []).map((report) => [report.file, report]));
+    for (const file of state.files.values()) {
+      file.server = reports.has(file.number) ? reportedCaps(reports.get(file.number)) : NO_CAPS;
+      trace.touch(file.number);
+    }
+    state.lastSent = new Map();
+    if (a.resends === 0) resume(state, trace);
+    changeSession(state, replaying(state.session, a.resends), trace);
+  }
+
+  function resume(state, trace) {
+    state.lastSent = new Map();
+    sendRealms(state, { kind: 'resumed' }, trace);
+  }
+
+  // one of the messages that are sent again came; behind the last the client is told that the session goes on
+  function countResent(state, trace) {
+    if (state.session.server !== 'Replaying') return;
+    if (state.session.left === 1) resume(state, trace);
+    changeSession(state, replaying(state.session, state.session.left - 1), trace);
+  }
+
+  function deliverResumed(state, e, a, trace) {
+    const message = deliver(state.toClient, `resumed ${a.made}`, trace);
+    hearRealms(state, (message && message.realms) || [], trace);
+    changeSession(state, withClient(state.session, 'Active'), trace);
+  }
+
   // ---- why an answer came
 
+  const isKnown = (s, f) => s.files.has(f) && fileOf(s, f).known;
+  const noServerFile = (s, e) => isKnown(s, e.file) ? `The server has no record any more that made file ${e.file}; the client asks for it again.` : `No file ${e.file} was made.`;
+  const CLIENT_AGAIN = { why: (s) => `The client’s session is ${clientWords(s)}: it sends nothing till the session goes on.` };
+  const SERVER_AGAIN = { why: (s) => `The server’s session is ${serverWords(s)}: it does this only in an active session.` };
   const noFile = (s, e) => stands(s, e.file) ? `The client has not been told of file ${e.file} yet.` : `No file ${e.file} was made.`;
   const noDirectory = (s, e) => `There is no directory ${e.directory}.`;
   // what the answer to a request means, by the operation that it asked for
@@ -481,6 +595,7 @@
       what: (e) => `The client looks whether it can acknowledge what it was told of file ${e.file}.`,
       answers: {
         unknown: { why: noFile },
+        'again session': CLIENT_AGAIN,
         nothing: { why: () => 'Everything that was delivered is acknowledged.' },
         'hold BITS': { why: (s, e, a) => `${capsText(a.bits)} was taken back and is still in use: ${usersOf(s, e.file, a.bits)}. So it is held back.` },
         'ack SEQ BITS': { effect: acknowledge, why: (s, e, a) => `Nothing that was taken back is in use. It acknowledges message ${a.seq} and keeps ${capsText(a.bits)} alone.` },
@@ -491,6 +606,7 @@
       what: (e) => `The client sends the present size, time and mode of file ${e.file}, if they are dirty.`,
       answers: {
         unknown: { why: noFile },
+        'again session': CLIENT_AGAIN,
         'again snap': { why: stillWriting },
         clean: { why: () => 'No metadata was changed since the last flush.' },
         'flush TID': { effect: flushPresent, why: (s, e, a) => `They are dirty (${capsText(fileOf(s, e.file).dirty)}). This is flush ${a.tid}; nothing is dirty any more.` },
@@ -501,6 +617,7 @@
       what: (e) => `The client sends the oldest cap snap of file ${e.file} that it has not sent.`,
       answers: {
         unknown: { why: noFile },
+        'again session': CLIENT_AGAIN,
         none: { why: () => 'There is no cap snap to be sent.' },
         writing: { why: stillWriting },
         'flushsnap TID FOLLOWS': { effect: flushSnap, why: (s, e, a) => `Its size and time are fixed. It goes as flush ${a.tid}, and follows ${a.follows ? `number ${a.follows}` : 'no earlier snapshot'}.` },
@@ -520,6 +637,7 @@
       more: (words, e) => ({ op: { kind: words[2], directory: e.directory, name: e.name, newName: e.newName } }),
       what: (e) => `The client sends a request of caller ${e.caller}, which asks for ${OPERATIONS[e.op.kind].words(e.op)}.`,
       answers: {
+        'again session': CLIENT_AGAIN,
         'sent TID': { effect: sendRequest, why: (s, e, a) => `It is request ${a.tid}. A lease of the client on an entry that it names ends here, since the request may change what it says.` },
       },
     },
@@ -532,7 +650,8 @@
         'snap NUMBER D MADE': { effect: deliverSnap, why: (s, e, a) => `The client hears of number ${a.number}, of the snapshots of directory ${a.directory}. ${plural(a.made, 'file')} got a cap snap, being open for writing or dirty.` },
         'flushack F TID': { effect: deliverFlushAck, why: (s, e, a) => `The client hears that flush ${a.tid} of file ${a.file} is durable at the server.` },
         ...replies('unsafe TID', { effect: deliverUnsafe, why: whyTold }),
-        'safe TID': { effect: deliverSafe, why: (s, e, a) => `The client hears that the record of request ${a.tid} is durable at the server. The request is over.` },
+        'safe TID': { effect: deliverSafe, why: (s, e, a) => `The client hears that the record of request ${a.tid} is durable at the server. ${s.replied.has(a.tid) ? 'The request is over.' : 'It has no answer yet, so the request stays open.'}` },
+        'resumed MADE': { effect: deliverResumed, why: (s, e, a) => `The session goes on. With it the client hears of all durable snapshots and removals. ${plural(a.made, 'file')} got a cap snap.` },
         'unlease D NAME': { effect: deliverUnlease, why: (s, e, a) => `The client gives up its lease on ${leaseWords(s, a)}${s.leases.has(keyOf(a.directory, a.name)) ? '' : ', and it has none'}.` },
       },
     },
@@ -544,16 +663,19 @@
         'capack F SEQ held BITS': { effect: receiveAck, why: (s, e, a) => a.seq === fileOf(s, a.file).server.seq
           ? `It acknowledges the last message of file ${a.file}, so the server now takes ${capsText(a.bits)} for held.`
           : `It acknowledges message ${a.seq}, and message ${fileOf(s, a.file).server.seq} was sent since: what is held stays ${capsText(a.bits)}.` },
-        'flushed F TID': { effect: receiveFlush, why: (s, e, a) => `The server makes a record of flush ${a.tid}. It is not durable before a commit.` },
-        ...replies('req TID', { effect: receiveRequest, why: (s, e, a) => `The server does request ${a.tid}, makes a record of it with its answer, and sends the answer. ${replyWords(s, a)}` }),
-        ...replies('reqdup TID', { effect: receiveAgain, why: (s, e, a) => `Request ${a.tid} came before. The server does nothing, and sends the answer that it has kept.` }),
+        'flushed F TID': { effect: receiveFlush, why: (s, e, a) => `The server makes a record of flush ${a.tid}. It is not durable before a commit.${lastResent(s)}` },
+        ...replies('req TID', { effect: receiveRequest, why: (s, e, a) => `The server does request ${a.tid}, makes a record of it with its answer, and sends the answer. ${replyWords(s, a)}${lastResent(s)}` }),
+        ...replies('reqdup TID', { effect: receiveAgain, why: (s, e, a) => `Request ${a.tid} came before. The server does nothing, and sends the answer that it has kept.${lastResent(s)}` }),
+        'flushdup F TID': { effect: receiveFlushAgain, why: (s, e, a) => `Flush ${a.tid} came before, and stands. It is acknowledged at once if its record is durable.${lastResent(s)}` },
+        'reconnect CAPS RESENDS': { effect: receiveReconnect, why: (s, e, a) => `The server takes what the client has of ${plural(a.caps, 'file')} for given and held, and of all others nothing. ${a.resends ? `It waits for ${plural(a.resends, 'message')} more.` : 'Nothing is sent again, so the session goes on.'}` },
       },
     },
     grant: {
       form: 'grant F BITS MAX', lane: 'server',
       what: (e) => `The server gives ${capsText(e.bits)} of file ${e.file}, and lets it grow up to ${e.max}.`,
       answers: {
-        unknown: { why: noFile },
+        unknown: { why: noServerFile },
+        'again session': SERVER_AGAIN,
         'sent SEQ held BITS': { effect: grant, why: (s, e, a) => `Message ${a.seq} of this file tells the client. The server takes ${capsText(a.bits)} for held from now on.` },
       },
     },
@@ -561,7 +683,8 @@
       form: 'revoke F BITS', lane: 'server',
       what: (e) => `The server takes ${capsText(e.bits)} of file ${e.file} back.`,
       answers: {
-        unknown: { why: noFile },
+        unknown: { why: noServerFile },
+        'again session': SERVER_AGAIN,
         'sent SEQ held BITS': { effect: revoke, why: (s, e, a) => `Message ${a.seq} tells the client. ${capsText(a.bits)} counts as held till the client acknowledges.` },
       },
     },
@@ -570,6 +693,7 @@
       what: (e) => `The server takes a snapshot of directory ${e.directory}, named ${e.name}.`,
       answers: {
         unknown: { why: noDirectory },
+        'again session': SERVER_AGAIN,
         exists: { why: (s, e) => `Directory ${e.directory} has a snapshot of this name.` },
         'snap NUMBER': { effect: takeSnapshot, why: (s, e, a) => `It is snapshot ${a.number}. Its record is not durable before a commit, and the client is not told before that.` },
       },
@@ -580,6 +704,7 @@
       answers: {
         nosnap: { why: (s, e) => `There is no snapshot ${e.snapshot}.` },
         gone: { why: () => 'It was removed before.' },
+        'again session': SERVER_AGAIN,
         'removed S NUMBER': { effect: removeSnapshot, why: (s, e, a) => `The removal draws number ${a.number}. From now on the snapshot shows nothing.` },
       },
     },
@@ -588,6 +713,7 @@
       what: (e) => `The server ends the client's lease on the name ${e.name} in directory ${e.directory}.`,
       answers: {
         unknown: { why: noDirectory },
+        'again session': SERVER_AGAIN,
         sent: { effect: sendUnlease, why: () => 'A message tells the client, which looks up by its lease till the message is delivered.' },
       },
     },
@@ -596,15 +722,37 @@
       what: () => 'The server makes its records durable.',
       answers: {
         'commit COUNT': { effect: commit, why: (s, e, a) => a.count
-          ? `${plural(a.count, 'record')} became durable: ${s.records.slice(s.durable).map(recordWords).join(', ')}. The client is told of each.`
+          ? `${plural(a.count, 'record')} became durable: ${s.records.slice(s.durable).map(recordWords).join(', ')}. ${s.session.server === 'Broken' ? 'The session is broken, so the client is told of none.' : 'The client is told of each.'}`
           : 'All were durable, so nothing is told.' },
+      },
+    },
+    drop: {
+      form: 'drop', lane: 'link',
+      what: () => 'All messages on their way are lost, in both directions.',
+      answers: {
+        'dropped DOWN UP': { effect: dropLinks, why: (s, e, a) => `${plural(a.toClient, 'message')} on the way to the client and ${a.toServer} on the way to the server. Both sides’ sessions are broken.` },
+      },
+    },
+    failover: {
+      form: 'failover K', lane: 'server',
+      what: (e) => `The server fails, and another one goes on with its log: the durable records and the next ${e.keep}.`,
+      answers: {
+        'failover KEPT': { effect: failOver, why: whyKept },
+      },
+    },
+    reconnect: {
+      form: 'reconnect', lane: 'client',
+      what: () => 'The client begins a new session.',
+      answers: {
+        unbroken: { why: (s) => `Its session is ${clientWords(s)}.` },
+        'reconnect CAPS REQUESTS FLUSHES': { effect: reconnect, why: (s, e, a) => `It reports what it has of ${plural(a.caps, 'file')}, and sends again ${plural(a.requests, 'open request')} and ${plural(a.flushes, 'flush', 'flushes')} that no acknowledgement came of. All its leases end.` },
       },
     },
     show: {
       form: 'show F AT OFF LEN', lane: 'store',
       what: (e) => `What is recorded and stored of file ${e.file} ${stateName(e.at)}, with ${plural(e.length, 'byte')} from ${e.offset} on?`,
       answers: {
-        unknown: { why: noFile },
+        unknown: { why: noServerFile },
         nosnap: { why: (s, e) => s.snapshots.has(e.at) ? `Snapshot ${e.at} does not cover the file${whyUncovered(s, e)}.` : `There is no snapshot ${e.at}.` },
         gone: { why: (s, e) => `Snapshot ${e.at} is removed.` },
         pending: { why: whyShown },
@@ -620,6 +768,15 @@
       },
     },
   };
+
+  const lastResent = (s) => s.session.server === 'Replaying' && s.session.left === 1 ? ' It is the last that was sent again, so the server tells that the session goes on.' : '';
+
+  function whyKept(s, e) {
+    const count = keptCount(s, e.keep);
+    const lost = s.records.slice(count);
+    const words = lost.length ? `${lost.map(recordWords).join(', ')} ${lost.length === 1 ? 'is' : 'are'} lost with the server` : 'no record is lost';
+    return `${plural(count, 'record')} stand${count === 1 ? 's' : ''} and ${count === 1 ? 'is' : 'are'} durable; ${words}. What was on its way is lost, the new server knows of no capabilities, and both sides’ sessions are broken.`;
+  }
 
   function usersOf(s, f, bits) {
     const users = s.live.filter((r) => r.file === f && (r.bits & bits)).map((r) => `${refText(r)} uses ${capsText(r.bits & bits)}`);
@@ -708,7 +865,7 @@
   }
 
   const nothing = () => {};
-  const SILENT = Object.fromEntries(['sent', 'delivered', 'recorded', 'begun', 'ended', 'used', 'stored', 'touch', 'made', 'flushed', 'flushAcked', 'queued', 'snapshot', 'removed', 'committed', 'asked', 'replied', 'saved', 'hit', 'leased', 'leaseEnded'].map((name) => [name, nothing]));
+  const SILENT = Object.fromEntries(['sent', 'delivered', 'recorded', 'begun', 'ended', 'used', 'stored', 'touch', 'made', 'flushed', 'flushAcked', 'queued', 'snapshot', 'removed', 'committed', 'asked', 'replied', 'saved', 'hit', 'leased', 'leaseEnded', 'session', 'lost', 'failedOver', 'askedAgain', 'flushedAgain'].map((name) => [name, nothing]));
 
   // values over time: each span has its value from entry `from` on, before entry `to`
   class Band {
@@ -735,7 +892,7 @@
 
   // what the entries did, as things with a beginning and an end, for the drawing
   class Trace {
-    constructor(run) { this.run = run; this.touched = new Set(); this.byMessage = new Map(); this.byFlush = new Map(); this.bySnap = new Map(); this.byReference = new Map(); this.byRequest = new Map(); this.byLease = new Map(); }
+    constructor(run) { this.run = run; this.standing = []; this.touched = new Set(); this.byMessage = new Map(); this.byFlush = new Map(); this.bySnap = new Map(); this.byReference = new Map(); this.byRequest = new Map(); this.byLease = new Map(); }
     get now() { return this.run.now; }
     track(f) {
       const { files } = this.run.tracks;
@@ -748,7 +905,7 @@
       this.cover(f);
     }
     sent(message, towards) {
-      const arrow = { message: { ...message, realms: undefined }, towards, from: this.now, to: null };
+      const arrow = { message: { ...message, realms: undefined, caps: message.caps && [] }, towards, from: this.now, to: null, lost: null };
       this.byMessage.set(message.id, arrow);
       this.run.tracks.arrows.push(arrow);
       this.run.counts[towards === 'client' ? 'sentToClient' : 'sentToServer']++;
@@ -761,25 +918,49 @@
       if (wanted !== said) this.run.differences.push({ entry: this.now, kind: 'delivery', computed: wanted, journal: said });
     }
     recorded(body, place) {
-      this.run.tracks.records.push({ body, place, from: this.now, durable: null });
+      const record = { body, place, from: this.now, durable: null, lost: null };
+      this.run.tracks.records.push(record);
+      this.standing.push(record);
       this.mark(body, 'recorded');
-      if (body.kind === 'request' && body.answer.word === 'made') this.run.counts.made++;
     }
     committed(durable) {
-      const { records, commits } = this.run.tracks;
+      const { commits } = this.run.tracks;
       const before = commits.length ? commits[commits.length - 1].durable : 0;
-      for (let i = before; i < durable; i++) {
-        records[i].durable = this.now;
-        this.mark(records[i].body, 'durable');
+      for (const record of this.standing.slice(before, durable)) {
+        record.durable = this.now;
+        this.mark(record.body, 'durable');
       }
       commits.push({ entry: this.now, durable, count: durable - before });
     }
+    // so many records are kept and durable; of what the others brought nothing is left
+    failedOver(durable) {
+      for (const record of this.standing.splice(durable)) {
+        record.lost = this.now;
+        this.mark(record.body, 'lost');
+      }
+      this.committed(durable);
+      this.coverAll();
+    }
+    // an entry at which something became of a request or a flush
     mark(body, phase) {
       const bar = body.kind === 'request' ? this.byRequest.get(body.tid) : this.byFlush.get(body.flush);
-      if (bar) bar[phase] = this.now;
+      if (bar) bar.marks.push({ entry: this.now, phase });
+    }
+    askedAgain(tid) { this.mark({ kind: 'request', tid }, 'again'); }
+    flushedAgain(flush) { this.mark({ flush }, 'again'); }
+    session({ client, server, left }) {
+      const { sessions } = this.run.tracks;
+      sessions.client.set(this.now, client, client);
+      const words = server === 'Replaying' ? `Replaying ${left}` : server;
+      sessions.server.set(this.now, words, words);
+    }
+    lost(toClient, toServer) {
+      for (const message of [...toClient, ...toServer]) this.byMessage.get(message.id).lost = this.now;
+      this.run.tracks.losses.push({ entry: this.now });
+      this.run.counts.lost += toClient.length + toServer.length;
     }
     asked(request) {
-      const bar = { request, from: this.now, recorded: null, durable: null, told: null, answer: null, to: null };
+      const bar = { request, from: this.now, marks: [], told: null, answer: null, to: null };
       this.byRequest.set(request.tid, bar);
       this.run.tracks.requests.push(bar);
       this.run.counts.requests++;
@@ -789,10 +970,10 @@
       this.run.counts.replies++;
       if (bar && bar.told === null) Object.assign(bar, { told: this.now, answer });
     }
-    saved(tid) {
+    saved(tid, isOver) {
       const bar = this.byRequest.get(tid);
       this.run.counts.saved++;
-      if (bar && bar.to === null) bar.to = this.now;
+      if (bar && isOver && bar.to === null) bar.to = this.now;
     }
     hit(caller) {
       this.run.tracks.hits.push({ entry: this.now, caller });
@@ -826,13 +1007,16 @@
     used(r, how) { this.byReference.get(r).marks.push({ entry: this.now, how }); this.touch(r.file); }
     stored(first, last) { this.run.tracks.operations.push({ entry: this.now, first, last }); }
     flushed(flush, snap) {
-      const bar = { flush, from: this.now, recorded: null, durable: null, acked: null };
+      const bar = { flush, from: this.now, marks: [], acked: null };
       this.byFlush.set(flush, bar);
       const open = snap && this.bySnap.get(snap);
       if (open) { open.sent = this.now; open.bar = bar; }
       this.track(flush.file).flushes.push(bar);
     }
-    flushAcked(flush) { this.mark({ flush }, 'acked'); }
+    flushAcked(flush) {
+      const bar = this.byFlush.get(flush);
+      if (bar) bar.acked = this.now;
+    }
     queued(f, snap) {
       const bar = { snap, from: this.now, ready: isOpen(this.run.state, snap) ? null : this.now, sent: null, bar: null };
       this.bySnap.set(snap, bar);
@@ -840,17 +1024,17 @@
     }
     snapshot() { this.coverAll(); }
     removed() { this.coverAll(); }
-    coverAll() { for (const file of this.run.state.files.values()) if (file.stands) this.cover(file.number); }
+    coverAll() { for (const file of this.run.state.files.values()) if (file.stands || this.run.tracks.files.has(file.number)) this.cover(file.number); }
     // a bar for each snapshot that covers a file, as long as it does
     cover(f) {
       const track = this.track(f);
-      const covering = new Set(standingContext(this.run.state, f).snaps);
+      const covering = new Set(stands(this.run.state, f) ? standingContext(this.run.state, f).snaps : []);
       for (const bar of track.covered.values()) if (!covering.has(bar.at)) this.uncover(track, bar);
       for (const at of [...covering].reverse()) {
         if (track.covered.has(at)) continue;
         const bar = { at, band: new Band(), shows: [], gone: null, why: '' };
         track.covered.set(at, bar);
-        track.states.push(bar);
+        track.states.splice(placeOf(track.states, at), 0, bar);
         this.setState(track, bar);
       }
     }
@@ -858,12 +1042,13 @@
       const snapshot = this.run.state.snapshots.get(bar.at);
       track.covered.delete(bar.at);
       bar.gone = this.now;
-      bar.why = snapshot && snapshot.removed ? 'removed' : 'no longer covers it';
+      bar.why = !snapshot || !stands(this.run.state, track.file) ? 'lost' : snapshot.removed ? 'removed' : 'no longer covers it';
       bar.band.close(this.now);
     }
     setState(track, bar) {
       if (bar.gone !== undefined && bar.gone !== null) return;
       const { state } = this.run;
+      if (!stands(state, track.file)) { bar.band.set(this.now, null, ''); return; }
       const pending = bar.at === 'head' ? headReasons(state, track.file).length > 0 : bar.at > settledUpTo(state, track.file);
       const meta = pending ? null : metaAt(state, track.file, bar.at);
       const label = pending ? 'pending' : `size ${meta.size} mtime ${meta.mtime} mode ${modeText(meta.mode)}`;
@@ -894,21 +1079,32 @@
     }
   }
 
+  // behind those of lesser numbers, and of the same
+  function placeOf(bars, at) {
+    let place = bars.length;
+    while (place > 0 && bars[place - 1].at > at) place--;
+    return place;
+  }
+
+  const isFlushAgain = (state, flush) => fileOf(state, flush.file).recorded.some((x) => x.tid >= flush.tid);
+
   function deliveryText(m, state) {
     switch (m.kind) {
       case 'cap': return `cap ${m.file} ${m.seq} ${capsText(m.bits)} ${m.max}`;
-      case 'snap': return `snap ${m.number} ${m.directory}`;
+      case 'snap': return `snap ${m.number} ${m.directory} ${countMade(state, m.realms)}`;
+      case 'resumed': return `resumed ${countMade(state, m.realms)}`;
+      case 'reconnect': return `reconnect ${m.caps.length} ${m.resends}`;
       case 'flushack': return `flushack ${m.file} ${m.tid}`;
-      case 'capack': return `capack ${m.file} ${m.seq}`;
+      case 'capack': return `capack ${m.file} ${m.seq} held ${capsText(fileOf(state, m.file).server.seq === m.seq ? m.bits : fileOf(state, m.file).server.held)}`;
       case 'req': return state.answered.has(m.tid) ? `reqdup ${m.tid} ${answerText(state.answered.get(m.tid))}` : `req ${m.tid} ${answerText(answerNow(state, m.op))}`;
       case 'unsafe': return `unsafe ${m.tid} ${answerText(m.answer)}`;
       case 'safe': return `safe ${m.tid}`;
       case 'unlease': return `unlease ${m.directory} ${m.name}`;
-      default: return `flushed ${m.flush.file} ${m.flush.tid}`;
+      default: return `${isFlushAgain(state, m.flush) ? 'flushdup' : 'flushed'} ${m.flush.file} ${m.flush.tid}`;
     }
   }
 
-  const newCounts = () => ({ entries: 0, sentToClient: 0, sentToServer: 0, deliveredToClient: 0, deliveredToServer: 0, begun: 0, ended: 0, shows: 0, showsAgreeing: 0, pendingSpans: 0, pendingEntries: 0, records: 0, durable: 0, operations: 0, requests: 0, replies: 0, saved: 0, made: 0, lookups: 0, hits: 0, lists: 0, differences: 0 });
+  const newCounts = () => ({ entries: 0, sentToClient: 0, sentToServer: 0, deliveredToClient: 0, deliveredToServer: 0, begun: 0, ended: 0, shows: 0, showsAgreeing: 0, pendingSpans: 0, pendingEntries: 0, records: 0, durable: 0, operations: 0, requests: 0, replies: 0, saved: 0, made: 0, lost: 0, lookups: 0, hits: 0, lists: 0, differences: 0 });
   const CHECKPOINT = 500;
 
   // A run: the entries of a journal with all that was computed of them, once. `stateAt(n)` is the state after n entries.
@@ -919,7 +1115,7 @@
       this.differences = [];
       this.shows = [];
       this.lists = [];
-      this.tracks = { arrows: [], references: [], records: [], commits: [], operations: [], requests: [], leases: [], hits: [], files: new Map() };
+      this.tracks = { arrows: [], references: [], records: [], commits: [], operations: [], requests: [], leases: [], hits: [], losses: [], files: new Map(), sessions: { client: new Band(), server: new Band() } };
       this.checkpoints = [];
       this.fold();
       this.cached = copyState(this.checkpoints[0]);
@@ -928,6 +1124,8 @@
     fold() {
       this.state = newState();
       const trace = new Trace(this);
+      this.now = 1;
+      trace.session(this.state.session);
       this.entries.forEach((entry, i) => {
         if (i % CHECKPOINT === 0) this.checkpoints.push(copyState(this.state));
         this.now = i + 1;
@@ -967,6 +1165,7 @@
       counts.showsAgreeing = this.shows.filter((s) => s.agrees).length;
       counts.records = state.records.length;
       counts.durable = state.durable;
+      counts.made = state.made;
       counts.operations = state.operations;
       counts.lists = this.lists.length;
       counts.differences = this.differences.length;
@@ -1008,9 +1207,10 @@
       const lines = [['Time', `${s.clock} s`]];
       lines.push(['On its way to the client', s.toClient.map((m) => messageShort(m).join(' ')).join(', ') || 'nothing']);
       lines.push(['On its way to the server', s.toServer.map((m) => messageShort(m).join(' ')).join(', ') || 'nothing']);
+      lines.push(['Sessions', `client ${clientWords(s)}, server ${serverWords(s)}`]);
       lines.push(['Log', `${plural(s.records.length, 'record')}, ${s.durable} durable`]);
       lines.push(['Store', plural(s.operations, 'operation')]);
-      const open = [...s.requests.values()].filter((r) => !s.saved.has(r.tid));
+      const open = openRequests(s);
       if (s.requests.size) lines.push(['Open requests', open.length ? shortened(open.map((r) => `${r.tid} ${r.op.kind}${s.replied.has(r.tid) ? ' (answered)' : ''}`)) : 'none']);
       if (s.leases.size) lines.push(['Leases', shortened([...s.leases].map(([key, lease]) => `${key} is ${lease.ino} until ${lease.until} s${lease.until <= s.clock ? ' (expired)' : ''}`))]);
       lines.push(['Live references', s.live.length ? shortened(s.live.map((r) => `${r.caller}/${r.number} ${capsText(r.bits)} of ${r.file}`)) : 'none']);

@@ -73,10 +73,10 @@
   function palette() {
     const style = getComputedStyle(document.documentElement);
     const colours = {};
-    for (const name of ['paper', 'ink', 'soft', 'faint', 'cursor', 'caps', 'snaps', 'flushes', 'requests', 'agrees', 'wrong']) colours[name] = variable(style, name);
+    for (const name of ['paper', 'ink', 'soft', 'faint', 'cursor', 'caps', 'snaps', 'flushes', 'requests', 'sessions', 'agrees', 'wrong']) colours[name] = variable(style, name);
     colours.onStrong = variable(style, 'on-strong');
     colours.bars = {};
-    for (const kind of ['writer', 'reader', 'held', 'issued', 'heldback', 'dirty', 'writing', 'tosend', 'flush', 'pending', 'settled', 'durable', 'asked', 'answered', 'lease']) {
+    for (const kind of ['writer', 'reader', 'held', 'issued', 'heldback', 'dirty', 'writing', 'tosend', 'flush', 'pending', 'settled', 'durable', 'asked', 'answered', 'lease', 'sessionactive', 'broken', 'renewing']) {
       colours.bars[kind] = { fill: variable(style, kind), edge: variable(style, `${kind}-edge`), hatch: variable(style, `${kind}-hatch`) };
     }
     return colours;
@@ -201,10 +201,10 @@
 
   function showCounts() {
     const { counts, differences } = page.run;
-    const underWay = counts.sentToClient + counts.sentToServer - page.run.tracks.arrows.filter((a) => a.to !== null).length;
+    const underWay = page.run.tracks.arrows.filter((a) => a.to === null && a.lost === null).length;
     const parts = [
       `${page.name}: ${counts.entries} ${counts.entries === 1 ? 'entry' : 'entries'}`,
-      `messages: ${counts.sentToClient} to the client, ${counts.sentToServer} to the server, ${underWay} still under way`,
+      `messages: ${counts.sentToClient} to the client, ${counts.sentToServer} to the server, ${counts.lost ? `${counts.lost} lost, ` : ''}${underWay} still under way`,
       `references: ${counts.begun} begun, ${counts.ended} ended`,
       ...(counts.requests ? [`requests: ${counts.requests} sent, ${counts.replies} answered, ${counts.saved} safe`] : []),
       `${counts.durable} of ${counts.records} records durable`,
@@ -235,7 +235,13 @@
     ['snaps', 'arrow', 'color: var(--snaps)', 'news of a snapshot or removal'],
     ['flushes', 'arrow', 'color: var(--flushes)', 'flush, or its acknowledgement'],
     ['requests', 'arrow', 'color: var(--requests)', 'request, its answer, its Safe; end of a lease'],
+    ['sessions', 'arrow', 'color: var(--sessions)', 'the client’s report; the session goes on'],
     ['underway', 'arrow under-way', '', 'under way at the end'],
+    ['lost', 'round', 'color: var(--wrong); border-color: transparent', 'lost', '✕'],
+    ['again', 'round', 'color: var(--soft); border-color: transparent', 'sent again', '↻'],
+    ['sessionactive', '', plain('sessionactive'), 'session active'],
+    ['broken', '', hatched('broken'), 'broken'],
+    ['renewing', '', plain('renewing'), 'reconnecting; replaying, with so many to come'],
     ['refused', 'round small', 'border-color: var(--soft)', 'refused: changes nothing'],
     ['writer', '', plain('writer'), 'reference with Fw'],
     ['reader', '', plain('reader'), 'other reference'],

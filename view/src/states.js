@@ -13,6 +13,7 @@
     number: f, home: 1,
     stands: false,    // the server knows it
     known: false,     // the client does
+    capped: false,    // the client was ever told of its capabilities
     server: { given: 0, held: 0, seq: 0, max: 0 },
     client: { issued: 0, implemented: 0, seq: 0, acked: 0, max: 0 },
     context: { seq: 0, snaps: [] },
@@ -30,13 +31,16 @@
     paths: new Map([[1, [1]]]), order: [1], files: new Map(),
     begun: new Map(), live: [],
     toClient: [], toServer: [], messages: 0,
-    records: [], durable: 0, snapshots: new Map(), names: new Map(), greatest: 0,
-    standing: new Map([[1, rootRecord()]]), atCommit: new Map([[1, rootRecord()]]),
+    records: [], durable: 0, snapshots: new Map(), greatest: 0,
+    standing: new Map([[1, rootRecord()]]), // the realms by all records
+    kept: { entries: new Map(), made: 0, standing: new Map([[1, rootRecord()]]), greatest: 0 }, // what the durable records say
     lastSent: new Map([[1, rootRecord()]]), realms: new Map([[1, rootRecord()]]),
     flushes: 0, operations: 0, capSnaps: 0,
     since: new Map([[1, 1]]),  // the least number whose snapshots of directories above cover a directory
     entries: new Map(), made: 0, // the names in directories, and how many inodes requests made
-    requests: new Map(), answered: new Map(), replied: new Set(), saved: new Set(),
+    requests: new Map(), answered: new Map(), replied: new Set(),
+    closed: new Set(), resent: new Set(), // the requests that are over, and those that were sent again
+    session: { client: 'Active', server: 'Active', left: 0 },
     namedLast: new Map(),      // of each entry that a request named, the number of the last one
     leases: new Map(),
   });
@@ -57,6 +61,22 @@
   function fileOf(state, f) {
     if (!state.files.has(f)) state.files.set(f, newFile(f));
     return state.files.get(f);
+  }
+
+  // the directories that the server knows, parents first
+  function orderDirectories(state, directories) {
+    state.order = directories.sort((a, b) => pathOf(state, a).length - pathOf(state, b).length || a - b);
+  }
+
+  function makeDirectory(state, d, parent) {
+    state.paths.set(d, [d, ...pathOf(state, parent)]);
+    orderDirectories(state, [...state.order.filter((e) => e !== d), d]);
+  }
+
+  // the server knows it no more; the client may
+  function removeDirectory(state, d) {
+    state.since.delete(d);
+    state.order = state.order.filter((e) => e !== d);
   }
 
   const stands = (state, f) => state.files.has(f) && state.files.get(f).stands;
@@ -230,18 +250,16 @@
   const answerNow = (state, op) => answerOn(state.entries, op, isFile(state), state.made);
   const standsDirectory = (state, d) => hasDirectory(state.entries, d);
 
-  // the answers that are computed of the events whose answers are compared
+  // the answers that are computed of events that look at no session
   const COMPUTED = {
     show: (state, e) => computeShow(state, e).text,
     names: (state, e) => standsDirectory(state, e.directory) ? `names ${listing(state.entries, e.directory)}` : 'unknown',
     lookup: (state, e) => lookedUp(state.leases.get(keyOf(e.directory, e.name)), state.clock),
-    unlease: (state, e) => standsDirectory(state, e.directory) ? 'sent' : 'unknown',
-    req: (state) => `sent ${state.requests.size + 1}`,
   };
 
   const states = {
     newState, copyState, fileOf, stands, pathOf, named, writersOf, usedOf, heldBack, isOpen, isWriting, metaOf, lastFlush, metaAt,
-    isSame, isSameRecord, withRealms, pathContext, standingContext, settledUpTo, headReasons, reasonsOf, refText, answerNow, COMPUTED,
+    isSame, isSameRecord, makeDirectory, removeDirectory, standsDirectory, withRealms, pathContext, standingContext, settledUpTo, headReasons, reasonsOf, refText, answerNow, COMPUTED,
   };
   root.JournalStates = states;
   if (typeof module !== 'undefined' && module.exports) module.exports = states;

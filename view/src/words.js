@@ -74,6 +74,7 @@
     T: number('time', 0, 4294967295),
     R: { name: 'reference', read: (word) => word.startsWith('g') ? { kept: true, number: reference.read(word.slice(1)) } : { kept: false, number: reference.read(word) } },
     S: number('snapshot', 1, 99999),
+    K: number('keep', 0, 10000),
     AT: { name: 'at', read: (word) => word === 'head' ? 'head' : FIELDS.S.read(word) },
     END: number('end', 0, 1048576),
     MAX: number('max', 0, 1048576),
@@ -86,6 +87,13 @@
     MADE: number('made', 0, MANY),
     COUNT: number('count', 0, MANY),
     SIZE: number('size', 0, MANY),
+    CAPS: number('caps', 0, MANY),
+    REQUESTS: number('requests', 0, MANY),
+    FLUSHES: number('flushes', 0, MANY),
+    RESENDS: number('resends', 0, MANY),
+    DOWN: number('toClient', 0, MANY),
+    UP: number('toServer', 0, MANY),
+    KEPT: number('kept', 0, MANY),
     BITS: { name: 'bits', read(word) {
       const bits = capsOf(word);
       if (bits === null) throw new Misread(`${quoted(word)} is no set of capabilities (bits)`);

@@ -1,5 +1,5 @@
 -- The files that are reported, from the table's entries, which stand by rising inodes.
-use Rattle.std.proofs.Common.{◌≡◌, ◌∙◌, refl, sym, ap, subst, ℕ, ◌<◌, ◌==◌, ◌||◌, ◌↔◌, nat_lt, Bool, true, false, cond, is_some, List, [], ◌∷◌, filter, map, Contains, Option, Some, None, zero, suc, inl, inr, arith}
+use Rattle.std.proofs.Common.{◌≡◌, ◌∙◌, refl, sym, ap, subst, ℕ, ◌<◌, ◌==◌, ◌||◌, Bool, true, false, cond, is_some, List, [], ◌∷◌, filter, map, Contains, Option, Some, None, suc, inl, inr, arith}
 use Rattle.std.proofs.lemmas.Bool.{eqb-true, eq-eqb}
 use Rattle.std.proofs.lemmas.Cmp.{nat_cmp_total}
 use Rattle.std.proofs.lemmas.List.Kept.{AllPairs-filter, AllPairs-from_increasing}
@@ -11,7 +11,6 @@ use Rattle.std.specs.List.{list_any, slice_get}
 use Rattle.std.specs.Map.{keys_of}
 use Rattle.std.specs.Option.{option_map_or}
 use Rattle.std.specs.Ordering.{nat_cmp}
-use Rattle.cs_laws.specs.declared.reports.CapReport.{CapReport}
 use Rattle.cs_laws.specs.Reports.{report_of, reports, rising}
 use Rattle.cs_parts.specs.Capabilities.{no_client_caps}
 use Rattle.cs_realms.proofs.Rising.{IsRising, is_rising}
@@ -99,3 +98,22 @@ pub capped_are : (files : Files) (made : List ℕ) → IsOrdered nat_cmp files �
 capped_are files made ordered m =
     entries_report files files.entries (λ i k r is. btree_map_get_place nat_cmp_total files i k r ordered is)
     ∙ ap (reports (caps_of files)) (capped_keys files made ordered m)
+
+capped_kept : (files : Files) (f : ℕ) → is_capped files f ≡ true → is_kept files f ≡ true
+capped_kept files f e = at (get nat_cmp files f) e
+  where
+    at : (o : Option ClientFile) → option_map_or (λ (r : ClientFile). r.capped) o false ≡ true → is_some o ≡ true
+    at None e = absurd (cc)
+    at (Some r) e = refl
+
+-- A rising list of the files that a Cap was delivered for is what is reported
+
+pub capped_is : (files : Files) (made fs : List ℕ) → AreMade files made → IsRising fs → ((f : ℕ) → is_among f fs ≡ is_capped files f)
+    → fs ≡ capped_files files made
+capped_is files made fs m up each =
+    is_rising (filter (is_capped files) made) fs up
+    (λ f. (
+      λ h. let is : is_capped files f ≡ true = sym (each f) ∙ in_among f fs h in
+          (in_filter (is_capped files) made f).1 (among_in f made (sym (m.listed f) ∙ capped_kept files f is), is),
+      λ h. among_in f fs (each f ∙ ((in_filter (is_capped files) made f).0 h).1),
+    ))

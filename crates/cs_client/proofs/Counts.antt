@@ -27,7 +27,7 @@ pub fewer : (m n : ℕ) → m ≤ n → n ≤ 256 → (n ≡ 256 → ⊥) → m 
 fewer m n within few other = grind (arith, within, few, other)
 
 -- as the first item is counted or not
-first_counts : {X : Type 0} (p : X → Bool) (x : X) (xs : List X) → count_by p (x ∷ xs) ≡ cond (p x) 1 0 + count_by p xs
+pub first_counts : {X : Type 0} (p : X → Bool) (x : X) (xs : List X) → count_by p (x ∷ xs) ≡ cond (p x) 1 0 + count_by p xs
 first_counts p x xs = sym (length-filter p (x ∷ xs)) ∙ (at (p x) ∙ ap (λ n. cond (p x) 1 0 + n) (length-filter p xs))
   where
     at : (b : Bool) → length (cond b (x ∷ filter p xs) (filter p xs)) ≡ cond b 1 0 + length (filter p xs)

@@ -9,8 +9,10 @@ pub mod Made
 pub mod Makings
 pub mod Nearest
 pub mod Once
+pub mod Ordered
 pub mod Owing
 pub mod Puts
+pub mod Resends
 pub mod Restarted
 pub mod Sending
 pub mod Sends

@@ -1,5 +1,5 @@
 -- The flushes that are sent again, file by file.
-use Rattle.std.proofs.Common.{◌≡◌, ◌∙◌, refl, sym, ap, subst, ℕ, not, Bool, true, false, List, [], ◌∷◌, ◌++◌, filter, map, append_assoc, append-nil, Option, Some}
+use Rattle.std.proofs.Common.{◌≡◌, ◌∙◌, refl, sym, ap, subst, ℕ, not, Bool, true, false, List, [], ◌∷◌, ◌++◌, filter, append_assoc, append-nil, Some}
 use Rattle.std.proofs.lemmas.List.Sorted.{IsPermutation-append_left, IsPermutation-append_right, IsPermutation-filter_both, IsPermutation-sym, IsPermutation-trans}
 use Rattle.std.specs.BTreeMap.{get}
 use Rattle.std.specs.List.Sorted.{IsPermutation}

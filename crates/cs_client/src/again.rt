@@ -22,8 +22,8 @@ use cs_requests::Requests;
 use std::alloc::Global;
 use std::collections::BTreeMap;
 
-/// The greatest count that a u32 has.
-const MOST: usize = 4_294_967_295;
+/// The most items that are counted by a u32.
+const MOST_COUNTED: usize = 4_294_967_295;
 
 /// Reports what the client has of files and realms, and sends the open requests again, and then the
 /// unacknowledged flushes of all files and their cap snaps, both in the order of their numbers.
@@ -135,6 +135,7 @@ fn add_unacked(
     Ok(add_all(&unacked, flushes)?)
 }
 
+// Adds these flushes.
 fn add_all(reports: &FlushReportList, flushes: &mut Vec<FlushReport>) -> Result<(), Memory>
     ensures { OnOk result (flushes.new.items ≡ flushes.old.items ++ reports.now) }
 {
@@ -157,7 +158,7 @@ fn in_order(mut flushes: Vec<FlushReport>) -> Vec<FlushReport>
 fn count(items: usize) -> Result<u32, Memory>
     ensures { IfOk result (λ n. n ≡ items) }
 {
-    if items > MOST {
+    if items > MOST_COUNTED {
         return Err(Memory);
     }
     Ok(items as u32)

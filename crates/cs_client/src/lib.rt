@@ -1,6 +1,6 @@
 //! The client of a run: what it keeps of directories, realms, files, references, requests and leases, and
-//! what it makes of callers' events and of the server's messages. Contracts see of it values of its own,
-//! and no history. The object store is lent to it by each call.
+//! what it makes of callers' events and of the server's messages, and how it comes back after a loss.
+//! Contracts see of it values of its own, and no history. The object store is lent to it by each call.
 #![tactic(auto)]
 
 mod again;

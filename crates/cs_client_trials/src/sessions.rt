@@ -94,7 +94,12 @@ fn call_again(
     };
     assert_eq!(rt; out.len(), 3);
     expect_report(rt, out.get(0).ok_or("no report")?)?;
-    assert!(rt; matches!(out.get(1).ok_or("no request")?, Message::Req { ino: None, .. }));
+    assert!(rt;
+        matches!(
+            out.get(1).ok_or("no request")?,
+            Message::Req { ino: None, .. }
+        )
+    );
     assert!(rt; matches!(out.get(2).ok_or("no flush")?, Message::Flush { .. }));
     Ok(())
 }

@@ -1,7 +1,6 @@
 -- Which answers are to messages that are sent again.
 use Rattle.std.proofs.Common.{◌≡◌, refl, ap, ◌∙◌, Bool, true, false, cond, nat_lt}
 use Rattle.cs_laws.specs.declared.answers.Answer.{Answer}
-use Rattle.cs_laws.specs.declared.answers.Answer.TheVariants as answers
 use Rattle.cs_laws.specs.declared.messages.Message.{Message}
 use Rattle.cs_laws.specs.declared.messages.Message.TheVariants as messages
 use Rattle.cs_laws.specs.Carried.{is_for_client}

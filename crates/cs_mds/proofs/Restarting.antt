@@ -1,8 +1,8 @@
 -- What a failover keeps, and how its records are read anew.
-use Rattle.std.proofs.Common.{◌≡◌, ◌∙◌, refl, sym, ap, subst, arith, rules, ⊎_elim, ℕ, ◌+◌, ◌<◌, ◌≤◌, true, List, [], ◌∷◌, ◌++◌, length, map, min, take, drop, get_or, slice_get, Some, append-nil, append_assoc}
+use Rattle.std.proofs.Common.{◌≡◌, ◌∙◌, sym, ap, subst, arith, rules, ⊎_elim, ℕ, ◌+◌, ◌<◌, ◌≤◌, true, List, [], ◌∷◌, ◌++◌, length, map, min, take, drop, slice_get, Some, append-nil, append_assoc}
 use Rattle.std.specs.List.{All}
 use Rattle.std.specs.Option.{option_map}
-use Rattle.std.proofs.lemmas.List.{get_or_append_left, length-append, length-map, length-take, take-append-drop, take_min, take-map, take_more, drop_more}
+use Rattle.std.proofs.lemmas.List.{get_or_append_left, length-append, length-map, length-take, take-append-drop, take_all, take_min, take-map, take_more, drop_more}
 use Rattle.std.proofs.lemmas.List.Elements.{All-from_get_or, All-get_or}
 use Rattle.std.proofs.lemmas.Option.{get_or_from_slice_get, slice_get-map, slice_get_cases, slice_get_within}
 use Rattle.std.proofs.Math.Seq.{take-append-add}
@@ -17,7 +17,7 @@ use Rattle.cs_records.proofs.Logs.{log_front, log_next}
 use Rattle.cs_mds.specs.Restart.{HasRecord, kept_of}
 use Rattle.cs_tree.specs.declared.directories.Directory.{Directory}
 use Rattle.cs_laws.specs.declared.answers.Entry.{Entry}
-use Rattle.cs_mds.specs.Views.{AreRecords, AreWhole, Homes}
+use Rattle.cs_mds.specs.Views.{AreRecords, Homes}
 use Rattle.cs_mds.specs.Whole.{AreAnswered, AreStanding, IsAnswered}
 use Rattle.cs_mds.proofs.Standing.{answered_next}
 
@@ -100,14 +100,21 @@ module _ (kept : List Record) (n : ℕ) (r : Record) (is : slice_get kept n ≡ 
   pub kept_answer : (ns : Names) → AreAnswered ns kept → IsAnswered (names_after ns (take n kept)) r.body
   kept_answer ns are = answered_next ns (take n kept) r (drop (n + 1) kept) (subst (λ rs. AreAnswered ns rs) kept_split are)
 
+-- the next one, where k records are kept
+pub has_next : (rs : List (List ℕ)) (m k keep n : ℕ) (s : RecordLog) → LogIs rs m (kept_of keep s) [] → AreRecords (all s)
+    → k ≡ length s.durable + min keep (length s.fresh) → n < k → (r : Record) × (HasRecord rs n r × (slice_get (kept_of keep s) n ≡ Some r))
+has_next rs m k keep n s log are counted within =
+    let count = kept_length keep s in has_record rs m (kept_of keep s) n log (kept_formed keep s are) (omega (arith, within, counted, count))
+
+-- all were read
+pub all_read : (k keep n : ℕ) (s : RecordLog) → k ≡ length s.durable + min keep (length s.fresh) → k ≤ n → take n (kept_of keep s) ≡ kept_of keep s
+all_read k keep n s counted end = let count = kept_length keep s in take_all n (kept_of keep s) (omega (arith, end, counted, count))
+
 -- The tables that were made
 
 pub standing_moved : (xs : List Entry) (rs ss : List Record) (old new : List Directory) (was homes : Homes) (ns now : Names) → new ≡ old → homes ≡ was → now ≡ ns
     → rs ≡ ss → AreStanding xs rs old was ns → AreStanding xs ss new homes now
 standing_moved xs rs ss old new was homes ns now tree lie names same i = rw (tree, lie, names) (subst (λ r. AreStanding xs r old was ns) same i)
-
-pub whole_moved : (old new : List Directory) (was homes : Homes) (ns now : Names) → new ≡ old → homes ≡ was → now ≡ ns → AreWhole old was ns → AreWhole new homes now
-whole_moved old new was homes ns now tree lie names i = rw (tree, lie, names) i
 
 pub log_moved : (rs : List (List ℕ)) (n : ℕ) (kept ds fs : List Record) → ds ≡ kept → fs ≡ [] → LogIs rs n kept [] → LogIs rs n ds fs
 log_moved rs n kept ds fs durable fresh log = rw (durable, fresh) log

@@ -1,5 +1,5 @@
 -- The tables that setup lines make, with one line more.
-use Rattle.std.proofs.Common.{◌≡◌, ◌∙◌, refl, sym, ap, subst, arith, ℕ, ◌+◌, ◌<◌, ◌≤◌, take, drop, get_or, ◌==◌, ◌||◌, ◌&&◌, Bool, true, false, cond, List, [], ◌∷◌, ◌++◌, length, map, reverse, Option, Some, None, is_some}
+use Rattle.std.proofs.Common.{◌≡◌, ◌∙◌, refl, sym, ap, subst, arith, ℕ, ◌+◌, ◌<◌, ◌≤◌, take, drop, get_or, ◌==◌, ◌||◌, Bool, true, false, cond, List, [], ◌∷◌, ◌++◌, length, map, reverse, Some, None, is_some}
 use Rattle.std.specs.List.{list_any}
 use Rattle.std.specs.Option.{option_map_or}
 use Rattle.std.proofs.lemmas.Bool.Decides.{nat_tests}
@@ -17,7 +17,7 @@ use Rattle.cs_laws.specs.declared.events.Event.TheVariants as events
 use Rattle.cs_laws.specs.declared.records.Record.{Record}
 use Rattle.cs_laws.specs.Events.{setup_file}
 use Rattle.cs_laws.specs.Names.{setup_names}
-use Rattle.cs_laws.specs.Namespace.{Named, Names, first_made, has_dir, has_file, is_dir_entry, no_names}
+use Rattle.cs_laws.specs.Namespace.{Names, first_made, has_dir, has_file, is_dir_entry, no_names}
 use Rattle.cs_laws.specs.Tree.{home, is_directory, path, setup_dir, with_directory}
 use Rattle.cs_names.specs.declared.setup.SetupStep.TheVariants as steps
 use Rattle.cs_names.specs.Setup.{after_setup, after_step, setup_step}

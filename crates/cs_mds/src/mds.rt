@@ -128,6 +128,7 @@ impl Mds {
         ensures answer { IfOk result (λ a. a ≡ served_answer self.old true event.now) }
         ensures after { IfOk result (λ a. Served [] self.old self.new event.now a) }
         ensures whole { IsWhole self.old → OnOk result (IsWhole self.new) }
+        ensures made { self.new.names.made ≡ self.old.names.made }
         ensures session { SameSession self.old self.new }
         ensures err { OnErr result (self.new ≡ record self.old { tree = self.new.tree; homes = self.new.homes }) }
     {
@@ -145,6 +146,7 @@ impl Mds {
         ensures answer { IfOk result (λ a. a ≡ served_answer self.old true (events.Dir dir parent)) }
         ensures after { IfOk result (λ a. Served [] self.old self.new (events.Dir dir parent) a) }
         ensures whole { IsWhole self.old → OnOk result (IsWhole self.new) }
+        ensures made { self.new.names.made ≡ self.old.names.made }
         ensures session { SameSession self.old self.new }
         ensures err { OnErr result (self.new ≡ record self.old { tree = self.new.tree; homes = self.new.homes }) }
     {
@@ -165,6 +167,7 @@ impl Mds {
         ensures answer { IfOk result (λ a. a ≡ served_answer self.old true (events.File file parent)) }
         ensures after { IfOk result (λ a. Served [] self.old self.new (events.File file parent) a) }
         ensures whole { IsWhole self.old → OnOk result (IsWhole self.new) }
+        ensures made { self.new.names.made ≡ self.old.names.made }
         ensures session { SameSession self.old self.new }
         ensures err { OnErr result (self.new ≡ record self.old { tree = self.new.tree; homes = self.new.homes }) }
     {
@@ -533,6 +536,7 @@ impl Mds {
         ensures answer { IfOk result (λ a. a ≡ served_answer self.old true (events.Failover keep)) }
         ensures after { OnOk result (Restarted keep self.old self.new) }
         ensures whole { OnOk result (IsWhole self.new) }
+        ensures made { OnOk result (self.new.names.made < 10000) }
         ensures sent { out.new ≡ out.old }
         ensures same { OnErr result (self.new ≡ self.old) }
         ensures log { OnOk result (LogHolds (L.records log.new) (L.durable log.new) self.new) }

@@ -124,9 +124,7 @@ fn do_request<L: MdsLog>(
 {
     let answer = names.answer(op)?;
     log_request(alloc, records, tid, op, &answer, log)?;
-    Ok(perform(
-        tree, homes, names, tid, carried, op, answer, replaying, out,
-    )?)
+    Ok(perform(tree, homes, names, tid, carried, op, answer, replaying, out)?)
 }
 
 // Appends the record of a request that is answered so, and then adds it to the others. After a fault these

@@ -41,6 +41,7 @@ pub fn restart_in<L: MdsLog>(
     ensures inside { IfOk result (λ t. AreIn t.tree t.homes) }
     ensures setup { IfOk result (λ t. BeginsSetUp (all t.records) t.names) }
     ensures count { IfOk result (λ t. length (all t.records) ≡ length records.now.durable + min keep (length records.now.fresh)) }
+    ensures made { IfOk result (λ t. t.names.made < 10000) }
     ensures quiet { out.new ≡ out.old }
     ensures log { IfOk result (λ t. LogHas (L.records log.new) (L.durable log.new) t.records) }
     ensures halted { OnErr result (LogHalts (L.records log.new) (L.durable log.new) records.now.durable records.now.fresh (kept_of keep records.now) []) }

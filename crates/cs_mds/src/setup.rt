@@ -45,6 +45,7 @@ pub fn set_up_dir(
     ensures new_line { AreStanding (entries_of lines.old.items) [] tree.old homes.now names.old → AreLines (entries_of lines.old.items) → OnOk result (AreLines (entries_of lines.new.items)) }
     ensures standing { AreStanding (entries_of lines.old.items) [] tree.old homes.now names.old → OnOk result (AreStanding (entries_of lines.new.items) [] tree.new homes.now names.new) }
     ensures err { OnErr result (names.new ≡ names.old) }
+    ensures made { names.new.made ≡ names.old.made }
     ensures kept { OnErr result (lines.new.items ≡ lines.old.items) }
     ensures grows { (d : ℕ) → has_directory d tree.old ≡ true → has_directory d tree.new ≡ true }
 {
@@ -76,6 +77,7 @@ pub fn set_up_file(
     ensures new_line { AreStanding (entries_of lines.old.items) [] tree.now homes.old names.old → AreLines (entries_of lines.old.items) → OnOk result (AreLines (entries_of lines.new.items)) }
     ensures standing { AreStanding (entries_of lines.old.items) [] tree.now homes.old names.old → OnOk result (AreStanding (entries_of lines.new.items) [] tree.now homes.new names.new) }
     ensures err { OnErr result (names.new ≡ names.old) }
+    ensures made { names.new.made ≡ names.old.made }
     ensures kept { OnErr result (lines.new.items ≡ lines.old.items) }
     ensures inside { AreIn tree.now homes.old → AreIn tree.now homes.new }
 {

@@ -50,9 +50,9 @@ rising_equal (x ∷ xs) (y ∷ ys) up_x up_y members =
     cc
 
 -- rs is rising and has s beside the members of ts
-record IsWith (s : ℕ) (ts rs : List ℕ) : Type 0 where
-  order : IsRising rs
-  members : (y : ℕ) → Contains rs y ↔ ((s ≡ y) ⊎ Contains ts y)
+pub record IsWith (s : ℕ) (ts rs : List ℕ) : Type 0 where
+  pub order : IsRising rs
+  pub members : (y : ℕ) → Contains rs y ↔ ((s ≡ y) ⊎ Contains ts y)
 
 -- at the end
 with_last : (s : ℕ) → IsWith s [] (s ∷ [])
@@ -106,7 +106,7 @@ with_later s t ts rs up above rest = record {
 above : (s t : ℕ) → t ≤ s → (s ≡ t → ⊥) → t < s
 above s t over other = omega arith
 
-with_number_is : (s : ℕ) (ts : List ℕ) → IsRising ts → IsWith s ts (with_number s ts)
+pub with_number_is : (s : ℕ) (ts : List ℕ) → IsRising ts → IsWith s ts (with_number s ts)
 with_number_is s [] up = with_last s
 with_number_is s (t ∷ ts) up =
     by_cond (IsWith s (t ∷ ts)) (nat_lt s t) _ _ (λ under. with_first s t ts up (ltb-true s t under))

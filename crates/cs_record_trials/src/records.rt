@@ -1,8 +1,9 @@
 // A record of each kind, and what is told of it once it is durable.
-use crate::steps::{add_request, add_snap, commit, ino, tid};
+use crate::steps::{add_request, add_snap, commit, commit_in, ino, tid};
 use cs_ids::{FileMeta, Seq, Snap};
 use cs_laws::{Message, MessageList, OpAnswer, Record, RecordBody};
 use cs_records::Records;
+use cs_tree::Directories;
 use std::alloc::Global;
 use std::process::Abort;
 use std::test::Fail;
@@ -63,5 +64,31 @@ fn a_record_of_each_kind_is_told(rt: HostRuntime) -> Result<(), Fail> {
     assert!(rt; matches!(told.get(1), Some(Message::FlushAck { .. })));
     assert!(rt; matches!(told.get(2), Some(Message::Snap { .. })));
     assert!(rt; matches!(told.get(3), Some(Message::Snap { .. })));
+    Ok(())
+}
+
+// Of a snapshot of a directory that is unknown here, in a session in which no realm record was sent.
+fn first_of_session(
+    rt: &impl Abort,
+    alloc: Global,
+    told: &mut MessageList,
+) -> Result<(bool, usize), Fail> {
+    let mut records = Records::new(alloc);
+    add_snap(rt, alloc, &mut records, ino(2)?)?;
+    let mut in_session = false;
+    commit_in(rt, alloc, &mut records, &mut in_session, told)?;
+    let tree = Directories::new(alloc)?;
+    let realms = records.durable_realms(&tree)?;
+    Ok((in_session, realms.len()))
+}
+
+// The root's record, which didn't change, is told too.
+#[test]
+fn a_session_begins_with_all_realms(rt: HostRuntime) -> Result<(), Fail> {
+    let mut told = MessageList::new(rt.alloc());
+    let (in_session, count) = first_of_session(&rt, rt.alloc(), &mut told)?;
+    assert!(rt; in_session);
+    assert_eq!(rt; count, 1);
+    assert!(rt; matches!(told.get(0), Some(Message::Snap { realms, .. }) if realms.len() == 1));
     Ok(())
 }

@@ -61,7 +61,19 @@ pub fn commit(
     records: &mut Records,
     told: &mut MessageList,
 ) -> Result<u32, Fail> {
+    let mut in_session = true;
+    commit_in(rt, alloc, records, &mut in_session, told)
+}
+
+// The same, where realm records were sent in this session or not.
+pub fn commit_in(
+    rt: &impl Abort,
+    alloc: Global,
+    records: &mut Records,
+    in_session: &mut bool,
+    told: &mut MessageList,
+) -> Result<u32, Fail> {
     let tree = Directories::new(alloc)?;
     assert!(rt; records.len() < 10_000);
-    Ok(records.commit(&tree, true, told)?)
+    Ok(records.commit(&tree, true, in_session, told)?)
 }

@@ -19,7 +19,7 @@ use Rattle.cs_records.specs.Sinces.{first_of, made_by_records, made_in_table, ma
 use Rattle.cs_laws.specs.declared.messages.Message.{Message}
 use Rattle.cs_tree.specs.declared.directories.Directory.{Directory}
 use Rattle.cs_tree.specs.Directories.{AreDistinct, inos, path_of}
-use Rattle.cs_records.specs.CommitNews.{commit_news, told_after, told_with}
+use Rattle.cs_records.specs.CommitNews.{commit_news}
 use Rattle.indexmap.specs.IndexMap.{get}
 use Rattle.indexmap.specs.IndexSet.{contains}
 use Rattle.cs_ids.specs.declared.objects.FileMeta.{FileMeta}
@@ -313,8 +313,3 @@ told_next told rs d t of now old new r xs is_new m some is changed more i distin
     (sinces_by (take d rs ++ r ∷ []) new
     (λ e. made_more rs d t of old new r some is more i e ∙ ap (λ ys. made_by_records e ys) (front_grows rs d r (more_behind rs d some) is))) distinct))
     ∙ ap (λ ys. commit_news told (path_of xs) (inos xs) (take d rs) ys) (sym (first_behind rs d r (more_behind rs d some) is))
-
--- whether realm records are sent with it
-pub mark_next : (told : Bool) (rs : List Record) (d : ℕ) (r : Record) → 0 < length (drop d rs) → r ≡ get_or rs d r
-    → told_with told r.body ≡ told_after told (take 1 (drop d rs))
-mark_next told rs d r some is = ap (λ ys. told_after told ys) (sym (first_behind rs d r (more_behind rs d some) is))

@@ -4,6 +4,8 @@
 #[cfg(test)]
 mod caps;
 #[cfg(test)]
+mod failovers;
+#[cfg(test)]
 mod messages;
 #[cfg(test)]
 mod numbers;
@@ -11,6 +13,8 @@ mod numbers;
 mod operations;
 #[cfg(test)]
 mod requests;
+#[cfg(test)]
+mod sessions;
 #[cfg(test)]
 mod setup;
 #[cfg(test)]

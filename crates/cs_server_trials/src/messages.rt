@@ -2,7 +2,7 @@
 ghost use Rattle.std.specs.Prelude.{◌≡◌, ◌+◌, ◌<◌, ◌≤◌, OnOk, false};
 ghost use Rattle.cs_laws.specs.Carried.{is_for_client};
 ghost use Rattle.cs_mds.specs.Served.{LogHolds};
-ghost use Rattle.cs_mds.specs.Views.{IsWhole};
+ghost use Rattle.cs_mds.specs.Whole.{IsWhole};
 
 use crate::numbers::{ino, tid};
 use cs_bits::Caps;
@@ -27,19 +27,20 @@ pub fn delivered(
     log: &mut MemLog,
     made: u64,
     message: &Message,
+    last: bool,
     out: &mut MessageList,
 ) -> Result<Answer, Fail>
     requires kind { is_for_client message.now ≡ false }
     requires whole { IsWhole mds.old }
     requires few { mds.old.names.made ≤ made }
-    requires room { made < 1000 }
+    requires room { made < 20000 }
     requires log { LogHolds log.old.records log.old.durable mds.old }
     ensures whole { OnOk result (IsWhole mds.new) }
     ensures few { OnOk result (mds.new.names.made ≤ made + 1) }
     ensures log { OnOk result (LogHolds log.new.records log.new.durable mds.new) }
 {
     assert!(rt; message.fits());
-    Ok(mds.step_message(message, log, out)?)
+    Ok(mds.step_message(message, last, log, out)?)
 }
 
 // The answer of a server that knows the root alone.
@@ -49,7 +50,7 @@ fn first_answer(rt: &impl Abort, alloc: Global, message: &Message) -> Result<Ans
     let mut log = MemLog::new(alloc);
     let mut out = MessageList::new(alloc);
     let mut mds = Mds::new(alloc)?;
-    delivered(rt, &mut mds, &mut log, 0, message, &mut out)
+    delivered(rt, &mut mds, &mut log, 0, message, false, &mut out)
 }
 
 #[test]
@@ -87,7 +88,7 @@ fn flushed(
 ) -> Result<Answer, Fail>
     requires whole { IsWhole mds.old }
     requires few { mds.old.names.made ≤ made }
-    requires room { made < 1000 }
+    requires room { made < 20000 }
     requires log { LogHolds log.old.records log.old.durable mds.old }
     ensures whole { OnOk result (IsWhole mds.new) }
     ensures few { OnOk result (mds.new.names.made ≤ made + 1) }
@@ -99,7 +100,7 @@ fn flushed(
         follows: Seq::zero(),
         meta: META,
     };
-    delivered(rt, mds, log, made, &message, out)
+    delivered(rt, mds, log, made, &message, false, out)
 }
 
 // The answer to a commit.

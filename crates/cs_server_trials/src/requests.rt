@@ -1,7 +1,7 @@
 // Requests of the client, and what they leave of names, leases and snapshots.
 ghost use Rattle.std.specs.Prelude.{◌≡◌, ◌+◌, ◌≤◌, ◌<◌, OnOk};
 ghost use Rattle.cs_mds.specs.Served.{LogHolds};
-ghost use Rattle.cs_mds.specs.Views.{IsWhole};
+ghost use Rattle.cs_mds.specs.Whole.{IsWhole};
 
 use crate::messages::{committed, delivered};
 use crate::numbers::{ino, snap, tid};
@@ -14,7 +14,7 @@ use std::process::Abort;
 use std::test::Fail;
 
 // The answer to a request, before which requests made at most so many inodes.
-fn requested(
+pub fn requested(
     rt: &impl Abort,
     mds: &mut Mds,
     log: &mut MemLog,
@@ -25,7 +25,7 @@ fn requested(
 ) -> Result<Answer, Fail>
     requires whole { IsWhole mds.old }
     requires few { mds.old.names.made ≤ made }
-    requires room { made < 1000 }
+    requires room { made < 20000 }
     requires log { LogHolds log.old.records log.old.durable mds.old }
     ensures whole { OnOk result (IsWhole mds.new) }
     ensures few { OnOk result (mds.new.names.made ≤ made + 1) }
@@ -36,11 +36,11 @@ fn requested(
         ino: None,
         op,
     };
-    delivered(rt, mds, log, made, &message, out)
+    delivered(rt, mds, log, made, &message, false, out)
 }
 
 // A request is done, and answered so.
-fn ask(
+pub fn ask(
     rt: &impl Abort,
     mds: &mut Mds,
     log: &mut MemLog,
@@ -52,7 +52,7 @@ fn ask(
 ) -> Result<(), Fail>
     requires whole { IsWhole mds.old }
     requires few { mds.old.names.made ≤ made }
-    requires room { made < 1000 }
+    requires room { made < 20000 }
     requires log { LogHolds log.old.records log.old.durable mds.old }
     ensures whole { OnOk result (IsWhole mds.new) }
     ensures few { OnOk result (mds.new.names.made ≤ made + 1) }
@@ -221,7 +221,7 @@ fn take_directory_out(
 }
 
 // How many names a directory has, if it stands.
-fn count_names(mds: &Mds, dir: u64) -> Result<Option<usize>, Fail> {
+pub fn count_names(mds: &Mds, dir: u64) -> Result<Option<usize>, Fail> {
     Ok(match mds.names(ino(dir)?)? {
         Answer::Names(list) => Some(list.len()),
         _ => None,
@@ -229,7 +229,7 @@ fn count_names(mds: &Mds, dir: u64) -> Result<Option<usize>, Fail> {
 }
 
 // Whether a snapshot of a directory is taken.
-fn is_snapped(
+pub fn is_snapped(
     rt: &impl Abort,
     alloc: Global,
     mds: &mut Mds,
@@ -246,7 +246,7 @@ fn is_snapped(
     let dir = ino(dir)?;
     let name = name(rt, alloc, word)?;
     assert!(rt; mds.has_room());
-    let answer = mds.snap(dir, &name, log)?;
+    let answer = mds.snap(dir, &name, true, log)?;
     Ok(matches!(answer, Answer::Snap { .. }))
 }
 
@@ -293,7 +293,7 @@ fn unleased(
     let dir = ino(dir)?;
     let name = name(rt, alloc, b"a")?;
     let mds = Mds::new(alloc)?;
-    Ok(mds.unlease(dir, &name, out)?)
+    Ok(mds.unlease(dir, &name, true, out)?)
 }
 
 #[test]
@@ -325,7 +325,7 @@ fn ask_again(
 ) -> Result<(), Fail>
     requires whole { IsWhole mds.old }
     requires few { mds.old.names.made ≤ made }
-    requires room { made < 1000 }
+    requires room { made < 20000 }
     requires log { LogHolds log.old.records log.old.durable mds.old }
     ensures whole { OnOk result (IsWhole mds.new) }
     ensures few { OnOk result (mds.new.names.made ≤ made + 1) }
@@ -345,7 +345,7 @@ fn ask_again(
     Ok(())
 }
 
-fn make_durable(
+pub fn make_durable(
     rt: &impl Abort,
     mds: &mut Mds,
     log: &mut MemLog,

@@ -19,7 +19,7 @@ fn taken(rt: &impl Abort, alloc: Global, mds: &mut Mds, log: &mut MemLog) -> Res
     let name = Name::from_slice(alloc, b"monday")?;
     let root = ino(1)?;
     assert!(rt; mds.has_room());
-    Ok(mds.snap(root, &name, log)?)
+    Ok(mds.snap(root, &name, true, log)?)
 }
 
 // The answer to a removal of the first snapshot.
@@ -28,7 +28,7 @@ fn removed(rt: &impl Abort, mds: &mut Mds, log: &mut MemLog) -> Result<Answer, F
 {
     let first = snap(1)?;
     assert!(rt; mds.has_room());
-    Ok(mds.remove_snap(first, log)?)
+    Ok(mds.remove_snap(first, true, log)?)
 }
 
 // The answers to both.

@@ -37,7 +37,7 @@ use Rattle.cs_laws.specs.Namespace.{answer_on}
 use Rattle.cs_laws.specs.ServerKnows.{server_dirs, server_path}
 
 -- an acknowledgement of a flush is of one among these records
-abbrev AckStands : List Record → Message → Type 0
+abbrev pub AckStands : List Record → Message → Type 0
 AckStands rs (messages.FlushAck f tid) = Member tid (tids f rs)
 AckStands rs _ = Unit {0}
 

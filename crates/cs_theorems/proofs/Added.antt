@@ -1,6 +1,6 @@
 -- What an event adds to the standing records, and what follows of what the server knows. Setup lines stand before all records, and no other
 -- event changes what they made.
-use Rattle.std.proofs.Common.{◌≡◌, refl, sym, ap, ◌∙◌, ℕ, ◌||◌, Bool, true, false, List, [], ◌∷◌, ◌++◌, append_assoc, take, Some}
+use Rattle.std.proofs.Common.{◌≡◌, refl, sym, ap, ◌∙◌, ℕ, Bool, true, false, List, [], ◌∷◌, ◌++◌, append_assoc, take}
 use Rattle.std.proofs.lemmas.Bool.{true≢false}
 use Rattle.std.proofs.lemmas.List.{append-nil}
 use Rattle.cs_laws.specs.declared.events.Event.{Event}
@@ -9,13 +9,11 @@ use Rattle.cs_laws.specs.declared.answers.Answer.{Answer}
 use Rattle.cs_laws.specs.declared.answers.Answer.TheVariants as a
 use Rattle.cs_laws.specs.declared.answers.Entry.{Entry}
 use Rattle.cs_laws.specs.declared.messages.Message.{Message}
-use Rattle.cs_laws.specs.declared.messages.Message.TheVariants as messages
 use Rattle.cs_laws.specs.declared.records.Record.{Record}
-use Rattle.cs_laws.specs.declared.records.RecordBody.{RecordBody}
 use Rattle.cs_laws.specs.declared.records.RecordBody.TheVariants as bodies
 use Rattle.cs_laws.specs.Events.{files, is_setup, setup_file}
 use Rattle.cs_laws.specs.History.{durable, fresh, stand, to_server}
-use Rattle.cs_laws.specs.Made.{Made, made_by, made_in, made_of}
+use Rattle.cs_laws.specs.Made.{made_in, made_of}
 use Rattle.cs_laws.specs.Names.{after_record, names, names_after, setup_names}
 use Rattle.cs_laws.specs.Namespace.{Names}
 use Rattle.cs_laws.specs.Standing.{recorded, requested}

@@ -55,10 +55,9 @@ use Rattle.cs_theorems.proofs.Standing.{recorded_one}
 use Rattle.cs_theorems.proofs.Tests.{any_some, any_true, member_end}
 use Rattle.cs_laws.specs.declared.answers.Answer.TheVariants as a
 use Rattle.cs_theorems.specs.Phases.{PhaseAt}
-use Rattle.cs_theorems.proofs.Phase.{run_phase, all_realms, call}
+use Rattle.cs_theorems.proofs.Phase.{run_phase, all_realms, call, resumption_now}
 use Rattle.cs_theorems.proofs.Sessions.{whole_by_client, active_too, broken_silent, live_whole, active_live, settled}
 use Rattle.cs_laws.specs.Reports.{reports, capped, realm_seqs, unretired}
-
 
 -- Answers on their way
 
@@ -244,7 +243,7 @@ no_missing (m ∷ ms) is = absurd cc
 pub all_stand : {xs st : List Asked} → Sending true xs st [] → st ≡ xs
 all_stand {xs = xs} {st = st} i =
     let none : i.missing ≡ [] = no_missing i.missing
-        (i.numbers.rest refl ∙ cancel (asked_tids st) i.numbers.missing (asked_tids i.missing) (sym i.numbers.front ∙ (ap asked_tids i.front ∙ tids_append st i.missing))) in
+    (i.numbers.rest refl ∙ cancel (asked_tids st) i.numbers.missing (asked_tids i.missing) (sym i.numbers.front ∙ (ap asked_tids i.front ∙ tids_append st i.missing))) in
     sym (i.front ∙ (ap (λ l. st ++ l) none ∙ append-nil st))
 
 pub reply_there : (r : Reply) (rs : List Reply) → has_reply r.tid (rs ++ r ∷ []) ≡ true
@@ -452,9 +451,10 @@ step_client h x (first_snap number realm now q is) phase alike settles stands to
 step_client h x (first_unsafe tid o ttl q is) phase alike settles stands told i =
     let whole : is_whole h ≡ true = whole_by_client h (messages.Unsafe tid o ttl) q is phase in
     let first : Telling true (is_active (server_state h)) (asked h) (asked_of (stand h)) (replies h) (client_made h) (messages.Unsafe tid o ttl ∷ q)
-        (to_server h)
-    = subst (λ b. Telling b (is_active (server_state h)) (asked h) (asked_of (stand h)) (replies h) (client_made h) (messages.Unsafe tid o ttl ∷ q) (to_server h))
-        whole (subst (λ r. On h r (to_server h)) is i) in
+    (to_server h)
+    =
+    subst (λ b. Telling b (is_active (server_state h)) (asked h) (asked_of (stand h)) (replies h) (client_made h) (messages.Unsafe tid o ttl ∷ q) (to_server h))
+    whole (subst (λ r. On h r (to_server h)) is i) in
     subst
     (λ r. Telling (is_whole h) (is_active (server_state h)) (asked h) (asked_of (stand h))
     (replies h ++ record { tid = tid; answer = o } ∷ [])
@@ -498,11 +498,7 @@ active_all h x phase now stands active =
     (subst (λ b. Sending b (asked g) (asked_of (stand g)) (to_server g)) (live_whole g (active_live (server_state g) active) now) stands))))
     (settled (client_state g) (server_state g) (to_client g) (to_server g) active now)
 
--- what the server tells with the last of what is sent again
-abbrev pub Goes : List Entry → List Message
-Goes h = resumption (is_last (server_state h)) (all_realms h)
-
-pub none_goes : (h : List Entry) → unsafe_tids (Goes h) ≡ []
+pub none_goes : (h : List Entry) → unsafe_tids (resumption_now h) ≡ []
 none_goes h = no_unsafe_resumption (is_last (server_state h)) (all_realms h)
 
 step_server : (h : List Entry) (x : Answer) → ReceivedIs h x
@@ -522,15 +518,15 @@ step_server h x (received_flush y q is first) all i =
     (telling_stand _
     (stand_same (durable h) (fresh h) (flush_record y) refl
     ∙ sym (ap (λ p. asked_of (durable h ++ (fresh h ++ p))) (ap recorded is ∙ recorded_one y)))
-    (telling_moved (to_client h ++ Goes h) (drop 1 (to_server h)) (moved_more (to_client h) (Goes h) (req_tids (drop 1 (to_server h))) (none_goes h))
+    (telling_moved (to_client h ++ resumption_now h) (drop 1 (to_server h)) (moved_more (to_client h) (resumption_now h) (req_tids (drop 1 (to_server h))) (none_goes h))
     (server_taken h (flush_message y) q (flush_no_req y) is i)))
 step_server h x (received_again y q is again) all i =
-    let acks : List Message = acked_again y.file y.tid (durable h) ++ Goes h in
+    let acks : List Message = acked_again y.file y.tid (durable h) ++ resumption_now h in
     telling_active _ all
     (telling_moved (to_client h ++ acks) (drop 1 (to_server h))
     (moved_more (to_client h) acks (req_tids (drop 1 (to_server h)))
     (no_unsafe acks
-    (each_append (λ m. unsafe_on m ≡ None) (acked_again y.file y.tid (durable h)) (Goes h)
+    (each_append (λ m. unsafe_on m ≡ None) (acked_again y.file y.tid (durable h)) (resumption_now h)
     (each_again (λ m. unsafe_on m ≡ None) y.file y.tid (durable h) (λ _. refl))
     (each_resumption (λ m. unsafe_on m ≡ None) (is_last (server_state h)) (all_realms h) refl))))
     (server_taken h (flush_message y) q (flush_no_req y) is i))
@@ -542,12 +538,12 @@ step_server h x (received_req tid ino op q is first) all i =
     (sym (stand_end (durable h) (fresh h) (record { body = bodies.Request tid op o }))
     ∙ ap (λ p. asked_of (durable h ++ (fresh h ++ requested o p))) (sym is))
     (telling_more (record { tid = tid; op = op; answer = o } ∷ [])
-    (server_answered h tid ino op q (m ∷ Goes h) (ap (λ ts. tid ∷ ts) (none_goes h)) is i)))
+    (server_answered h tid ino op q (m ∷ resumption_now h) (ap (λ ts. tid ∷ ts) (none_goes h)) is i)))
 step_server h x (received_req_again tid ino op q is again) all i =
     let o : OpAnswer = unwrap_or (answer_kept tid (stand h)) replies_of.Missing in
     telling_active _ all
-    (server_answered h tid ino op q (answered_again tid o (durable h) ++ Goes h)
-    (unsafe_append (answered_again tid o (durable h)) (Goes h)
+    (server_answered h tid ino op q (answered_again tid o (durable h) ++ resumption_now h)
+    (unsafe_append (answered_again tid o (durable h)) (resumption_now h)
     ∙ (ap (λ ts. unsafe_tids (answered_again tid o (durable h)) ++ ts) (none_goes h)
     ∙ (append-nil (unsafe_tids (answered_again tid o (durable h))) ∙ one_answer tid o (durable h)))) is i)
 
@@ -727,8 +723,9 @@ pub next_answer : (p : ℕ) (h : List Entry) → IsRun p h → (t : ℕ) (o : Op
 next_answer p h run t o ttl q is new =
     let stands = asked_stands p h run in
     let i : Telling true (is_active (server_state h)) (asked h) (asked_of (stand h)) (replies h) (client_made h) (messages.Unsafe t o ttl ∷ q) (to_server h)
-    = subst (λ b. Telling b (is_active (server_state h)) (asked h) (asked_of (stand h)) (replies h) (client_made h) (messages.Unsafe t o ttl ∷ q) (to_server h))
-        (whole_by_client h (messages.Unsafe t o ttl) q is (run_phase p h run)) (subst (λ r. On h r (to_server h)) is (asked_answered p h run)) in
+    =
+    subst (λ b. Telling b (is_active (server_state h)) (asked h) (asked_of (stand h)) (replies h) (client_made h) (messages.Unsafe t o ttl ∷ q) (to_server h))
+    (whole_by_client h (messages.Unsafe t o ttl) q is (run_phase p h run)) (subst (λ r. On h r (to_server h)) is (asked_answered p h run)) in
     let told : IsTold (asked_of (stand h)) [] (messages.Unsafe t o ttl)
     = all_told p h run (messages.Unsafe t o ttl) (subst (λ r. Member (messages.Unsafe t o ttl) r) (sym is) (inl refl)) in
     record {

@@ -3,7 +3,7 @@
 use Rattle.std.proofs.Common.{◌≡◌, refl, sym, ap, ◌∙◌, subst, ℕ, ◌+◌, ◌<◌, ◌≤◌, ◌==◌, max, ◌&&◌, Bool, true, false, cond, List, [], ◌∷◌, ◌++◌, Option, Some, None, map, length, take, drop, append_assoc, arith, inl, inr}
 use Rattle.std.specs.Prelude.{not}
 use Rattle.std.specs.List.{cons_option, filter, filter_map}
-use Rattle.std.proofs.lemmas.Bool.{cond_both, cond-false, cond-true, eq-eqb, false_from_ne_true, ltb-false, ltb-true, ne_eqb}
+use Rattle.std.proofs.lemmas.Bool.{cond_both, cond-false, cond-true, eq-eqb, false_from_ne_true, ltb-false, ltb-true, ne_eqb, and_from}
 use Rattle.std.proofs.lemmas.List.{append-nil, map-append, take-append-drop}
 use Rattle.std.proofs.lemmas.List.Elements.{filter_map-append}
 use Rattle.cs_laws.specs.declared.events.Event.{Event}
@@ -21,7 +21,7 @@ use Rattle.cs_laws.specs.declared.answers.Answer.TheVariants as a
 use Rattle.cs_laws.specs.declared.reports.CapReport.{CapReport}
 use Rattle.cs_laws.specs.declared.reports.RealmSeq.{RealmSeq}
 use Rattle.cs_laws.specs.Flushes.{Flush, acked, flush_message, flush_record}
-use Rattle.cs_laws.specs.History.{client, durable, fresh, realms, sent, stand, to_client, to_server}
+use Rattle.cs_laws.specs.History.{client, durable, fresh, realms, sent, stand, to_server}
 use Rattle.cs_laws.specs.Journal.{entry}
 use Rattle.cs_laws.specs.Laws.{request_tids, request_tids_of}
 use Rattle.cs_laws.specs.Lists.{RisesFrom}
@@ -405,7 +405,8 @@ flushes_asked zs [] = each_nil (λ m. IsAsked zs m)
 flushes_asked zs (x ∷ xs) = each_cons (λ m. IsAsked zs m) (flush_message x) (map flush_message xs) (flush_asked zs x) (flushes_asked zs xs)
 
 -- what a report and these requests and flushes behind it have of requests
-pub call_tids : (caps : List CapReport) (known : List RealmSeq) (rs : List Reply) (due : ℕ → Bool) (us : List Request) (xs : List Asked) (fs : List Flush)
+pub call_tids : (caps : List CapReport) (known : List RealmSeq) (rs : List Reply) (due : ℕ → Bool) (us : List Request) (xs : List Asked)
+    (fs : List Flush)
     → Alike us xs
     → req_tids (calling caps known (map (request_again rs) (filter (λ x. due x.tid) us) ++ map flush_message fs)) ≡ filter due (asked_tids xs)
 call_tids caps known rs due us xs fs alike =
@@ -570,10 +571,6 @@ step_client h x (first_snap number realm now q is) phase i = i
 step_client h x (first_resumed now q is) phase i =
     subst (λ b. Sending b (asked h) (asked_of (stand h)) (to_server h)) (whole_by_client h (messages.Resumed now) q is phase) i
 
-both_true : (b c : Bool) → b ≡ true → c ≡ true → (b && c) ≡ true
-both_true true c is also = also
-both_true false c is also = absurd cc
-
 -- a request whose number is above all that stand is open
 pub due_open : (h : List Entry) → AskedAlike h → SavedAreDurable h → RisesFrom 0 (asked_tids (asked_of (stand h)))
     → Each (λ t. last_asked (asked_of (stand h)) < t → is_open h t ≡ true) (asked_tids (asked h))
@@ -581,12 +578,12 @@ due_open h alike saved up t there more =
     let k = tid_member t (asked h) there in
     let was : has_request t (requests h) ≡ true = subst (λ n. has_request n (requests h) ≡ true) k.2 (was_sent (requests h) (asked h) k.0 alike k.1) in
     let open_still : is_closed h t ≡ false = false_from_ne_true (is_closed h t) (λ is.
-        let durable_one = saved t (closed_is_saved h t is) in
-        let stands : Member t (asked_tids (asked_of (stand h)))
-        = subst (λ ts. Member t ts) (sym (ap asked_tids (asked_append (durable h) (fresh h)) ∙ tids_append (asked_of (durable h)) (asked_of (fresh h))))
-        (member_left t (asked_tids (asked_of (durable h))) (asked_tids (asked_of (fresh h))) durable_one) in
-        omega (arith, more, member_upto (λ n. n) 0 t (asked_tids (asked_of (stand h))) (subst (λ ts. RisesFrom 0 ts) (sym (map_same (asked_tids (asked_of (stand h))))) up) stands)) in
-    both_true (has_request t (requests h)) (not (is_closed h t)) was (ap not open_still)
+    let durable_one = saved t (closed_is_saved h t is) in
+    let stands : Member t (asked_tids (asked_of (stand h)))
+    = subst (λ ts. Member t ts) (sym (ap asked_tids (asked_append (durable h) (fresh h)) ∙ tids_append (asked_of (durable h)) (asked_of (fresh h))))
+    (member_left t (asked_tids (asked_of (durable h))) (asked_tids (asked_of (fresh h))) durable_one) in
+    omega (arith, more, member_upto (λ n. n) 0 t (asked_tids (asked_of (stand h))) (subst (λ ts. RisesFrom 0 ts) (sym (map_same (asked_tids (asked_of (stand h))))) up) stands)) in
+    and_from (has_request t (requests h)) (not (is_closed h t)) was (ap not open_still)
 
 step_reconnect : (h : List Entry) (x : Answer) → ReconnectIs h x → PhaseAt h → AskedAlike h → SavedAreDurable h → AskedStands h
     → AskedStands (record { event = e.Reconnect; answer = x } ∷ h)

@@ -28,7 +28,7 @@ use Rattle.cs_laws.specs.Lists.{RisesFrom}
 use Rattle.cs_laws.specs.Names.{names}
 use Rattle.cs_laws.specs.Namespace.{answer_on}
 use Rattle.cs_laws.specs.Realms.{differing, realm_records}
-use Rattle.cs_laws.specs.Requests.{Request, is_saved}
+use Rattle.cs_laws.specs.Requests.{is_saved}
 use Rattle.cs_laws.specs.Runs.{IsRun}
 use Rattle.cs_laws.specs.ServerKnows.{server_dirs, server_path}
 use Rattle.cs_laws.specs.Standing.{answer_kept, greatest_request, has_request, is_request, news, news_of, news_on, recorded, requested, resumption}
@@ -41,7 +41,7 @@ use Rattle.cs_theorems.proofs.News.{each_again, each_resumption}
 use Rattle.cs_theorems.proofs.Runs.{of_run}
 use Rattle.cs_theorems.proofs.Standing.{recorded_one}
 use Rattle.cs_theorems.proofs.Tests.{member_end}
-use Rattle.cs_theorems.proofs.Phase.{run_phase, all_realms}
+use Rattle.cs_theorems.proofs.Phase.{run_phase, all_realms, resumption_now}
 use Rattle.cs_laws.specs.Sessions.{server_state, is_broken, is_last}
 use Rattle.cs_theorems.proofs.AsksRun.{asked_alike, asked_settles}
 
@@ -176,36 +176,34 @@ told_request h x r more i =
     (λ y old. member_left y (asked_of (stand h)) (x ∷ []) old) (λ t old. old) m (i m there))
     (each_cons P (unsafe_message (server_state h) x.tid x.answer) r (x.op, member_end x (asked_of (stand h))) more)
 
--- what the server tells with the last of what is sent again
-abbrev Goes : List Entry → List Message
-Goes h = resumption (is_last (server_state h)) (all_realms h)
-
 told_server : (h : List Entry) (x : Answer) → ReceivedIs h x → AskedStands h → AllTold h
     → AllTold (record { event = e.ToMds; answer = x } ∷ h)
 told_server h x received_idle stands i = i
 told_server h x (received_ack g seq bits q is) stands i = i
 told_server h x (received_reconnect caps known resends q is) stands i =
-    each_append (λ m. Told h m) (to_client h) (resumption (resends == 0) (all_realms h)) i (each_resumption (λ m. Told h m) (resends == 0) (all_realms h) tt)
+    each_append (λ m. Told h m) (to_client h) (resumption (resends == 0) (all_realms h)) i
+    (each_resumption (λ m. Told h m) (resends == 0) (all_realms h) tt)
 told_server h x (received_flush y q is first) stands i =
-    subst (λ p. Each (λ m. IsTold (asked_of (durable h ++ (fresh h ++ recorded p))) (asked_of (durable h)) m) (to_client h ++ Goes h)) (sym is)
-    (subst (λ rs. Each (λ m. IsTold (asked_of (durable h ++ (fresh h ++ rs))) (asked_of (durable h)) m) (to_client h ++ Goes h))
+    subst (λ p. Each (λ m. IsTold (asked_of (durable h ++ (fresh h ++ recorded p))) (asked_of (durable h)) m) (to_client h ++ resumption_now h))
+    (sym is)
+    (subst (λ rs. Each (λ m. IsTold (asked_of (durable h ++ (fresh h ++ rs))) (asked_of (durable h)) m) (to_client h ++ resumption_now h))
     (sym (recorded_one y))
-    (each_append (λ m. IsTold (asked_of (durable h ++ (fresh h ++ flush_record y ∷ []))) (asked_of (durable h)) m) (to_client h) (Goes h)
+    (each_append (λ m. IsTold (asked_of (durable h ++ (fresh h ++ flush_record y ∷ []))) (asked_of (durable h)) m) (to_client h) (resumption_now h)
     (told_record h (flush_record y) refl i)
     (each_resumption (λ m. IsTold (asked_of (durable h ++ (fresh h ++ flush_record y ∷ []))) (asked_of (durable h)) m) (is_last (server_state h)) (all_realms h) tt)))
 told_server h x (received_again y q is again) stands i =
-    each_append (λ m. Told h m) (to_client h) (acked_again y.file y.tid (durable h) ++ Goes h) i
-    (each_append (λ m. Told h m) (acked_again y.file y.tid (durable h)) (Goes h)
+    each_append (λ m. Told h m) (to_client h) (acked_again y.file y.tid (durable h) ++ resumption_now h) i
+    (each_append (λ m. Told h m) (acked_again y.file y.tid (durable h)) (resumption_now h)
     (each_again (λ m. Told h m) y.file y.tid (durable h) (λ _. tt))
     (each_resumption (λ m. Told h m) (is_last (server_state h)) (all_realms h) tt))
 told_server h x (received_req tid ino op q is first) stands i =
     let o : OpAnswer = answer_on (names h) op in
     subst
     (λ p. Each (λ m. IsTold (asked_of (durable h ++ (fresh h ++ requested o p))) (asked_of (durable h)) m)
-    (to_client h ++ unsafe_message (server_state h) tid o ∷ Goes h)) (sym is)
-    (subst (λ st. Each (λ m. IsTold st (asked_of (durable h)) m) (to_client h ++ unsafe_message (server_state h) tid o ∷ Goes h))
+    (to_client h ++ unsafe_message (server_state h) tid o ∷ resumption_now h)) (sym is)
+    (subst (λ st. Each (λ m. IsTold st (asked_of (durable h)) m) (to_client h ++ unsafe_message (server_state h) tid o ∷ resumption_now h))
     (sym (stand_end (durable h) (fresh h) (record { body = bodies.Request tid op o })))
-    (told_request h (record { tid = tid; op = op; answer = o }) (Goes h)
+    (told_request h (record { tid = tid; op = op; answer = o }) (resumption_now h)
     (resumption_told (asked_of (stand h) ++ record { tid = tid; op = op; answer = o } ∷ []) (asked_of (durable h)) (is_last (server_state h)) (all_realms h)) i))
 told_server h x (received_req_again tid ino op q is again) stands i =
     let first : Sending (is_whole h) (asked h) (asked_of (stand h)) (messages.Req tid ino op ∷ q)
@@ -213,8 +211,8 @@ told_server h x (received_req_again tid ino op q is again) stands i =
     let low : tid ≤ last_asked (asked_of (stand h))
     = omega (arith, ltb-false (greatest_request (stand h)) tid again, greatest_stands (stand h) first) in
     each_append (λ m. Told h m) (to_client h)
-    (answered_again tid (unwrap_or (answer_kept tid (stand h)) replies_of.Missing) (durable h) ++ Goes h) i
-    (each_append (λ m. Told h m) (answered_again tid (unwrap_or (answer_kept tid (stand h)) replies_of.Missing) (durable h)) (Goes h)
+    (answered_again tid (unwrap_or (answer_kept tid (stand h)) replies_of.Missing) (durable h) ++ resumption_now h) i
+    (each_append (λ m. Told h m) (answered_again tid (unwrap_or (answer_kept tid (stand h)) replies_of.Missing) (durable h)) (resumption_now h)
     (each_answered (λ m. Told h m) tid (unwrap_or (answer_kept tid (stand h)) replies_of.Missing) (durable h)
     (again_right (stand h) tid (stands_rise stands) (again_stands tid ino op low first))
     (λ there. request_member tid (durable h) there))

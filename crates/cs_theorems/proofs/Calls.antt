@@ -1,6 +1,6 @@
 -- While the client reconnects and the server's session is broken, the report of what the client has is on its way, with what is sent again, as
 -- it would be sent now; and no capabilities were told or acknowledged since.
-use Rattle.std.proofs.Common.{◌≡◌, refl, sym, ap, ◌∙◌, subst, ℕ, ◌==◌, Bool, true, false, cond, List, [], ◌∷◌, ◌++◌, Option, Some, None, map, nat_lt, ◌-◌, inl, inr, ⊎_elim, ◌⊎◌}
+use Rattle.std.proofs.Common.{◌≡◌, refl, sym, ap, ◌∙◌, subst, ℕ, ◌==◌, Bool, true, false, cond, List, [], ◌∷◌, ◌++◌, Some, nat_lt, ◌-◌, inl, inr, ⊎_elim, ◌⊎◌}
 use Rattle.std.specs.Prelude.{find}
 use Rattle.std.proofs.lemmas.Bool.{both_ways, cond_both, eq-eqb, eqb-true}
 use Rattle.cs_bits.specs.declared.Caps.{Caps}
@@ -13,8 +13,6 @@ use Rattle.cs_laws.specs.declared.answers.Answer.{Answer}
 use Rattle.cs_laws.specs.declared.answers.Answer.TheVariants as a
 use Rattle.cs_laws.specs.declared.answers.Entry.{Entry}
 use Rattle.cs_laws.specs.declared.messages.Message.{Message}
-use Rattle.cs_laws.specs.declared.messages.Message.TheVariants as messages
-use Rattle.cs_laws.specs.declared.reports.CapReport.{CapReport}
 use Rattle.cs_laws.specs.declared.requests.ReqOp.{ReqOp}
 use Rattle.cs_laws.specs.declared.sessions.ClientState.{ClientState}
 use Rattle.cs_laws.specs.declared.sessions.ClientState.TheVariants as clients
@@ -25,11 +23,11 @@ use Rattle.cs_laws.specs.History.{client, to_client, to_server}
 use Rattle.cs_laws.specs.Journal.{entry}
 use Rattle.cs_laws.specs.Reports.{capped, caps_reported, report_of, reported, reports, with_number}
 use Rattle.cs_laws.specs.Runs.{IsRun}
-use Rattle.cs_laws.specs.Sessions.{client_state, is_active, is_broken, is_client_active, is_client_broken, replaying, resent, server_state}
+use Rattle.cs_laws.specs.Sessions.{client_state, is_broken, is_client_active, resent, server_state}
 use Rattle.cs_theorems.specs.Phases.{IsWork, PhaseAt}
 use Rattle.cs_theorems.proofs.Inversions.{FlushIs, head_unknown, head_session, head_snap, head_clean, head_sent, flush_is, CheckIs, check_unknown, check_session, check_nothing, check_hold, check_ack, check_is, FlushSnapsIs, flush_unknown, flush_session, flush_none, flush_writing, flush_sent, flush_snaps_is, FirstIs, first_idle, first_cap, first_flush_ack, first_resumed, first_unsafe, first_safe, first_unlease, first_snap, first_is, ReceivedIs, received_idle, received_ack, received_flush, received_again, received_reconnect, received_req, received_req_again, received_is, ReqIs, req_session, req_sent, req_is, ReconnectIs, unbroken, reconnected, reconnect_is}
-use Rattle.cs_theorems.proofs.Listed.{Each, Member}
-use Rattle.cs_theorems.proofs.Phase.{call, resend_flush, run_phase}
+use Rattle.cs_theorems.proofs.Listed.{Member}
+use Rattle.cs_theorems.proofs.Phase.{call, run_phase}
 use Rattle.cs_theorems.proofs.Runs.{of_run}
 use Rattle.cs_theorems.proofs.Sessions.{broken_silent, broken_unheard, live_by_server}
 
@@ -39,12 +37,12 @@ not_active clients.Active is active = absurd cc
 not_active clients.Reconnecting is active = absurd cc
 not_active clients.Broken is active = absurd cc
 
-pub record Called (h : List Entry) : Type 0 where
+pub record Reporting (h : List Entry) : Type 0 where
   pub is : to_server h ≡ call h
   pub seq : (f : ℕ) → (client h f).seq ≡ 0
 
 abbrev pub CallsNow : List Entry → Type 0
-CallsNow h = client_state h ≡ clients.Reconnecting → server_state h ≡ servers.Broken → Called h
+CallsNow h = client_state h ≡ clients.Reconnecting → server_state h ≡ servers.Broken → Reporting h
 
 step_check : (h : List Entry) (f : ℕ) (x : Answer) → CheckIs h f x → CallsNow h → CallsNow (record { event = e.Check f; answer = x } ∷ h)
 step_check h f x check_unknown i = λ c s. record { is = (i c s).is; seq = (i c s).seq }
@@ -89,22 +87,15 @@ step_client h x (first_unlease d name q is) phase i = λ c s. absurd (unheard h 
 step_client h x (first_snap number realm now q is) phase i = λ c s. absurd (unheard h _ q is s phase)
 step_client h x (first_resumed now q is) phase i = λ c s. absurd cc
 
+replaying_here : (b : Bool) (n : ℕ) → cond b servers.Active (servers.Replaying n) ≡ servers.Broken → ⊥
+replaying_here true n is = absurd cc
+replaying_here false n is = absurd cc
+
 -- what isn't a report is first only where the server's session isn't broken
 resent_broken : (s : ServerState) → resent s ≡ servers.Broken → is_broken s ≡ true
 resent_broken servers.Broken is = refl
 resent_broken servers.Active is = absurd cc
-resent_broken (servers.Replaying left) is = absurd (replaying_on (left - 1) is)
-  where
-    replaying_at : (b : Bool) (n : ℕ) → cond b servers.Active (servers.Replaying n) ≡ servers.Broken → ⊥
-    replaying_at true n is = absurd cc
-    replaying_at false n is = absurd cc
-
-    replaying_on : (n : ℕ) → replaying n ≡ servers.Broken → ⊥
-    replaying_on n is = replaying_at (n == 0) n is
-
-replaying_here : (b : Bool) (n : ℕ) → cond b servers.Active (servers.Replaying n) ≡ servers.Broken → ⊥
-replaying_here true n is = absurd cc
-replaying_here false n is = absurd cc
+resent_broken (servers.Replaying left) is = absurd (replaying_here ((left - 1) == 0) (left - 1) is)
 
 flush_works : (y : Flush) → IsWork (flush_message y)
 flush_works y = cond_both y.snap _ _ (λ m. IsWork m) (λ _. tt) (λ _. tt)
@@ -232,5 +223,6 @@ taken_is caps (g ∷ fs) f = at (g == f) refl (taken_is caps fs f)
     at : (b : Bool) → (g == f) ≡ b → TakenIs caps fs f (caps_reported (reports caps fs) f)
         → TakenIs caps (g ∷ fs) f (reported (cond b (Some (report_of g (caps g))) (find (λ r. r.ino == f) (reports caps fs))))
     at true same rest =
-        subst (λ k. TakenIs caps (k ∷ fs) f (adopted (caps k).issued (caps k).implemented (caps k).max)) (sym (eqb-true g f same)) (taken_report (inl refl))
+        subst (λ k. TakenIs caps (k ∷ fs) f (adopted (caps k).issued (caps k).implemented (caps k).max)) (sym (eqb-true g f same))
+        (taken_report (inl refl))
     at false other rest = taken_more caps g fs f _ (λ is. both_ways (g == f) other (eq-eqb g f is)) rest

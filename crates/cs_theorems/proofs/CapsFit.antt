@@ -1,5 +1,5 @@
 -- Only capabilities that exist are given, issued, reported and on their way, and only ends that a file may have.
-use Rattle.std.proofs.Common.{◌≡◌, refl, ℕ, ◌≤◌, ◌==◌, true, List, [], ◌∷◌, ◌++◌, find, map, max, Some, None, nat_le, inl, arith}
+use Rattle.std.proofs.Common.{◌≡◌, refl, ℕ, ◌≤◌, ◌==◌, true, List, [], ◌∷◌, ◌++◌, find, map, Some, None, nat_le, inl, arith}
 use Rattle.std.proofs.lemmas.Bool.{and_parts, cond_both, leb-true}
 use Rattle.cs_bits.specs.declared.Caps.{Caps}
 use Rattle.cs_bits.specs.Bits as sets

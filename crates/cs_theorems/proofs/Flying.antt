@@ -1,45 +1,22 @@
--- Answers in the order of their requests, and which come twice.
-use Rattle.std.proofs.Common.{◌≡◌, refl, sym, ap, ◌∙◌, subst, ℕ, ◌+◌, ◌<◌, ◌≤◌, ◌==◌, Bool, true, false, List, [], ◌∷◌, ◌++◌, Option, None, map, length, drop, append_assoc, unwrap_or, arith, inl, inr, ⊎_elim}
-use Rattle.std.specs.List.{cons_option}
-use Rattle.std.proofs.lemmas.Bool.{both_ways, eq-eqb, eqb-true, false_from_ne_true, ltb-false, or_cases, or_left, or_right}
-use Rattle.std.proofs.lemmas.List.{append-nil, map-append}
-use Rattle.cs_bits.specs.declared.Caps.{Caps}
-use Rattle.cs_parts.specs.Capabilities.{granted, revoked}
-use Rattle.cs_laws.specs.declared.events.Event.{Event}
-use Rattle.cs_laws.specs.declared.events.Event.TheVariants as e
-use Rattle.cs_laws.specs.declared.answers.Answer.{Answer}
+-- The requests with an answer are the first ones: while one has none, none behind it has any.
+use Rattle.std.proofs.Common.{◌≡◌, refl, sym, ap, ◌∙◌, subst, ℕ, ◌+◌, ◌<◌, ◌==◌, true, false, List, [], ◌∷◌, ◌++◌, map, length, arith, inl, inr, ⊎_elim}
+use Rattle.std.proofs.lemmas.Bool.{both_ways, eqb-true, false_from_ne_true}
 use Rattle.cs_laws.specs.declared.answers.Entry.{Entry}
 use Rattle.cs_laws.specs.declared.messages.Message.{Message}
 use Rattle.cs_laws.specs.declared.messages.Message.TheVariants as messages
-use Rattle.cs_laws.specs.declared.records.Record.{Record}
-use Rattle.cs_laws.specs.declared.records.RecordBody.TheVariants as bodies
 use Rattle.cs_laws.specs.declared.requests.OpAnswer.{OpAnswer}
-use Rattle.cs_laws.specs.declared.requests.OpAnswer.TheVariants as replies_of
-use Rattle.cs_laws.specs.declared.requests.ReqOp.{ReqOp}
-use Rattle.cs_laws.specs.Flight.{acked_again, cap_message, unsafe_message}
-use Rattle.cs_laws.specs.Flushes.{flush_message, flush_record}
-use Rattle.cs_laws.specs.History.{durable, fresh, last_sent, server, stand, to_client, to_server}
-use Rattle.cs_laws.specs.Journal.{entry}
+use Rattle.cs_laws.specs.History.{stand, to_client}
 use Rattle.cs_laws.specs.Lists.{RisesFrom}
-use Rattle.cs_laws.specs.Names.{names, setup_names}
-use Rattle.cs_laws.specs.Namespace.{answer_on}
-use Rattle.cs_laws.specs.Requests.{Reply, has_reply, replies, requests}
+use Rattle.cs_laws.specs.Names.{setup_names}
+use Rattle.cs_laws.specs.Requests.{has_reply, replies, requests}
 use Rattle.cs_laws.specs.Runs.{IsRun}
-use Rattle.cs_laws.specs.ServerKnows.{server_dirs, server_path}
-use Rattle.cs_laws.specs.Standing.{greatest_request, news, recorded, requested}
-use Rattle.cs_theorems.specs.Flushes.{is_whole}
-use Rattle.cs_theorems.specs.Asked.{Asked, asked, asked_of, stage}
-use Rattle.cs_theorems.proofs.Answered.{no_unsafe, no_unsafe_news, unsafe_append, unsafe_on, unsafe_tids, AskedAnswered, asked_answered}
+use Rattle.cs_theorems.specs.Asked.{asked, asked_of}
+use Rattle.cs_theorems.proofs.Answered.{AskedAnswered, asked_answered}
 use Rattle.cs_theorems.proofs.Ascending.{member_upto}
 use Rattle.cs_theorems.proofs.AsksRun.{asked_alike, asked_settles}
-use Rattle.cs_theorems.proofs.AskedStands.{AskedStands, Sending, again_stands, asked_next, asked_tids, flush_no_req, greatest_stands, last_asked, req_append, req_end, req_first, req_on, req_tids, settles_rises, stand_end, stand_same, tids_append, member_tid, tid_member}
-use Rattle.cs_theorems.proofs.Inversions.{FlushIs, head_unknown, head_session, head_snap, head_clean, head_sent, flush_is, CheckIs, check_unknown, check_session, check_nothing, check_hold, check_ack, check_is, FlushSnapsIs, flush_unknown, flush_session, flush_none, flush_writing, flush_sent, flush_snaps_is, FirstIs, first_idle, first_cap, first_flush_ack, first_unsafe, first_resumed, first_safe, first_unlease, first_snap, first_is, GrantIs, grant_unknown, grant_session, grant_sent, grant_is, revoke_is, ReceivedIs, received_idle, received_ack, received_flush, received_again, received_reconnect, received_req, received_req_again, received_is, SnapIs, snap_unknown, snap_session, snap_exists, snap_taken, snap_is, RemoveIs, remove_none, remove_session, remove_gone, removed, remove_is, UnleaseIs, unlease_unknown, unlease_session, unlease_sent, unlease_is}
-use Rattle.cs_theorems.proofs.Listed.{Each, Member, member_cases, member_first, member_left, member_right}
-use Rattle.cs_theorems.proofs.News.{each_again, each_news}
-use Rattle.cs_theorems.proofs.Rising.{at_first}
-use Rattle.cs_theorems.proofs.Runs.{of_run}
-use Rattle.cs_theorems.proofs.Standing.{recorded_one}
-use Rattle.cs_theorems.proofs.Tests.{any_some, any_true}
+use Rattle.cs_theorems.proofs.AskedStands.{asked_next, asked_tids, settles_rises, tids_append, member_tid, tid_member}
+use Rattle.cs_theorems.proofs.Listed.{Member, member_cases, member_first, member_left, member_right}
+use Rattle.cs_theorems.proofs.Tests.{any_some}
 use Rattle.cs_theorems.proofs.AskedTold.{asked_stands, all_told}
 
 -- Numbers that rise

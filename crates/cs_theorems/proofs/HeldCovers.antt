@@ -92,7 +92,8 @@ no_seq_told f before realms (bodies.Flush snap g tid follows meta) = refl
 no_seq_told f before realms (bodies.Snap number d name) = refl
 no_seq_told f before realms (bodies.Removal s number) = refl
 
-no_seqs_told : (f : ℕ) (up : ℕ → List ℕ) (dirs : List ℕ) (ss : List RealmRecord) (before rs : List Record) → cap_seqs f (news up dirs ss before rs) ≡ []
+no_seqs_told : (f : ℕ) (up : ℕ → List ℕ) (dirs : List ℕ) (ss : List RealmRecord) (before rs : List Record)
+    → cap_seqs f (news up dirs ss before rs) ≡ []
 no_seqs_told f up dirs ss before [] = refl
 no_seqs_told f up dirs ss before (r ∷ rs) =
     let now : List RealmRecord = with_records (realms_of (news_on up dirs ss before r)) ss in
@@ -122,12 +123,14 @@ no_seqs_both f q r none also = flat_map-append (λ m. cap_seq f m) q r ∙ (ap (
 -- A report: what it tells of each file
 
 find_report : (f : ℕ) (caps : ℕ → ClientCaps) (fs : List ℕ)
-    → (find (λ r. r.ino == f) (reports caps fs) ≡ Some (report_of f (caps f))) ⊎ ((find (λ r. r.ino == f) (reports caps fs) ≡ None) × (Member f fs → ⊥))
+    → (find (λ r. r.ino == f) (reports caps fs) ≡ Some (report_of f (caps f))) ⊎
+    ((find (λ r. r.ino == f) (reports caps fs) ≡ None) × (Member f fs → ⊥))
 find_report f caps [] = inr (refl, λ m. m)
 find_report f caps (g ∷ gs) = at (g == f) refl (find_report f caps gs)
   where
     at : (b : Bool) → (g == f) ≡ b
-        → (find (λ r. r.ino == f) (reports caps gs) ≡ Some (report_of f (caps f))) ⊎ ((find (λ r. r.ino == f) (reports caps gs) ≡ None) × (Member f gs → ⊥))
+        → (find (λ r. r.ino == f) (reports caps gs) ≡ Some (report_of f (caps f))) ⊎
+        ((find (λ r. r.ino == f) (reports caps gs) ≡ None) × (Member f gs → ⊥))
         → (cond b (Some (report_of g (caps g))) (find (λ r. r.ino == f) (reports caps gs)) ≡ Some (report_of f (caps f)))
         ⊎ ((cond b (Some (report_of g (caps g))) (find (λ r. r.ino == f) (reports caps gs)) ≡ None) × (Member f (g ∷ gs) → ⊥))
     at true is later = inl (ap (λ k. Some (report_of k (caps k))) (eqb-true g f is))
@@ -242,7 +245,8 @@ own_check h g x check_unknown i = i
 own_check h g x check_session i = i
 own_check h g x check_nothing i = i
 own_check h g x (check_hold bits) i = i
-own_check h g x (check_ack active free) i = λ f. owns_ack (g == f) f g (client h f) (client h g) (capped h) refl (λ same. ap (λ k. client h k) same) (i f)
+own_check h g x (check_ack active free) i =
+    λ f. owns_ack (g == f) f g (client h f) (client h g) (capped h) refl (λ same. ap (λ k. client h k) same) (i f)
 
 own_reconnect : (h : List Entry) (x : Answer) → ReconnectIs h x → AllOwn h → AllOwn (record { event = e.Reconnect; answer = x } ∷ h)
 own_reconnect h x unbroken i = i
@@ -290,7 +294,9 @@ step_grant : (h : List Entry) (g : ℕ) (bits : Caps) (end : ℕ) (x : Answer) �
 step_grant h g bits end x grant_unknown i = record { live = i.live; calls = i.calls }
 step_grant h g bits end x grant_session i = record { live = i.live; calls = i.calls }
 step_grant h g bits end x (grant_sent active) i = record {
-  live = λ l f. told_if (g == f) f g (server h f) (granted (server h f) bits end) (granted (server h g) bits end) (client h f) (to_client h) (to_server h) refl
+  live =
+      λ l f. told_if (g == f) f g (server h f) (granted (server h f) bits end) (granted (server h g) bits end) (client h f) (to_client h)
+      (to_server h) refl
       (λ same. ap (λ k. granted (server h k) bits end) same) (moves_granted (server h f) bits end (i.live l f).given) (i.live l f);
   calls = λ c s. absurd (active_unbroken (server_state h) active s);
 }
@@ -300,7 +306,8 @@ step_revoke : (h : List Entry) (g : ℕ) (bits : Caps) (x : Answer) → GrantIs 
 step_revoke h g bits x grant_unknown i = record { live = i.live; calls = i.calls }
 step_revoke h g bits x grant_session i = record { live = i.live; calls = i.calls }
 step_revoke h g bits x (grant_sent active) i = record {
-  live = λ l f. told_if (g == f) f g (server h f) (revoked (server h f) bits) (revoked (server h g) bits) (client h f) (to_client h) (to_server h) refl
+  live =
+      λ l f. told_if (g == f) f g (server h f) (revoked (server h f) bits) (revoked (server h g) bits) (client h f) (to_client h) (to_server h) refl
       (λ same. ap (λ k. revoked (server h k) bits) same) (moves_revoked (server h f) bits (i.live l f).given) (i.live l f);
   calls = λ c s. absurd (active_unbroken (server_state h) active s);
 }
@@ -313,7 +320,8 @@ Client h f q = Holds f (server h f) (client h f) q (to_server h)
 passed : (h : List Entry) (m : Message) (q : List Message) → to_client h ≡ m ∷ q → ((f : ℕ) → cap_seq f m ≡ []) → AllHold h
     → is_broken (server_state h) ≡ false → (f : ℕ) → Client h f (drop 1 (to_client h))
 passed h m q is none i l f =
-    at_first (λ y. Client h f y) (λ y. Client h f y) m q (to_client h) is (λ j. holds_passed f (server h f) (client h f) m q (to_server h) (none f) j) (i.live l f)
+    at_first (λ y. Client h f y) (λ y. Client h f y) m q (to_client h) is (λ j. holds_passed f (server h f) (client h f) m q (to_server h) (none f) j)
+    (i.live l f)
 
 -- while a report is on its way no message comes
 unheard : (h : List Entry) (m : Message) (q : List Message) → to_client h ≡ m ∷ q → PhaseAt h → server_state h ≡ servers.Broken → ⊥
@@ -322,7 +330,9 @@ unheard h m q is phase s = not_broken (server_state h) (live_by_client h m q is 
 step_to_client : (h : List Entry) (x : Answer) → FirstIs h x → PhaseAt h → AllHold h → AllHold (record { event = e.ToClient; answer = x } ∷ h)
 step_to_client h x first_idle phase i = record { live = i.live; calls = i.calls }
 step_to_client h x (first_cap g seq bits end q is) phase i = record {
-  live = λ l f. at_first (λ y. Client h f y) (λ y. Holds f (server h f) (cond (g == f) (delivered (client h f) bits seq end) (client h f)) y (to_server h))
+  live =
+      λ l f. at_first (λ y. Client h f y)
+      (λ y. Holds f (server h f) (cond (g == f) (delivered (client h f) bits seq end) (client h f)) y (to_server h))
       (messages.Cap g seq bits end) q (to_client h) is
       (λ j. holds_delivered (g == f) f g seq bits end (server h f) (client h f) q (to_server h) refl j) (i.live l f);
   calls = λ c s. absurd (unheard h (messages.Cap g seq bits end) q is phase s);
@@ -389,7 +399,8 @@ again h m p new work is phase none flies i f =
     (λ j. holds_beside f (server h f) (client h f) (to_client h) p new (none f) (flies f (server h f)) (holds_taken f (server h f) (client h f) (to_client h) p m j))
     (i.live (live_by_server h m p work is phase) f)
 
-untaken : (h : List Entry) (m : Message) (p : List Message) → IsWork m → to_server h ≡ m ∷ p → PhaseAt h → resent (server_state h) ≡ servers.Broken → ⊥
+untaken : (h : List Entry) (m : Message) (p : List Message) → IsWork m → to_server h ≡ m ∷ p → PhaseAt h → resent (server_state h) ≡ servers.Broken
+    → ⊥
 untaken h m p work is phase s = not_broken (resent (server_state h)) (resent_live (server_state h) (live_by_server h m p work is phase)) s
 
 flush_work : (x : Flush) → IsWork (flush_message x)
@@ -404,7 +415,8 @@ step_to_server h x (received_ack g seq bits p is) phase i = record {
   live = λ l f. at_first (λ y. Server h f y)
       (λ y. Holds f (cond (g == f) (record (server h f) { held = held_after (server h g) seq bits }) (server h f)) (client h f) (to_client h) y)
       (messages.CapAck g seq bits) p (to_server h) is
-      (λ j. received_if (g == f) f g seq bits (server h f) (server h g) (client h f) (to_client h) p refl (λ same. ap (λ k. server h k) same) j) (i.live l f);
+      (λ j. received_if (g == f) f g seq bits (server h f) (server h g) (client h f) (to_client h) p refl (λ same. ap (λ k. server h k) same) j)
+      (i.live l f);
   calls = λ c s. absurd (not_broken (server_state h) (live_by_server h (messages.CapAck g seq bits) p tt is phase) s);
 }
 step_to_server h x (received_reconnect caps known resends p is) phase i =
@@ -472,7 +484,8 @@ step_reconnect h x (reconnected broken) phase own i =
     record {
       live = λ l f. absurd (not_broken (server_state h) l quiet.server);
       calls = λ c s f.
-          subst (λ p. Holds f (caps_reported (first_reports (p ++ call h)) f) (restarted (client h f)) [] (drop 1 (p ++ call h))) (sym quiet.to_server)
+          subst (λ p. Holds f (caps_reported (first_reports (p ++ call h)) f) (restarted (client h f)) [] (drop 1 (p ++ call h)))
+          (sym quiet.to_server)
           (holds_reported f (λ g. client h g) (capped h) _ (own f).within (own f).bare (each_resend h));
     }
 

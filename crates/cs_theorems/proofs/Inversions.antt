@@ -33,7 +33,7 @@ use Rattle.cs_laws.specs.History.{client, server, realms, to_client, to_server, 
 use Rattle.cs_laws.specs.Image.{size}
 use Rattle.cs_laws.specs.References.{can_end, named}
 use Rattle.cs_laws.specs.Standing.{answer_kept, greatest_number, greatest_request, greatest_tid, has_snap, has_snap_named, is_removed}
-use Rattle.cs_laws.specs.Answers.{answer_begin, answer_chmod, answer_chmod_on, answer_end, answer_check, answer_flush, answer_flush_snaps, answer_flush_snaps_of, answer_flushed, answer_requested, answer_read, answer_read_on, answer_to_client, answer_to_client_of, answer_to_mds, answer_unlease, answer_to_mds_of, answer_grant, answer_revoke, answer_remove, answer_snap, answer_write, answer_write_on, bytes_within, answer_check_of, answer_reconnect, answer_req, count_told, held_after, may_change_mode, may_read, may_write}
+use Rattle.cs_laws.specs.Answers.{answer_begin, answer_chmod, answer_chmod_on, answer_end, answer_check, answer_flush, answer_flush_snaps, answer_flush_snaps_of, answer_flushed, answer_requested, answer_read, answer_read_on, answer_to_client, answer_to_client_of, answer_to_mds, answer_unlease, answer_to_mds_of, answer_grant, answer_revoke, answer_remove, answer_snap, answer_write, answer_write_on, bytes_within, answer_reconnect, answer_req, count_told, held_after, may_change_mode, may_read, may_write}
 
 pub data BeginIs (h : List Entry) (c f : ℕ) (b : Caps) : Answer → Type 0 where
   begin_unknown : BeginIs h c f b a.Unknown

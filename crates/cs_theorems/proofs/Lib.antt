@@ -13,7 +13,6 @@ pub mod Inversions
 pub mod Phase
 pub mod Sessions
 pub mod Calls
-pub mod RealmFits
 pub mod Refused
 pub mod News
 -- References and their uses
@@ -28,6 +27,8 @@ pub mod CapsFit
 -- Files that aren't known, counts and limits
 pub mod Blank
 pub mod Untouched
+pub mod Tells
+pub mod KnownBehind
 pub mod Underway
 pub mod Files
 pub mod Counts
@@ -116,3 +117,4 @@ pub mod Course
 pub mod Footing
 pub mod Agreeing
 pub mod Together
+pub mod Arrivals

@@ -1,8 +1,6 @@
 -- After each event the states of the session's two ends and what is on its way have one of five shapes.
-use Rattle.std.proofs.Common.{◌≡◌, refl, sym, ap, ◌∙◌, subst, ℕ, ◌+◌, ◌-◌, ◌<◌, ◌==◌, Bool, true, false, cond, List, [], ◌∷◌, ◌++◌, Option, Some, None, length, map, drop, append_assoc, unwrap_or, arith, inl, inr}
-use Rattle.std.specs.Prelude.{not}
+use Rattle.std.proofs.Common.{◌≡◌, refl, sym, ◌∙◌, subst, ℕ, ◌+◌, ◌-◌, ◌<◌, ◌==◌, Bool, true, false, cond, List, [], ◌∷◌, ◌++◌, length, map, drop, append_assoc, unwrap_or, arith, inl}
 use Rattle.std.proofs.lemmas.Bool.{eqb-true, eqb-false, cond_both}
-use Rattle.std.proofs.lemmas.List.{append-nil}
 use Rattle.cs_bits.specs.declared.Caps.{Caps}
 use Rattle.cs_parts.specs.Capabilities.{granted, revoked}
 use Rattle.cs_snapctx.specs.declared.realm.RealmRecord.{RealmRecord}
@@ -35,10 +33,9 @@ use Rattle.cs_laws.specs.Runs.{IsRun}
 use Rattle.cs_laws.specs.ServerKnows.{server_dirs, server_path}
 use Rattle.cs_laws.specs.Sessions.{client_state, is_active, is_broken, is_client_active, is_client_broken, is_last, replaying, resent, server_state}
 use Rattle.cs_laws.specs.Standing.{answer_kept, news, news_of, resumption}
-use Rattle.cs_theorems.specs.Flushes.{is_whole}
 use Rattle.cs_theorems.specs.Phases.{Calls, IsNews, IsResend, IsWork, Phase, PhaseAt, Resumes}
 use Rattle.cs_theorems.proofs.Inversions.{FlushIs, head_unknown, head_session, head_snap, head_clean, head_sent, flush_is, CheckIs, check_unknown, check_session, check_nothing, check_hold, check_ack, check_is, FlushSnapsIs, flush_unknown, flush_session, flush_none, flush_writing, flush_sent, flush_snaps_is, FirstIs, first_idle, first_cap, first_flush_ack, first_resumed, first_unsafe, first_safe, first_unlease, first_snap, first_is, GrantIs, grant_unknown, grant_session, grant_sent, grant_is, revoke_is, ReceivedIs, received_idle, received_ack, received_flush, received_again, received_reconnect, received_req, received_req_again, received_is, UnleaseIs, unlease_unknown, unlease_session, unlease_sent, unlease_is, ReqIs, req_session, req_sent, req_is, ReconnectIs, unbroken, reconnected, reconnect_is}
-use Rattle.cs_theorems.proofs.Listed.{Each, Member, each_append, each_cons, each_end, each_nil, each_tail}
+use Rattle.cs_theorems.proofs.Listed.{Each, each_append, each_cons, each_end, each_nil, each_tail}
 use Rattle.cs_theorems.proofs.News.{each_again, each_answered, each_news}
 use Rattle.cs_theorems.proofs.Rising.{at_first}
 use Rattle.cs_theorems.proofs.Runs.{of_run}
@@ -305,6 +302,10 @@ step_client h x (first_resumed told q is) i =
 -- the records of all realms, by what is durable
 abbrev pub all_realms : List Entry → List RealmRecord
 all_realms h = realm_records (λ d. server_path h d) (server_dirs h) (durable h)
+
+-- what the server tells with the last of what is sent again
+abbrev pub resumption_now : List Entry → List Message
+resumption_now h = resumption (is_last (server_state h)) (all_realms h)
 
 -- one that may be sent again arrives at the server, which answers so
 received : (h : List Entry) (m : Message) (p r : List Message) → IsResend m → Each IsNews r → to_server h ≡ m ∷ p → PhaseAt h

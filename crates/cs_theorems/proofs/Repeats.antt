@@ -1,13 +1,12 @@
 -- A request with an answer is on its way again, or another answer to it, only where it was sent again at a reconnect.
-use Rattle.std.proofs.Common.{◌≡◌, refl, sym, ap, ◌∙◌, subst, ℕ, ◌+◌, ◌<◌, ◌≤◌, ◌==◌, Bool, true, false, cond, List, [], ◌∷◌, ◌++◌, Option, Some, None, length, map, drop, append_assoc, unwrap_or, arith, ◌||◌, ◌⊎◌, nat_lt, inl, inr, ⊎_elim}
-use Rattle.std.specs.List.{cons_option, filter, list_any}
-use Rattle.std.proofs.lemmas.Bool.{both_ways, cases_lt, cond_both, eq-eqb, eqb-true, lt-ltb, or_cases, or_left}
+use Rattle.std.proofs.Common.{◌≡◌, refl, sym, ap, ◌∙◌, subst, ℕ, ◌+◌, ◌<◌, ◌==◌, Bool, true, false, cond, List, [], ◌∷◌, ◌++◌, Option, None, length, drop, append_assoc, unwrap_or, arith, ◌||◌, ◌⊎◌, nat_lt, inl, inr, ⊎_elim}
+use Rattle.std.specs.List.{cons_option}
+use Rattle.std.proofs.lemmas.Bool.{both_ways, cases_lt, cond_both, eqb-true, lt-ltb, or_cases, or_left}
 use Rattle.std.proofs.lemmas.List.{append-nil}
 use Rattle.std.proofs.lemmas.List.Folds.{list_any-append}
 use Rattle.cs_laws.specs.declared.events.Event.{Event}
 use Rattle.cs_laws.specs.declared.events.Event.TheVariants as e
 use Rattle.cs_laws.specs.declared.answers.Answer.{Answer}
-use Rattle.cs_laws.specs.declared.answers.Answer.TheVariants as a
 use Rattle.cs_laws.specs.declared.answers.Entry.{Entry}
 use Rattle.cs_laws.specs.declared.messages.Message.{Message}
 use Rattle.cs_laws.specs.declared.messages.Message.TheVariants as messages
@@ -25,21 +24,21 @@ use Rattle.cs_laws.specs.Reports.{capped, realm_seqs, reports, unretired}
 use Rattle.cs_laws.specs.Requests.{Reply, has_reply, is_open, is_resent, replies, requests}
 use Rattle.cs_laws.specs.Runs.{IsRun}
 use Rattle.cs_laws.specs.ServerKnows.{server_dirs, server_path}
-use Rattle.cs_laws.specs.Sessions.{is_active, is_broken, is_last, server_state}
+use Rattle.cs_laws.specs.Sessions.{is_broken, is_last, server_state}
 use Rattle.cs_laws.specs.Standing.{answer_kept, news, resumption}
-use Rattle.cs_theorems.specs.Asked.{asked, asked_of}
+use Rattle.cs_theorems.specs.Asked.{asked}
 use Rattle.cs_theorems.specs.Flushes.{is_whole}
 use Rattle.cs_theorems.specs.Phases.{PhaseAt}
 use Rattle.cs_theorems.specs.Replays.{above, last_tid}
-use Rattle.cs_theorems.proofs.Answered.{AskedAnswered, Goes, asked_answered, moved_answer, moved_more, no_unsafe, no_unsafe_news, no_unsafe_resumption, none_goes, one_answer, unsafe_append, unsafe_on, unsafe_tids}
-use Rattle.cs_theorems.proofs.Ascending.{above_one, member_above}
-use Rattle.cs_theorems.proofs.AskedStands.{Numbers, asked_tids, call_tids, flush_no_req, last_asked, req_append, req_end, req_first, req_on, req_tids, rises_plain}
+use Rattle.cs_theorems.proofs.Answered.{AskedAnswered, asked_answered, moved_answer, moved_more, no_unsafe, no_unsafe_news, no_unsafe_resumption, none_goes, one_answer, unsafe_append, unsafe_on, unsafe_tids}
+use Rattle.cs_theorems.proofs.Ascending.{above_one}
+use Rattle.cs_theorems.proofs.AskedStands.{Numbers, asked_tids, call_tids, flush_no_req, req_append, req_end, req_first, req_on, req_tids, rises_plain}
 use Rattle.cs_theorems.proofs.AsksRun.{AskedAlike, asked_alike}
-use Rattle.cs_theorems.proofs.Flying.{above_plain, got_reply, next_unanswered, reply_got}
+use Rattle.cs_theorems.proofs.Flying.{above_plain, got_reply, next_unanswered}
 use Rattle.cs_theorems.proofs.Inversions.{FlushIs, head_unknown, head_session, head_snap, head_clean, head_sent, flush_is, CheckIs, check_unknown, check_session, check_nothing, check_hold, check_ack, check_is, FlushSnapsIs, flush_unknown, flush_session, flush_none, flush_writing, flush_sent, flush_snaps_is, FirstIs, first_idle, first_cap, first_flush_ack, first_resumed, first_unsafe, first_safe, first_unlease, first_snap, first_is, GrantIs, grant_unknown, grant_session, grant_sent, grant_is, revoke_is, ReceivedIs, received_idle, received_ack, received_flush, received_again, received_reconnect, received_req, received_req_again, received_is, UnleaseIs, unlease_unknown, unlease_session, unlease_sent, unlease_is, ReqIs, req_session, req_sent, req_is, ReconnectIs, unbroken, reconnected, reconnect_is}
-use Rattle.cs_theorems.proofs.Listed.{Each, Member, each_append, each_cons, each_end, each_nil, each_tail}
+use Rattle.cs_theorems.proofs.Listed.{Each, Member, each_append, each_end, each_nil}
 use Rattle.cs_theorems.proofs.News.{each_again, each_news, each_resumption}
-use Rattle.cs_theorems.proofs.Phase.{all_realms, call, run_phase}
+use Rattle.cs_theorems.proofs.Phase.{all_realms, call, run_phase, resumption_now}
 use Rattle.cs_theorems.proofs.Replays as replays
 use Rattle.cs_theorems.proofs.Rising.{at_first}
 use Rattle.cs_theorems.proofs.Runs.{of_run}
@@ -67,15 +66,17 @@ not_behind : (xs got fl : List ℕ) (t : ℕ) → last_number got < t → Number
 not_behind xs got fl t more i there =
     let up : RisesFrom (last_number got) (t ∷ above (λ u. u) (last_number got) fl)
     = subst (λ us. RisesFrom (last_number got) us) (sym (sym (above_one (λ u. u) (last_number got) t fl more) ∙ i.rest refl))
-        (rises_plain (last_number got) i.missing (replays.missing_rise (λ u. u) true xs got (t ∷ fl) i)) in
+    (rises_plain (last_number got) i.missing (replays.missing_rise (λ u. u) true xs got (t ∷ fl) i)) in
     omega (arith, above_plain t t (above (λ u. u) (last_number got) fl) up.1 (filter_has (λ u. nat_lt (last_number got) u) fl t there (lt-ltb (last_number got) t more)))
 
 -- Steps
 
-told_also : (h : List Entry) (r : List Message) → unsafe_tids r ≡ [] → RepliesOnce h → OnceOf h (unsafe_tids (to_client h ++ r) ++ req_tids (to_server h))
+told_also : (h : List Entry) (r : List Message) → unsafe_tids r ≡ [] → RepliesOnce h
+    → OnceOf h (unsafe_tids (to_client h ++ r) ++ req_tids (to_server h))
 told_also h r none i = subst (λ ts. OnceOf h ts) (moved_more (to_client h) r (req_tids (to_server h)) none) i
 
-sent_also : (h : List Entry) (m : Message) → req_on m ≡ None → RepliesOnce h → OnceOf h (unsafe_tids (to_client h) ++ req_tids (to_server h ++ m ∷ []))
+sent_also : (h : List Entry) (m : Message) → req_on m ≡ None → RepliesOnce h
+    → OnceOf h (unsafe_tids (to_client h) ++ req_tids (to_server h ++ m ∷ []))
 sent_also h m none i = subst (λ ts. OnceOf h (unsafe_tids (to_client h) ++ ts)) (req_end (to_server h) m none) i
 
 step_grant : (h : List Entry) (g : ℕ) (bits : Caps) (end : ℕ) (x : Answer) → GrantIs h g (granted (server h g) bits end) x → RepliesOnce h
@@ -169,12 +170,12 @@ step_client h x (first_unsafe tid o ttl q is) phase told i =
     let fl : List ℕ = unsafe_tids q ++ req_tids (to_server h) in
     let numbers : Numbers true (asked_tids (asked h)) (asked_tids told.got) (tid ∷ fl)
     = subst (λ b. Numbers b (asked_tids (asked h)) (asked_tids told.got) (tid ∷ fl)) (whole_by_client h (messages.Unsafe tid o ttl) q is phase)
-        (subst (λ r. Numbers (is_whole h) (asked_tids (asked h)) (asked_tids told.got) (unsafe_tids r ++ req_tids (to_server h))) is told.numbers) in
+    (subst (λ r. Numbers (is_whole h) (asked_tids (asked h)) (asked_tids told.got) (unsafe_tids r ++ req_tids (to_server h))) is told.numbers) in
     let above_got : has_reply tid (replies h) ≡ false → last_number (asked_tids told.got) < tid = λ new. ⊎_elim
-        (λ less. less)
-        (λ low. absurd (both_ways (has_reply tid (replies h)) new
-        (got_reply h told tid (replays.repeat (λ n. n) true (asked_tids (asked h)) (asked_tids told.got) fl tid low numbers).1)))
-        (cases_lt (last_number (asked_tids told.got)) tid) in
+    (λ less. less)
+    (λ low. absurd (both_ways (has_reply tid (replies h)) new
+    (got_reply h told tid (replays.repeat (λ n. n) true (asked_tids (asked h)) (asked_tids told.got) fl tid low numbers).1)))
+    (cases_lt (last_number (asked_tids told.got)) tid) in
     subst (λ r. Each (λ u. has_reply u (replies h ++ record { tid = tid; answer = o } ∷ []) ≡ true → is_resent h u ≡ true) (unsafe_tids (drop 1 r) ++ req_tids (to_server h)))
     (sym is)
     (answered_once h tid o fl
@@ -185,7 +186,8 @@ step_client h x (first_unsafe tid o ttl q is) phase told i =
 taken : (h : List Entry) (m : Message) (p r : List Message) → req_on m ≡ None → unsafe_tids r ≡ [] → to_server h ≡ m ∷ p → RepliesOnce h
     → OnceOf h (unsafe_tids (to_client h ++ r) ++ req_tids (drop 1 (to_server h)))
 taken h m p r none quiet is i =
-    at_first (λ s. OnceOf h (unsafe_tids (to_client h) ++ req_tids s)) (λ s. OnceOf h (unsafe_tids (to_client h ++ r) ++ req_tids s)) m p (to_server h) is
+    at_first (λ s. OnceOf h (unsafe_tids (to_client h) ++ req_tids s)) (λ s. OnceOf h (unsafe_tids (to_client h ++ r) ++ req_tids s)) m p
+    (to_server h) is
     (λ j. subst (λ ts. OnceOf h ts) (ap (λ ts. unsafe_tids (to_client h) ++ ts) (req_first m p none) ∙ moved_more (to_client h) r (req_tids p) quiet) j) i
 
 -- a request does, and is answered
@@ -200,22 +202,25 @@ answered_one h tid ino op p r one is i =
 step_server : (h : List Entry) (x : Answer) → ReceivedIs h x → RepliesOnce h → RepliesOnce (record { event = e.ToMds; answer = x } ∷ h)
 step_server h x received_idle i = i
 step_server h x (received_ack g seq bits q is) i =
-    subst (λ r. OnceOf h (unsafe_tids r ++ req_tids (drop 1 (to_server h)))) (append-nil (to_client h)) (taken h (messages.CapAck g seq bits) q [] refl refl is i)
+    subst (λ r. OnceOf h (unsafe_tids r ++ req_tids (drop 1 (to_server h)))) (append-nil (to_client h))
+    (taken h (messages.CapAck g seq bits) q [] refl refl is i)
 step_server h x (received_reconnect caps known resends q is) i =
-    taken h (messages.Reconnect caps known resends) q (resumption (resends == 0) (all_realms h)) refl (no_unsafe_resumption (resends == 0) (all_realms h)) is i
-step_server h x (received_flush y q is first) i = taken h (flush_message y) q (Goes h) (flush_no_req y) (none_goes h) is i
+    taken h (messages.Reconnect caps known resends) q (resumption (resends == 0) (all_realms h)) refl
+    (no_unsafe_resumption (resends == 0) (all_realms h)) is i
+step_server h x (received_flush y q is first) i = taken h (flush_message y) q (resumption_now h) (flush_no_req y) (none_goes h) is i
 step_server h x (received_again y q is again) i =
-    taken h (flush_message y) q (acked_again y.file y.tid (durable h) ++ Goes h) (flush_no_req y)
-    (no_unsafe (acked_again y.file y.tid (durable h) ++ Goes h)
-    (each_append (λ m. unsafe_on m ≡ None) (acked_again y.file y.tid (durable h)) (Goes h)
+    taken h (flush_message y) q (acked_again y.file y.tid (durable h) ++ resumption_now h) (flush_no_req y)
+    (no_unsafe (acked_again y.file y.tid (durable h) ++ resumption_now h)
+    (each_append (λ m. unsafe_on m ≡ None) (acked_again y.file y.tid (durable h)) (resumption_now h)
     (each_again (λ m. unsafe_on m ≡ None) y.file y.tid (durable h) (λ _. refl))
     (each_resumption (λ m. unsafe_on m ≡ None) (is_last (server_state h)) (all_realms h) refl))) is i
 step_server h x (received_req tid ino op q is first) i =
-    answered_one h tid ino op q (unsafe_message (server_state h) tid (answer_on (names h) op) ∷ Goes h) (ap (λ ts. tid ∷ ts) (none_goes h)) is i
+    answered_one h tid ino op q (unsafe_message (server_state h) tid (answer_on (names h) op) ∷ resumption_now h)
+    (ap (λ ts. tid ∷ ts) (none_goes h)) is i
 step_server h x (received_req_again tid ino op q is again) i =
     let o : OpAnswer = unwrap_or (answer_kept tid (stand h)) replies_of.Missing in
-    answered_one h tid ino op q (answered_again tid o (durable h) ++ Goes h)
-    (unsafe_append (answered_again tid o (durable h)) (Goes h)
+    answered_one h tid ino op q (answered_again tid o (durable h) ++ resumption_now h)
+    (unsafe_append (answered_again tid o (durable h)) (resumption_now h)
     ∙ (ap (λ ts. unsafe_tids (answered_again tid o (durable h)) ++ ts) (none_goes h)
     ∙ (append-nil (unsafe_tids (answered_again tid o (durable h))) ∙ one_answer tid o (durable h)))) is i
 

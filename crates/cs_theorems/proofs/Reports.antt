@@ -1,8 +1,8 @@
 -- What the client keeps of the flushes of its files are the flushes that aren't acknowledged, each once.
-use Rattle.std.proofs.Common.{◌≡◌, refl, sym, ap, ◌∙◌, subst, ℕ, zero, suc, ◌+◌, ◌<◌, ◌≤◌, Bool, true, false, cond, not, ◌==◌, ◌&&◌, ◌||◌, List, [], ◌∷◌, ◌++◌, map, filter, length, AllPairs, Option, Some, None, unwrap_or, inl, inr, ⊎_elim, arith}
+use Rattle.std.proofs.Common.{◌≡◌, refl, sym, ap, ◌∙◌, subst, ℕ, zero, suc, ◌+◌, ◌<◌, ◌≤◌, Bool, true, false, cond, not, ◌==◌, List, [], ◌∷◌, map, filter, AllPairs, Option, Some, None, unwrap_or, inl, inr, ⊎_elim, arith}
 use Rattle.std.specs.List.{cons_option}
 use Rattle.std.specs.Option.{option_map}
-use Rattle.std.proofs.lemmas.Bool.{both_ways, cond_both, eqb-true, not-false, not-true, or_parts}
+use Rattle.std.proofs.lemmas.Bool.{both_ways, cond_both, not-true, or_parts}
 use Rattle.cs_ids.specs.declared.objects.FileMeta.{FileMeta}
 use Rattle.cs_capsnap.specs.declared.snap.CapSnap.{CapSnap}
 use Rattle.cs_capsnap.specs.CapSnaps as kept
@@ -11,7 +11,7 @@ use Rattle.cs_flush.specs.declared.report.FlushReport.{FlushReport}
 use Rattle.cs_flush.specs.declared.sent.Sent.{Sent}
 use Rattle.cs_laws.specs.declared.answers.Entry.{Entry}
 use Rattle.cs_laws.specs.ClientKnows.{client_knows}
-use Rattle.cs_laws.specs.Flushes.{Flush, acked, is_later, is_retired}
+use Rattle.cs_laws.specs.Flushes.{Flush, acked, is_retired}
 use Rattle.cs_laws.specs.History.{sent}
 use Rattle.cs_laws.specs.Lists.{RisesFrom}
 use Rattle.cs_laws.specs.Reports.{unretired}

@@ -1,30 +1,25 @@
 -- The laws of requests: they stand once and in order, so do those with an answer, and what a lease tells stands in the namespace.
-use Rattle.std.proofs.Common.{◌≡◌, refl, sym, ap, ◌∙◌, subst, ℕ, ◌==◌, true, List, [], ◌∷◌, ◌++◌, append_assoc, take}
-use Rattle.std.proofs.lemmas.Bool.{cond_both, eqb-true}
+use Rattle.std.proofs.Common.{◌≡◌, refl, sym, ap, ◌∙◌, subst, ℕ, List, [], ◌∷◌, ◌++◌, append_assoc, take}
 use Rattle.std.proofs.lemmas.List.{append-nil}
 use Rattle.cs_laws.specs.declared.events.Event.{Event}
 use Rattle.cs_laws.specs.declared.events.Event.TheVariants as e
 use Rattle.cs_laws.specs.declared.answers.Answer.{Answer}
 use Rattle.cs_laws.specs.declared.answers.Answer.TheVariants as a
 use Rattle.cs_laws.specs.declared.answers.Entry.{Entry}
-use Rattle.cs_laws.specs.declared.messages.Message.TheVariants as messages
 use Rattle.cs_laws.specs.declared.records.Record.{Record}
-use Rattle.cs_laws.specs.History.{durable, fresh, stand, to_client}
-use Rattle.cs_laws.specs.Journal.{entry}
+use Rattle.cs_laws.specs.History.{durable, fresh, stand}
 use Rattle.cs_laws.specs.Laws.{AnsweredStand, InEveryPrefix, LeasedStand, LeasesStand, RepliesStand, RequestsRise, RequestsStandOnce, SavedStandOnce, StandsOnce, request_tids}
 use Rattle.cs_laws.specs.Lists.{RisesFrom}
-use Rattle.cs_laws.specs.Requests.{is_saved}
 use Rattle.cs_laws.specs.Runs.{IsRun}
 use Rattle.cs_laws.specs.Standing.{durable_then}
 use Rattle.cs_theorems.specs.Asked.{Asked, asked_of}
-use Rattle.cs_theorems.proofs.AskedStands.{answer_found, asked_tids, member_tid, stands_rise, tid_member, tids_are}
-use Rattle.cs_theorems.proofs.AskedTold.{AllTold, all_told, more_stand, more_tids, asked_stands, saved_durable}
+use Rattle.cs_theorems.proofs.AskedStands.{answer_found, member_tid, stands_rise, tid_member, tids_are}
+use Rattle.cs_theorems.proofs.AskedTold.{more_stand, asked_stands, saved_durable}
 use Rattle.cs_theorems.proofs.Answered.{answer_stands}
-use Rattle.cs_theorems.proofs.Inversions.{FirstIs, first_idle, first_cap, first_flush_ack, first_unsafe, first_resumed, first_safe, first_unlease, first_snap, first_is}
 use Rattle.cs_theorems.proofs.Leased.{leased_stand}
-use Rattle.cs_theorems.proofs.Listed.{Member, member_first}
+use Rattle.cs_theorems.proofs.Listed.{Member}
 use Rattle.cs_theorems.proofs.Numbers.{times_once}
-use Rattle.cs_theorems.proofs.Runs.{in_every_prefix, of_run, run_before}
+use Rattle.cs_theorems.proofs.Runs.{in_every_prefix, run_before}
 
 -- Standing requests
 

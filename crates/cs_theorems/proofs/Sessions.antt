@@ -1,5 +1,5 @@
 -- What the phase of a session tells: of the states by what is on its way, and of what is on its way by the states.
-use Rattle.std.proofs.Common.{◌≡◌, refl, sym, ap, ◌∙◌, subst, ℕ, ◌+◌, ◌-◌, ◌<◌, ◌==◌, Bool, true, false, cond, List, [], ◌∷◌, ◌++◌, length, arith, ◌⊎◌, inl, inr}
+use Rattle.std.proofs.Common.{◌≡◌, refl, subst, ℕ, ◌<◌, true, false, List, [], ◌∷◌, length, arith, ◌⊎◌, inl, inr}
 use Rattle.std.specs.Prelude.{not}
 use Rattle.std.proofs.lemmas.Bool.{eqb-true}
 use Rattle.cs_bits.specs.declared.Caps.{Caps}
@@ -17,8 +17,7 @@ use Rattle.cs_laws.specs.History.{to_client, to_server}
 use Rattle.cs_laws.specs.Lists.{Each}
 use Rattle.cs_laws.specs.Sessions.{client_state, is_active, is_broken, is_client_active, is_client_broken, is_last, server_state}
 use Rattle.cs_theorems.specs.Flushes.{is_whole}
-use Rattle.cs_theorems.specs.Phases.{Calls, IsNews, IsResend, IsWork, Phase, PhaseAt, Resumes}
-use Rattle.cs_theorems.proofs.Listed.{each_tail}
+use Rattle.cs_theorems.specs.Phases.{Calls, IsNews, IsResend, IsWork, Phase, PhaseAt}
 
 -- Where a message is on its way nothing was lost
 
@@ -132,7 +131,7 @@ pub called_phase : (h : List Entry) (caps : List CapReport) (known : List RealmS
     → to_server h ≡ messages.Reconnect caps known resends ∷ p → PhaseAt h → Called h resends p
 called_phase h caps known resends p is i =
     let k = called (client_state h) (server_state h) (to_client h) p caps known resends
-        (subst (λ r. Phase (client_state h) (server_state h) (to_client h) r) is i) in
+    (subst (λ r. Phase (client_state h) (server_state h) (to_client h) r) is i) in
     record { client = k.0; server = k.1; to_client = k.2; count = k.3; again = k.4 }
 
 calls_now : (c : ClientState) (s : ServerState) (q p : List Message) → c ≡ clients.Reconnecting → s ≡ servers.Broken → Phase c s q p → Calls p
@@ -178,7 +177,7 @@ pub acked_phase : (h : List Entry) (f seq : ℕ) (bits : Caps) (p : List Message
     → BothActive h
 acked_phase h f seq bits p is i =
     let k = acked (client_state h) (server_state h) (to_client h) p f seq bits
-        (subst (λ r. Phase (client_state h) (server_state h) (to_client h) r) is i) in
+    (subst (λ r. Phase (client_state h) (server_state h) (to_client h) r) is i) in
     record { client = k.0; server = k.1 }
 
 -- While the server replays, only what is sent again is on its way, and so much of it.
@@ -247,7 +246,7 @@ pub resumed_phase : (h : List Entry) (told : List RealmRecord) (q : List Message
     → Resuming h q
 resumed_phase h told q is i =
     let k = resumed (client_state h) (server_state h) q (to_server h) told
-        (subst (λ r. Phase (client_state h) (server_state h) r (to_server h)) is i) in
+    (subst (λ r. Phase (client_state h) (server_state h) r (to_server h)) is i) in
     record { client = k.0; server = k.1; to_server = k.2; news = k.3 }
 
 -- An active client's server is active, and an active server's client isn't broken.

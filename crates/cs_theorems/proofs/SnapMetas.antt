@@ -1,9 +1,6 @@
 -- A cap snap that was sent has the metadata of its flush.
-use Rattle.std.proofs.Common.{◌≡◌, refl, sym, ap, ◌∙◌, subst, ℕ, suc, ◌+◌, ◌<◌, ◌≤◌, Bool, true, false, cond, not, ◌==◌, ◌&&◌, List, [], ◌∷◌, ◌++◌, length, Option, Some, None, is_none, unwrap_or, inl, inr, arith}
-use Rattle.std.specs.Option.{option_map_or}
-use Rattle.std.specs.List.{AllByRecursion}
-use Rattle.std.proofs.lemmas.Bool.{both_ways, cond_both, eqb-true}
-use Rattle.cs_ids.specs.declared.objects.FileMeta.{FileMeta}
+use Rattle.std.proofs.Common.{◌≡◌, refl, sym, ap, ◌∙◌, subst, ℕ, ◌+◌, ◌≤◌, Bool, true, false, cond, not, ◌==◌, ◌&&◌, List, [], ◌∷◌, ◌++◌, length, Option, Some, None, is_none, unwrap_or, inl, inr, arith}
+use Rattle.std.proofs.lemmas.Bool.{cond_both, eqb-true}
 use Rattle.cs_parts.specs.declared.references.Live.{Live}
 use Rattle.cs_capsnap.specs.declared.snap.CapSnap.{CapSnap}
 use Rattle.cs_capsnap.specs.CapSnaps as kept
@@ -13,8 +10,8 @@ use Rattle.cs_laws.specs.declared.events.Event.TheVariants as e
 use Rattle.cs_laws.specs.declared.answers.Answer.{Answer}
 use Rattle.cs_laws.specs.declared.answers.Entry.{Entry}
 use Rattle.cs_laws.specs.CapSnaps.{CapSnap as Unsent, has_writer, queued_mode}
-use Rattle.cs_laws.specs.Flushes.{Flush, flush_snap, meta_upto, written_meta}
-use Rattle.cs_laws.specs.History.{context, live, mode, present, queued, sent, writes}
+use Rattle.cs_laws.specs.Flushes.{Flush, flush_snap, meta_upto}
+use Rattle.cs_laws.specs.History.{live, present, queued, sent, writes}
 use Rattle.cs_laws.specs.Image.{Write, size, mtime}
 use Rattle.cs_laws.specs.Journal.{entry}
 use Rattle.cs_laws.specs.References.{named, without_named}

@@ -1,5 +1,5 @@
 -- Things with numbers: how often a number stands in a list of them, and that two lists of the same things whose numbers rise are one.
-use Rattle.std.proofs.Common.{◌≡◌, ◌∙◌, refl, sym, ap, subst, ℕ, suc, ◌+◌, ◌<◌, ◌≤◌, ◌==◌, Bool, true, false, cond, List, [], ◌∷◌, ◌++◌, map, length, arith, inl, inr, ⊎_elim}
+use Rattle.std.proofs.Common.{◌≡◌, ◌∙◌, refl, sym, ap, subst, ℕ, suc, ◌+◌, ◌<◌, ◌≤◌, ◌==◌, Bool, true, false, cond, List, [], ◌∷◌, ◌++◌, map, arith, inl, inr, ⊎_elim}
 use Rattle.std.specs.List.{All, sum_by}
 use Rattle.std.specs.List.Sorted.{IsNonDecreasingBy, IsPermutation}
 use Rattle.std.proofs.lemmas.Bool.{eq-eqb, eqb-true, false_from_ne_true}
@@ -9,7 +9,7 @@ use Rattle.std.proofs.Math.Nat.{eq-or-lt_of_le}
 use Rattle.cs_laws.specs.Lists.{RisesFrom}
 use Rattle.cs_theorems.specs.Reports.{AreApart, times}
 use Rattle.cs_theorems.proofs.Ascending.{member_above}
-use Rattle.cs_theorems.proofs.Listed.{Member, Each, each_all, each_tail}
+use Rattle.cs_theorems.proofs.Listed.{Member, Each, each_all}
 
 -- How often a number stands in a list
 
@@ -129,6 +129,7 @@ sorted_is {X = X} n xs ys rs rises all back apart same sorted = same_lists n 0 r
 
     up : (us : List X) → rs ≡ us → RisesFrom 0 (map n us)
     up [] is = tt
-    up (u ∷ us) is =
-        (member_above n 0 u ys rises (subst (λ ws. Each (λ x. Member x ys) ws) is within u (inl refl)),
-        sorted_rises n u us (subst (λ ws. IsNonDecreasingBy n ws) is sorted) (subst (λ ws. AreApart n ws) is few))
+    up (u ∷ us) is = (
+      member_above n 0 u ys rises (subst (λ ws. Each (λ x. Member x ys) ws) is within u (inl refl)),
+      sorted_rises n u us (subst (λ ws. IsNonDecreasingBy n ws) is sorted) (subst (λ ws. AreApart n ws) is few),
+    )

@@ -1,7 +1,7 @@
 -- Messages on their way are of files that are known when their turn comes, and so are the flushes of the server's log.
-use Rattle.std.proofs.Common.{◌≡◌, refl, ℕ, true, List, [], ◌∷◌, ◌++◌, Option, Some, None, inl, drop, ◌⊎◌, ◌+◌, ◌≤◌, ◌==◌, ◌||◌, Bool, false, cond, sym, ap, ◌∙◌, subst, append_assoc, find, length, inr, unwrap_or, ⊎_elim, arith, ◌&&◌, take, map, not, nat_lt}
+use Rattle.std.proofs.Common.{◌≡◌, refl, ℕ, true, List, [], ◌∷◌, ◌++◌, Option, Some, None, inl, drop, ◌⊎◌, ◌+◌, ◌==◌, ◌||◌, Bool, false, cond, sym, ap, ◌∙◌, subst, append_assoc, find, length, inr, unwrap_or, ⊎_elim, arith, ◌&&◌, take, map, not}
 use Rattle.std.specs.Option.{option_map}
-use Rattle.std.proofs.lemmas.Bool.{cond_both, both_ways, eq-eqb, eqb-true, false_from_ne_true, or_cases, or_left, or_parts, or_right, and_parts}
+use Rattle.std.proofs.lemmas.Bool.{cond_both, both_ways, eq-eqb, eqb-true, false_from_ne_true, or_cases, or_left, or_parts, or_right, and_parts, and_from}
 use Rattle.std.proofs.lemmas.List.{append-nil, length-append}
 use Rattle.std.proofs.lemmas.List.Folds.{list_any-append}
 use Rattle.std.proofs.lemmas.Grind.{flat_map-append}
@@ -9,7 +9,6 @@ use Rattle.cs_bits.specs.declared.Caps.{Caps}
 use Rattle.cs_bits.specs.Bits.{is_empty}
 use Rattle.cs_parts.specs.declared.capabilities.ClientCaps.{ClientCaps}
 use Rattle.cs_parts.specs.Capabilities.{granted, revoked, held_back, is_complete}
-use Rattle.cs_snapctx.specs.declared.realm.RealmRecord.{RealmRecord}
 use Rattle.cs_laws.specs.declared.events.Event.{Event}
 use Rattle.cs_laws.specs.declared.events.Event.TheVariants as e
 use Rattle.cs_laws.specs.declared.answers.Answer.{Answer}
@@ -18,27 +17,24 @@ use Rattle.cs_laws.specs.declared.answers.Entry.{Entry}
 use Rattle.cs_laws.specs.declared.messages.Message.{Message}
 use Rattle.cs_laws.specs.declared.messages.Message.TheVariants as messages
 use Rattle.cs_laws.specs.declared.records.Record.{Record}
-use Rattle.cs_laws.specs.declared.records.RecordBody.{RecordBody}
 use Rattle.cs_laws.specs.declared.records.RecordBody.TheVariants as bodies
-use Rattle.cs_laws.specs.Answers.{answer_check_of, answer_check, answer_grant, answer_revoke, sent_cap, answer_to_mds}
-use Rattle.cs_laws.specs.Carried.{file_of, flush_in, realms_of, is_for_client}
+use Rattle.cs_laws.specs.Answers.{answer_check_of, answer_check, answer_grant, answer_revoke, answer_to_mds}
+use Rattle.cs_laws.specs.Carried.{file_of, is_for_client}
 use Rattle.cs_laws.specs.Flushes.{Flush, flush_message, flush_record, acked, is_retired}
 use Rattle.cs_laws.specs.Flight.{acked_again, answered_again, cap_message, unsafe_message}
-use Rattle.cs_laws.specs.Realms.{differing, realm_records}
-use Rattle.cs_laws.specs.ClientKnows.{client_knows, client_made}
+use Rattle.cs_laws.specs.ClientKnows.{client_knows}
 use Rattle.cs_laws.specs.Events.{setup_file}
 use Rattle.cs_laws.specs.ServerKnows.{server_knows, server_dirs, server_made, server_path}
 use Rattle.cs_laws.specs.History.{client, durable, fresh, last_sent, server, to_client, to_server, used, stand, sent}
 use Rattle.cs_laws.specs.Journal.{entry}
-use Rattle.cs_laws.specs.Standing.{news, news_of, news_on, recorded, answer_kept, greatest_number, requested, resumption}
-use Rattle.cs_snapctx.specs.Records.{with_records}
+use Rattle.cs_laws.specs.Standing.{recorded, answer_kept, greatest_number, requested, resumption}
 use Rattle.cs_laws.specs.Runs.{CanFollow, IsRun}
-use Rattle.cs_laws.specs.Made.{Made, is_made_file, made_by, made_in, made_of, makes_file}
+use Rattle.cs_laws.specs.Made.{is_made_file, made_by, made_in, made_of, makes_file}
 use Rattle.cs_laws.specs.Requests as client_requests
 use Rattle.cs_laws.specs.Requests.{Reply, Request, is_open, has_request, op_of, requests}
 use Rattle.cs_theorems.specs.Underway.{ForClient, ForServer, IfFile, IsToldClient, IsToldServer}
 use Rattle.cs_theorems.proofs.Inversions.{ReqIs, req_session, req_sent, req_is, ReconnectIs, unbroken, reconnected, reconnect_is, FlushIs, head_unknown, head_session, head_snap, head_clean, head_sent, flush_is, FlushSnapsIs, flush_unknown, flush_session, flush_none, flush_writing, flush_sent, flush_snaps_is, FirstIs, first_idle, first_cap, first_flush_ack, first_unsafe, first_resumed, first_safe, first_unlease, first_snap, first_is, ReceivedIs, received_idle, received_ack, received_flush, received_again, received_reconnect, received_req, received_req_again, received_is, SnapIs, snap_unknown, snap_session, snap_exists, snap_taken, snap_is, RemoveIs, remove_none, remove_session, remove_gone, removed, remove_is, UnleaseIs, unlease_unknown, unlease_session, unlease_sent, unlease_is}
-use Rattle.cs_theorems.proofs.Listed.{Each, each_nil, each_cons, each_append, each_drop, each_end, each_tail, member_first, member_take, member_right}
+use Rattle.cs_theorems.proofs.Listed.{Each, each_nil, each_cons, each_append, each_end, member_first, member_take}
 use Rattle.cs_theorems.proofs.News.{each_again, each_answered, each_resumption}
 use Rattle.cs_theorems.proofs.Runs.{of_run}
 use Rattle.cs_theorems.proofs.Known.{client_grows}
@@ -47,348 +43,16 @@ use Rattle.cs_theorems.proofs.Asks.{told_makes}
 use Rattle.cs_laws.specs.declared.requests.OpAnswer.{OpAnswer}
 use Rattle.cs_laws.specs.declared.requests.OpAnswer.TheVariants as replies
 use Rattle.cs_laws.specs.declared.requests.ReqOp.{ReqOp}
-use Rattle.cs_laws.specs.Names.{names, setup_names}
+use Rattle.cs_laws.specs.Names.{names}
 use Rattle.cs_laws.specs.Namespace.{answer_on}
 use Rattle.cs_laws.specs.Sessions.{is_active, server_state, client_state, is_client_active, is_broken, is_last}
-use Rattle.cs_theorems.proofs.Phase.{all_realms, again, call, run_phase}
+use Rattle.cs_theorems.proofs.Phase.{all_realms, again, call, run_phase, resumption_now}
 use Rattle.cs_laws.specs.Reports.{request_again, requests_again, flushes_again, open_requests, unretired}
-use Rattle.cs_theorems.proofs.Tests.{filter_each, any_true}
-use Rattle.cs_theorems.proofs.AsksRun.{asked_alike, asked_settles, op_found}
-use Rattle.cs_theorems.proofs.AskedStands.{was_asked, settles_rises, AskedStands, Sending, Numbers, asked_tids, req_tids, cancel, tids_append, same_tid, last_asked, member_tid}
-use Rattle.cs_theorems.proofs.AskedTold.{all_told, asked_stands}
-use Rattle.cs_theorems.proofs.Answered.{AskedAnswered, asked_answered, all_stand, unsafe_tids}
-use Rattle.cs_theorems.specs.Asked.{Asked, asked, asked_made, asked_of}
-use Rattle.cs_theorems.proofs.Asked.{log_made, made_append}
-use Rattle.cs_theorems.specs.Flushes.{is_whole}
-use Rattle.cs_laws.specs.Lists.{RisesFrom, Member}
+use Rattle.cs_theorems.proofs.Tests.{filter_each}
 use Rattle.cs_theorems.proofs.Sessions.{active_too, live_whole, active_live, settled}
-
--- the file of the flush that a record tells of
-abbrev pub flush_file : RecordBody → Option ℕ
-flush_file b = option_map (λ (x : Flush). x.file) (flush_in b)
-
--- a record of the log that is no flush, or one of a known file
-abbrev pub ForLog : (ℕ → Type 0) → RecordBody → Type 0
-ForLog Known b = IfFile Known (flush_file b)
-
-abbrev pub IsKnown : List Entry → ℕ → Type 0
-IsKnown h f = client_knows h f ≡ true
-
-if_more : (Known More : ℕ → Type 0) → ((f : ℕ) → Known f → More f) → (o : Option ℕ) → IfFile Known o → IfFile More o
-if_more Known More more None k = tt
-if_more Known More more (Some f) k = more f k
-
--- What flies to the client. An answer may make a file, which is known behind it; xs: the requests that were sent; known f: f is known.
-
-abbrev pub made_on : List Request → Message → List Made
-made_on xs (messages.Unsafe tid o ttl) = made_by (op_of tid xs) o
-made_on xs _ = []
-
-abbrev pub known_with : List Request → Message → (ℕ → Bool) → ℕ → Bool
-known_with xs m known f = known f || makes_file f (made_on xs m)
-
--- behind all of them
-abbrev pub known_behind : List Request → List Message → (ℕ → Bool) → ℕ → Bool
-known_behind xs [] known f = known f
-known_behind xs (m ∷ q) known f = known_behind xs q (λ k. known_with xs m known k) f
-
--- the request that is answered was sent
-abbrev pub IsAnswered : List Request → Message → Type 0
-IsAnswered xs (messages.Unsafe tid o ttl) = has_request tid xs ≡ true
-IsAnswered xs _ = Unit {0}
-
--- each message is of a file that is known when its turn comes
-abbrev pub Tells : List Request → (ℕ → Bool) → List Message → Type 0
-Tells xs known [] = Unit {0}
-Tells xs known (m ∷ q) = ForClient (λ f. known f ≡ true) m × IsAnswered xs m × Tells xs (λ f. known_with xs m known f) q
-
-behind_more : (xs : List Request) (q : List Message) (known more : ℕ → Bool) (f : ℕ) → ((k : ℕ) → known k ≡ true → more k ≡ true) → known_behind xs q known f ≡ true
-    → known_behind xs q more f ≡ true
-behind_more xs [] known more f grows is = grows f is
-behind_more xs (m ∷ q) known more f grows is =
-    behind_more xs q (λ k. known_with xs m known k) (λ k. known_with xs m more k) f
-    (λ k was. ⊎_elim (λ old. or_left (more k) _ (grows k old)) (λ new. or_right (more k) _ new) (or_cases (known k) (makes_file k (made_on xs m)) was)) is
-
-behind_has : (xs : List Request) (q : List Message) (known : ℕ → Bool) (f : ℕ) → known f ≡ true → known_behind xs q known f ≡ true
-behind_has xs [] known f is = is
-behind_has xs (m ∷ q) known f is = behind_has xs q (λ k. known_with xs m known k) f (or_left (known f) _ is)
-
-behind_append : (xs : List Request) (q p : List Message) (known : ℕ → Bool) (f : ℕ)
-    → known_behind xs (q ++ p) known f ≡ known_behind xs p (λ k. known_behind xs q known k) f
-behind_append xs [] p known f = refl
-behind_append xs (m ∷ q) p known f = behind_append xs q p (λ k. known_with xs m known k) f
-
-tells_more : (xs : List Request) (q : List Message) (known more : ℕ → Bool) → ((k : ℕ) → known k ≡ true → more k ≡ true) → Tells xs known q → Tells xs more q
-tells_more xs [] known more grows i = tt
-tells_more xs (m ∷ q) known more grows i = (
-  (i.0.0, if_more (λ f. known f ≡ true) (λ f. more f ≡ true) grows (file_of m) i.0.1),
-  i.1,
-  tells_more xs q (λ k. known_with xs m known k) (λ k. known_with xs m more k)
-      (λ k was. ⊎_elim (λ old. or_left (more k) _ (grows k old)) (λ new. or_right (more k) _ new) (or_cases (known k) (makes_file k (made_on xs m)) was)) i.2,
-)
-
-tells_append : (xs : List Request) (q p : List Message) (known : ℕ → Bool) → Tells xs known q → Tells xs (λ k. known_behind xs q known k) p → Tells xs known (q ++ p)
-tells_append xs [] p known i j = j
-tells_append xs (m ∷ q) p known i j = (i.0, i.1, tells_append xs q p (λ k. known_with xs m known k) i.2 j)
-
--- messages that make nothing
-tells_each : (xs : List Request) (p : List Message) (known : ℕ → Bool) → Each (λ m. ForClient (λ f. known f ≡ true) m × IsAnswered xs m) p → Tells xs known p
-tells_each xs [] known ks = tt
-tells_each xs (m ∷ p) known ks = (
-  (ks m (inl refl)).0,
-  (ks m (inl refl)).1,
-  tells_more xs p known (λ k. known_with xs m known k) (λ k is. or_left (known k) _ is)
-      (tells_each xs p known (each_tail (λ n. ForClient (λ f. known f ≡ true) n × IsAnswered xs n) m p ks)),
-)
-
--- One more request is sent
-
-found_more : (t : ℕ) (xs ys : List Request) → has_request t xs ≡ true → find (λ x. x.tid == t) (xs ++ ys) ≡ find (λ x. x.tid == t) xs
-found_more t [] ys is = absurd (both_ways false refl is)
-found_more t (x ∷ xs) ys is = at (x.tid == t) is (λ more. found_more t xs ys more)
-  where
-    at : (b : Bool) → (b || has_request t xs) ≡ true → (has_request t xs ≡ true → find (λ y. y.tid == t) (xs ++ ys) ≡ find (λ y. y.tid == t) xs)
-        → cond b (Some x) (find (λ y. y.tid == t) (xs ++ ys)) ≡ cond b (Some x) (find (λ y. y.tid == t) xs)
-    at true here rest = refl
-    at false there rest = rest there
-
-request_more : (t : ℕ) (xs ys : List Request) → has_request t xs ≡ true → has_request t (xs ++ ys) ≡ true
-request_more t xs ys is = list_any-append (λ x. x.tid == t) xs ys ∙ or_left (has_request t xs) _ is
-
-made_more : (xs ys : List Request) (m : Message) → IsAnswered xs m → made_on (xs ++ ys) m ≡ made_on xs m
-made_more xs ys (messages.Unsafe tid o ttl) is = ap (λ x. made_by (option_map (λ y. y.op) x) o) (found_more tid xs ys is)
-made_more xs ys _ is = refl
-
-answered_more : (xs ys : List Request) (m : Message) → IsAnswered xs m → IsAnswered (xs ++ ys) m
-answered_more xs ys (messages.Unsafe tid o ttl) is = request_more tid xs ys is
-answered_more xs ys _ is = tt
-
-tells_sent : (xs ys : List Request) (q : List Message) (known : ℕ → Bool) → Tells xs known q → Tells (xs ++ ys) known q
-tells_sent xs ys [] known i = tt
-tells_sent xs ys (m ∷ q) known i = (
-  i.0,
-  answered_more xs ys m i.1,
-  subst (λ ms. Tells (xs ++ ys) (λ f. known f || makes_file f ms) q) (sym (made_more xs ys m i.1)) (tells_sent xs ys q (λ f. known_with xs m known f) i.2),
-)
-
-behind_sent : (xs ys : List Request) (q : List Message) (known : ℕ → Bool) (f : ℕ) → Tells xs known q → known_behind (xs ++ ys) q known f ≡ known_behind xs q known f
-behind_sent xs ys [] known f i = refl
-behind_sent xs ys (m ∷ q) known f i =
-    ap (λ ms. known_behind (xs ++ ys) q (λ k. known k || makes_file k ms) f) (made_more xs ys m i.1)
-    ∙ behind_sent xs ys q (λ k. known_with xs m known k) f i.2
-
--- All that flies and stands
-
--- a message to the server: a request with what was asked for, or of a file that the client knows
-abbrev pub IsReceived : List Request → (ℕ → Type 0) → Message → Type 0
-IsReceived xs Known (messages.Req tid ino op) = (has_request tid xs ≡ true) × (op_of tid xs ≡ Some op)
-IsReceived xs Known m = ForServer Known m
-
--- served f: the server knows f; q, p: the messages on their way to the client and to the server; ds, fs: the durable records and the others
-pub record Flies (xs : List Request) (known served : ℕ → Bool) (q p : List Message) (ds fs : List Record) : Type 0 where
-  pub told : Tells xs known q
-  -- what the server knows the client knows once all is delivered
-  pub knows : (f : ℕ) → served f ≡ true → known_behind xs q known f ≡ true
-  pub received : Each (IsReceived xs (λ f. known f ≡ true)) p
-  pub durable : Each (λ x. ForLog (λ f. known f ≡ true) x.body) ds
-  pub fresh : Each (λ x. ForLog (λ f. known f ≡ true) x.body) fs
-  -- requests are numbered up to their count
-  pub low : (t : ℕ) → has_request t xs ≡ true → t ≤ length xs
-
--- More files are known
-
-received_more : (xs : List Request) (Known More : ℕ → Type 0) → ((f : ℕ) → Known f → More f) → (m : Message) → IsReceived xs Known m → IsReceived xs More m
-received_more xs Known More more (messages.Req tid ino op) i = i
-received_more xs Known More more (messages.CapAck f seq bits) i = (i.0, more f i.1)
-received_more xs Known More more (messages.Flush f tid follows meta) i = (i.0, more f i.1)
-received_more xs Known More more (messages.FlushSnap f tid follows meta) i = (i.0, more f i.1)
-received_more xs Known More more (messages.Cap f seq bits end) i = absurd (both_ways false refl (sym i.0))
-received_more xs Known More more (messages.Unsafe tid o ttl) i = absurd (both_ways false refl (sym i.0))
-received_more xs Known More more (messages.Safe tid) i = absurd (both_ways false refl (sym i.0))
-received_more xs Known More more (messages.FlushAck f tid) i = absurd (both_ways false refl (sym i.0))
-received_more xs Known More more (messages.Snap number realm realms) i = absurd (both_ways false refl (sym i.0))
-received_more xs Known More more (messages.Unlease d name) i = absurd (both_ways false refl (sym i.0))
-received_more xs Known More more (messages.Resumed realms) i = absurd (both_ways false refl (sym i.0))
-received_more xs Known More more (messages.Reconnect caps realms resends) i = i
-
-received_sent : (xs ys : List Request) (Known : ℕ → Type 0) (m : Message) → IsReceived xs Known m → IsReceived (xs ++ ys) Known m
-received_sent xs ys Known (messages.Req tid ino op) i = (request_more tid xs ys i.0, ap (option_map (λ y. y.op)) (found_more tid xs ys i.0) ∙ i.1)
-received_sent xs ys Known _ i = i
-
-flies_more : (xs : List Request) (known more served : ℕ → Bool) → ((f : ℕ) → known f ≡ true → more f ≡ true) → (q p : List Message) (ds fs : List Record)
-    → Flies xs known served q p ds fs → Flies xs more served q p ds fs
-flies_more xs known more served grows q p ds fs i = record {
-  told = tells_more xs q known more grows i.told;
-  knows = λ f is. behind_more xs q known more f grows (i.knows f is);
-  received = λ m there. received_more xs (λ f. known f ≡ true) (λ f. more f ≡ true) grows m (i.received m there);
-  durable = λ x there. if_more (λ f. known f ≡ true) (λ f. more f ≡ true) grows (flush_file x.body) (i.durable x there);
-  fresh = λ x there. if_more (λ f. known f ≡ true) (λ f. more f ≡ true) grows (flush_file x.body) (i.fresh x there);
-  low = i.low;
-}
-
--- What is told and recorded
-
-of_told : (Known : ℕ → Type 0) (before : List Record) (realms : List RealmRecord) (b : RecordBody) → ForLog Known b → ForClient Known (news_of before realms b)
-of_told Known before realms (bodies.Request tid op answer) k = (refl, tt)
-of_told Known before realms (bodies.Flush snap f tid follows meta) k = (refl, k)
-of_told Known before realms (bodies.Snap number d name) k = (refl, tt)
-of_told Known before realms (bodies.Removal t number) k = (refl, tt)
-
-news_answered : (xs : List Request) (before : List Record) (realms : List RealmRecord) (b : RecordBody) → IsAnswered xs (news_of before realms b)
-news_answered xs before realms (bodies.Request tid op answer) = tt
-news_answered xs before realms (bodies.Flush snap f tid follows meta) = tt
-news_answered xs before realms (bodies.Snap number d name) = tt
-news_answered xs before realms (bodies.Removal t number) = tt
-
-each_told : (Known : ℕ → Type 0) (xs : List Request) (up : ℕ → List ℕ) (dirs : List ℕ) (ss : List RealmRecord) (before rs : List Record) → Each (λ x. ForLog Known x.body) rs
-    → Each (λ m. ForClient Known m × IsAnswered xs m) (news up dirs ss before rs)
-each_told Known xs up dirs ss before [] ks = each_nil (λ m. ForClient Known m × IsAnswered xs m)
-each_told Known xs up dirs ss before (x ∷ rs) ks =
-    let now : List RealmRecord = differing ss (realm_records up dirs (before ++ x ∷ [])) in
-    each_cons (λ m. ForClient Known m × IsAnswered xs m) _ _ (of_told Known before now x.body (ks x (inl refl)), news_answered xs before now x.body)
-    (each_told Known xs up dirs (with_records (realms_of (news_on up dirs ss before x)) ss) (before ++ x ∷ []) rs (each_tail (λ y. ForLog Known y.body) x rs ks))
-
--- Each kind of change
-
-module _ (xs : List Request) (known served : ℕ → Bool) where
-  abbrev Is : ℕ → Type 0
-  Is f = known f ≡ true
-
-  -- messages that make nothing are sent to the client
-  flies_told : (q p : List Message) (ds fs : List Record) (new : List Message) → Each (λ m. ForClient (λ f. known_behind xs q known f ≡ true) m × IsAnswered xs m) new
-      → Flies xs known served q p ds fs → Flies xs known served (q ++ new) p ds fs
-  flies_told q p ds fs new ks i = record {
-    told = tells_append xs q new known i.told (tells_each xs new (λ k. known_behind xs q known k) ks);
-    knows = λ f is. behind_append xs q new known f ∙ behind_has xs new (λ k. known_behind xs q known k) f (i.knows f is);
-    received = i.received;
-    durable = i.durable;
-    fresh = i.fresh;
-    low = i.low;
-  }
-
-  flies_sent : (q p : List Message) (ds fs : List Record) (m : Message) → IsReceived xs Is m → Flies xs known served q p ds fs
-      → Flies xs known served q (p ++ m ∷ []) ds fs
-  flies_sent q p ds fs m k i = record {
-    told = i.told;
-    knows = i.knows;
-    received = each_end (IsReceived xs Is) p m i.received k;
-    durable = i.durable;
-    fresh = i.fresh;
-    low = i.low;
-  }
-
-  flies_received : (q p : List Message) (ds fs more : List Record) → Each (λ x. ForLog Is x.body) more → Flies xs known served q p ds fs
-      → Flies xs known served q (drop 1 p) ds (fs ++ more)
-  flies_received q p ds fs more k i = record {
-    told = i.told;
-    knows = i.knows;
-    received = each_drop (IsReceived xs Is) p i.received;
-    durable = i.durable;
-    fresh = each_append (λ x. ForLog Is x.body) fs more i.fresh k;
-    low = i.low;
-  }
-
-  flies_gone : (q p : List Message) (ds fs : List Record) → Flies xs known served q p ds fs → Flies xs known served q (drop 1 p) ds fs
-  flies_gone q p ds fs i = record {
-    told = i.told;
-    knows = i.knows;
-    received = each_drop (IsReceived xs Is) p i.received;
-    durable = i.durable;
-    fresh = i.fresh;
-    low = i.low;
-  }
-
-  flies_recorded : (q p : List Message) (ds fs : List Record) (x : Record) → ForLog Is x.body → Flies xs known served q p ds fs
-      → Flies xs known served q p ds (fs ++ x ∷ [])
-  flies_recorded q p ds fs x k i = record {
-    told = i.told;
-    knows = i.knows;
-    received = i.received;
-    durable = i.durable;
-    fresh = each_end (λ y. ForLog Is y.body) fs x i.fresh k;
-    low = i.low;
-  }
-
-  -- the first message is delivered, and more may be known
-  flies_first : (m : Message) (q p : List Message) (ds fs : List Record) (more : ℕ → Bool) → ((f : ℕ) → known_with xs m known f ≡ true → more f ≡ true)
-      → Flies xs known served (m ∷ q) p ds fs → Flies xs more served q p ds fs
-  flies_first m q p ds fs more grows i =
-      let from : (f : ℕ) → known f ≡ true → more f ≡ true = λ f is. grows f (or_left (known f) _ is) in
-      record {
-        told = tells_more xs q (λ k. known_with xs m known k) more grows i.told.2;
-        knows = λ f is. behind_more xs q (λ k. known_with xs m known k) more f grows (i.knows f is);
-        received = λ n there. received_more xs Is (λ f. more f ≡ true) from n (i.received n there);
-        durable = λ x there. if_more Is (λ f. more f ≡ true) from (flush_file x.body) (i.durable x there);
-        fresh = λ x there. if_more Is (λ f. more f ≡ true) from (flush_file x.body) (i.fresh x there);
-        low = i.low;
-      }
-
-  flies_commit : (up : ℕ → List ℕ) (dirs : List ℕ) (ss : List RealmRecord) (q p : List Message) (ds fs : List Record) → Flies xs known served q p ds fs
-      → Flies xs known served (q ++ news up dirs ss ds fs) p (ds ++ fs) []
-  flies_commit up dirs ss q p ds fs i =
-      let j = flies_told q p ds fs (news up dirs ss ds fs) (each_told (λ f. known_behind xs q known f ≡ true) xs up dirs ss ds fs
-      (λ x there. if_more Is (λ f. known_behind xs q known f ≡ true) (λ f is. behind_has xs q known f is) (flush_file x.body) (i.fresh x there))) i in
-      record {
-        told = j.told;
-        knows = j.knows;
-        received = i.received;
-        durable = each_append (λ x. ForLog Is x.body) ds fs i.durable i.fresh;
-        fresh = each_nil (λ x. ForLog Is x.body);
-        low = i.low;
-      }
-
--- the server knows more files: those that the last message to the client tells of
-flies_made : (xs : List Request) (known served more : ℕ → Bool) (q p : List Message) (ds fs : List Record) (m : Message) → is_for_client m ≡ true → file_of m ≡ None → IsAnswered xs m
-    → ((f : ℕ) → more f ≡ true → (served f ≡ true) ⊎ (makes_file f (made_on xs m) ≡ true)) → Flies xs known served q p ds fs
-    → Flies xs known more (q ++ m ∷ []) p ds fs
-flies_made xs known served more q p ds fs m way none answered grows i = record {
-  told = tells_append xs q (m ∷ []) known i.told ((way, subst (λ o. IfFile (λ f. known_behind xs q known f ≡ true) o) (sym none) tt), answered, tt);
-  knows = λ f is.
-      behind_append xs q (m ∷ []) known f
-      ∙ ⊎_elim
-      (λ old. or_left (known_behind xs q known f) _ (i.knows f old))
-      (λ new. or_right (known_behind xs q known f) _ new)
-      (grows f is);
-  received = i.received;
-  durable = i.durable;
-  fresh = i.fresh;
-  low = i.low;
-}
-
--- fewer count as known to the server
-flies_served : (xs : List Request) (known served more : ℕ → Bool) (q p : List Message) (ds fs : List Record) → ((f : ℕ) → more f ≡ true → served f ≡ true)
-    → Flies xs known served q p ds fs → Flies xs known more q p ds fs
-flies_served xs known served more q p ds fs back i =
-    record { told = i.told; knows = λ f is. i.knows f (back f is); received = i.received; durable = i.durable; fresh = i.fresh; low = i.low }
-
--- what counts as known to the server, the client knows once all is delivered
-flies_settled : (xs : List Request) (known served more : ℕ → Bool) (q p : List Message) (ds fs : List Record)
-    → ((f : ℕ) → more f ≡ true → known_behind xs q known f ≡ true) → Flies xs known served q p ds fs → Flies xs known more q p ds fs
-flies_settled xs known served more q p ds fs all i =
-    record { told = i.told; knows = all; received = i.received; durable = i.durable; fresh = i.fresh; low = i.low }
-
--- all that is on its way is lost, and the end of what isn't durable
-flies_lost : (xs : List Request) (known served more : ℕ → Bool) (q p : List Message) (ds fs es : List Record)
-    → ((f : ℕ) → more f ≡ false) → Each (λ x. Member x fs) es → Flies xs known served q p ds fs → Flies xs known more [] [] (ds ++ es) []
-flies_lost xs known served more q p ds fs es none less i = record {
-  told = tt;
-  knows = λ f is. absurd (both_ways (more f) (none f) is);
-  received = each_nil (IsReceived xs (λ f. known f ≡ true));
-  durable = each_append (λ x. ForLog (λ f. known f ≡ true) x.body) ds es i.durable (λ x there. i.fresh x (less x there));
-  fresh = each_nil (λ x. ForLog (λ f. known f ≡ true) x.body);
-  low = i.low;
-}
-
-flies_dropped : (xs : List Request) (known served more : ℕ → Bool) (q p : List Message) (ds fs : List Record)
-    → ((f : ℕ) → more f ≡ false) → Flies xs known served q p ds fs → Flies xs known more [] [] ds fs
-flies_dropped xs known served more q p ds fs none i = record {
-  told = tt;
-  knows = λ f is. absurd (both_ways (more f) (none f) is);
-  received = each_nil (IsReceived xs (λ f. known f ≡ true));
-  durable = i.durable;
-  fresh = i.fresh;
-  low = i.low;
-}
+use Rattle.cs_theorems.proofs.Blank.{SentAreKnown}
+use Rattle.cs_theorems.proofs.Tells.{Flies, ForLog, IsAnswered, IsKnown, IsReceived, Tells, behind_has, behind_sent, flies_commit, flies_dropped, flies_first, flies_gone, flies_lost, flies_made, flies_more, flies_recorded, flies_sent, flies_served, flies_settled, flies_told, known_behind, known_with, received_sent, tells_sent}
+use Rattle.cs_theorems.proofs.KnownBehind.{AreFound, requests_found, sent_known, knows_settled}
 
 -- Steps
 
@@ -400,23 +64,20 @@ abbrev pub AllFly : List Entry → Type 0
 AllFly h = Flies (requests h) (λ f. client_knows h f) (λ f. is_served h f) (to_client h) (to_server h) (durable h) (fresh h)
 
 -- one message to the client, of a file that the server knows
-told_one : (h : List Entry) (m : Message) (g : ℕ) → is_for_client m ≡ true → file_of m ≡ Some g → IsAnswered (requests h) m → is_served h g ≡ true → AllFly h
+told_one : (h : List Entry) (m : Message) (g : ℕ) → is_for_client m ≡ true → file_of m ≡ Some g → IsAnswered (requests h) m → is_served h g ≡ true
+    → AllFly h
     → Each (λ n. ForClient (λ f. known_behind (requests h) (to_client h) (λ k. client_knows h k) f ≡ true) n × IsAnswered (requests h) n) (m ∷ [])
 told_one h m g way file answered known i =
     each_cons (λ n. ForClient (λ f. known_behind (requests h) (to_client h) (λ k. client_knows h k) f ≡ true) n × IsAnswered (requests h) n) m []
     ((way, subst (λ o. IfFile (λ f. known_behind (requests h) (to_client h) (λ k. client_knows h k) f ≡ true) o) (sym file) (i.knows g known)), answered)
     (each_nil (λ n. ForClient (λ f. known_behind (requests h) (to_client h) (λ k. client_knows h k) f ≡ true) n × IsAnswered (requests h) n))
 
-both_true : (b c : Bool) → b ≡ true → c ≡ true → (b && c) ≡ true
-both_true true c is also = also
-both_true false c is also = absurd cc
-
 step_grant : (h : List Entry) (g : ℕ) (bits : Caps) (end : ℕ) → AllFly h → AllFly (record { event = e.Grant g bits end; answer = answer_grant h g bits end } ∷ h)
 step_grant h g bits end i =
     let m : Message = cap_message g (granted (server h g) bits end) in
     cond_both (server_knows h g) _ _ (λ x. AllFly (record { event = e.Grant g bits end; answer = x } ∷ h))
     (λ known. cond_both (is_active (server_state h)) _ _ (λ x. AllFly (record { event = e.Grant g bits end; answer = x } ∷ h))
-    (λ active. flies_told _ _ _ _ _ _ _ (m ∷ []) (told_one h m g refl refl tt (both_true (is_active (server_state h)) (server_knows h g) active known) i) i)
+    (λ active. flies_told _ _ _ _ _ _ _ (m ∷ []) (told_one h m g refl refl tt (and_from (is_active (server_state h)) (server_knows h g) active known) i) i)
     (λ _. i))
     (λ _. i)
 
@@ -425,7 +86,7 @@ step_revoke h g bits i =
     let m : Message = cap_message g (revoked (server h g) bits) in
     cond_both (server_knows h g) _ _ (λ x. AllFly (record { event = e.Revoke g bits; answer = x } ∷ h))
     (λ known. cond_both (is_active (server_state h)) _ _ (λ x. AllFly (record { event = e.Revoke g bits; answer = x } ∷ h))
-    (λ active. flies_told _ _ _ _ _ _ _ (m ∷ []) (told_one h m g refl refl tt (both_true (is_active (server_state h)) (server_knows h g) active known) i) i)
+    (λ active. flies_told _ _ _ _ _ _ _ (m ∷ []) (told_one h m g refl refl tt (and_from (is_active (server_state h)) (server_knows h g) active known) i) i)
     (λ _. i))
     (λ _. i)
 
@@ -435,7 +96,8 @@ step_unlease h d name x unlease_session i = i
 step_unlease h d name x (unlease_sent active) i =
     flies_told _ _ _ _ _ _ _ (messages.Unlease d name ∷ [])
     (each_cons (λ n. ForClient (λ f. known_behind (requests h) (to_client h) (λ k. client_knows h k) f ≡ true) n × IsAnswered (requests h) n) (messages.Unlease d name) []
-    ((refl, tt), tt) (each_nil (λ n. ForClient (λ f. known_behind (requests h) (to_client h) (λ k. client_knows h k) f ≡ true) n × IsAnswered (requests h) n))) i
+    ((refl, tt), tt)
+    (each_nil (λ n. ForClient (λ f. known_behind (requests h) (to_client h) (λ k. client_knows h k) f ≡ true) n × IsAnswered (requests h) n))) i
 
 step_checked : (h : List Entry) (g : ℕ) (c : ClientCaps) (in_use : Caps) → client_knows h g ≡ true → AllFly h
     → AllFly (record { event = e.Check g; answer = answer_check_of c in_use } ∷ h)
@@ -495,7 +157,8 @@ sent_req h c op tid next i =
       told = tells_sent (requests h) ys (to_client h) (λ f. client_knows h f) i.told;
       knows = λ f is. behind_sent (requests h) ys (to_client h) (λ k. client_knows h k) f i.told ∙ i.knows f is;
       received = each_end (IsReceived (requests h ++ ys) (λ f. client_knows h f ≡ true)) (to_server h) (messages.Req tid None op)
-          (λ m there. received_sent (requests h) ys (λ f. client_knows h f ≡ true) m (i.received m there)) (found_last tid c op (requests h) (false_from_ne_true (has_request tid (requests h)) (λ was. omega (arith, i.low tid was, next))));
+          (λ m there. received_sent (requests h) ys (λ f. client_knows h f ≡ true) m (i.received m there))
+          (found_last tid c op (requests h) (false_from_ne_true (has_request tid (requests h)) (λ was. omega (arith, i.low tid was, next))));
       durable = i.durable;
       fresh = i.fresh;
       low = λ t was.
@@ -515,7 +178,8 @@ step_req h c op x (req_sent active) i = sent_req h c op _ refl i
 -- what an answer that is delivered first makes is known then
 abbrev ToldMakes : List Entry → Type 0
 ToldMakes h =
-    (tid : ℕ) (o : OpAnswer) (ttl : ℕ) (q : List Message) → to_client h ≡ messages.Unsafe tid o ttl ∷ q → (f : ℕ) → makes_file f (made_by (op_of tid (requests h)) o) ≡ true
+    (tid : ℕ) (o : OpAnswer) (ttl : ℕ) (q : List Message) → to_client h ≡ messages.Unsafe tid o ttl ∷ q → (f : ℕ) → makes_file f
+    (made_by (op_of tid (requests h)) o) ≡ true
     → client_knows (record { event = e.ToClient; answer = a.Unsafe tid o } ∷ h) f ≡ true
 
 first_of : (h : List Entry) (m : Message) (q : List Message) → to_client h ≡ m ∷ q → (more : ℕ → Bool)
@@ -528,12 +192,18 @@ first_of h m q is more grows i =
 
 step_to_client : (h : List Entry) (x : Answer) → FirstIs h x → ToldMakes h → AllFly h → AllFly (record { event = e.ToClient; answer = x } ∷ h)
 step_to_client h x first_idle makes i = i
-step_to_client h x (first_cap g seq bits end q is) makes i = first_of h (messages.Cap g seq bits end) q is (λ f. client_knows h f) (λ f was. plain (client_knows h f) was) i
-step_to_client h x (first_flush_ack g tid q is) makes i = first_of h (messages.FlushAck g tid) q is (λ f. client_knows h f) (λ f was. plain (client_knows h f) was) i
-step_to_client h x (first_safe tid q is) makes i = first_of h (messages.Safe tid) q is (λ f. client_knows h f) (λ f was. plain (client_knows h f) was) i
-step_to_client h x (first_resumed told_now q is) makes i = first_of h (messages.Resumed told_now) q is (λ f. client_knows h f) (λ f was. plain (client_knows h f) was) i
-step_to_client h x (first_unlease d name q is) makes i = first_of h (messages.Unlease d name) q is (λ f. client_knows h f) (λ f was. plain (client_knows h f) was) i
-step_to_client h x (first_snap number d now q is) makes i = first_of h (messages.Snap number d now) q is (λ f. client_knows h f) (λ f was. plain (client_knows h f) was) i
+step_to_client h x (first_cap g seq bits end q is) makes i =
+    first_of h (messages.Cap g seq bits end) q is (λ f. client_knows h f) (λ f was. plain (client_knows h f) was) i
+step_to_client h x (first_flush_ack g tid q is) makes i =
+    first_of h (messages.FlushAck g tid) q is (λ f. client_knows h f) (λ f was. plain (client_knows h f) was) i
+step_to_client h x (first_safe tid q is) makes i =
+    first_of h (messages.Safe tid) q is (λ f. client_knows h f) (λ f was. plain (client_knows h f) was) i
+step_to_client h x (first_resumed told_now q is) makes i =
+    first_of h (messages.Resumed told_now) q is (λ f. client_knows h f) (λ f was. plain (client_knows h f) was) i
+step_to_client h x (first_unlease d name q is) makes i =
+    first_of h (messages.Unlease d name) q is (λ f. client_knows h f) (λ f was. plain (client_knows h f) was) i
+step_to_client h x (first_snap number d now q is) makes i =
+    first_of h (messages.Snap number d now) q is (λ f. client_knows h f) (λ f was. plain (client_knows h f) was) i
 step_to_client h x (first_unsafe tid o ttl q is) makes i =
     first_of h (messages.Unsafe tid o ttl) q is (λ f. client_knows (record { event = e.ToClient; answer = a.Unsafe tid o } ∷ h) f)
     (λ f was. ⊎_elim
@@ -544,11 +214,13 @@ step_to_client h x (first_unsafe tid o ttl q is) makes i =
 -- the file of a flush's message is the flush's
 pub flush_known : (xs : List Request) (Known : ℕ → Type 0) (x : Flush) → IsReceived xs Known (flush_message x) → Known x.file
 flush_known xs Known x =
-    cond_both x.snap (messages.FlushSnap x.file x.tid x.follows x.meta) (messages.Flush x.file x.tid x.follows x.meta) (λ m. IsReceived xs Known m → Known x.file)
+    cond_both x.snap (messages.FlushSnap x.file x.tid x.follows x.meta) (messages.Flush x.file x.tid x.follows x.meta)
+    (λ m. IsReceived xs Known m → Known x.file)
     (λ _ k. k.1) (λ _ k. k.1)
 
 -- one record more, which makes these
-served_more : (h : List Entry) (fs : List Record) (r : Record) (f : ℕ) → (setup_file h f || makes_file f (made_in (durable h ++ (fs ++ r ∷ [])))) ≡ true
+served_more : (h : List Entry) (fs : List Record) (r : Record) (f : ℕ)
+    → (setup_file h f || makes_file f (made_in (durable h ++ (fs ++ r ∷ [])))) ≡ true
     → ((setup_file h f || makes_file f (made_in (durable h ++ fs))) ≡ true) ⊎ (makes_file f (made_of r.body) ≡ true)
 served_more h fs r f is =
     ⊎_elim
@@ -564,7 +236,8 @@ served_more h fs r f is =
         ap (makes_file f) (ap made_in (sym (append_assoc (durable h) fs (r ∷ []))) ∙ flat_map-append (λ x. made_of x.body) (durable h ++ fs) (r ∷ []))
         ∙ list_any-append (is_made_file f) (made_in (durable h ++ fs)) (made_of r.body ++ [])
 
-served_before : (h : List Entry) (fs : List Record) (r : Record) → made_of r.body ≡ [] → (f : ℕ) → (setup_file h f || makes_file f (made_in (durable h ++ (fs ++ r ∷ [])))) ≡ true
+served_before : (h : List Entry) (fs : List Record) (r : Record) → made_of r.body ≡ [] → (f : ℕ)
+    → (setup_file h f || makes_file f (made_in (durable h ++ (fs ++ r ∷ [])))) ≡ true
     → (setup_file h f || makes_file f (made_in (durable h ++ fs))) ≡ true
 served_before h fs r none f is =
     ⊎_elim (λ old. old) (λ new. absurd (both_ways (makes_file f (made_of r.body)) (ap (makes_file f) none) new)) (served_more h fs r f is)
@@ -576,7 +249,7 @@ served_with h fs f = is_active (server_state h) && (setup_file h f || makes_file
 still_served : (h : List Entry) (r : Record) → made_of r.body ≡ [] → (f : ℕ) → served_with h (fresh h ++ r ∷ []) f ≡ true → is_served h f ≡ true
 still_served h r none f is =
     let both = and_parts (is_active (server_state h)) _ is in
-    both_true (is_active (server_state h)) (server_knows h f) both.0 (served_before h (fresh h) r none f both.1)
+    and_from (is_active (server_state h)) (server_knows h f) both.0 (served_before h (fresh h) r none f both.1)
 
 -- after one record more
 abbrev Recorded : List Entry → List Message → List Message → Record → Type 0
@@ -590,10 +263,6 @@ recorded_plain h r none known i =
 abbrev Behind : List Entry → List Message → List Message → List Record → Type 0
 Behind h q p fs = Flies (requests h) (λ f. client_knows h f) (λ f. served_with h fs f) q p (durable h) fs
 
--- what the server tells with the last of what is sent again
-abbrev Goes : List Entry → List Message
-Goes h = resumption (is_last (server_state h)) (all_realms h)
-
 -- a message to the client that is of no file and makes none
 abbrev Quiet : List Entry → List Message → Message → Type 0
 Quiet h q n = ForClient (λ f. known_behind (requests h) q (λ k. client_knows h k) f ≡ true) n × IsAnswered (requests h) n
@@ -602,11 +271,11 @@ told_goes : (h : List Entry) (q p : List Message) (fs : List Record) (b : Bool) 
 told_goes h q p fs b i = flies_told _ _ _ _ _ _ _ (resumption b (all_realms h)) (each_resumption (Quiet h q) b (all_realms h) ((refl, tt), tt)) i
 
 behind_flushed : (h : List Entry) (y : Flush) (q : List Message) → to_server h ≡ flush_message y ∷ q → AllFly h
-    → Behind h (to_client h ++ Goes h) (drop 1 (to_server h)) (fresh h ++ recorded (to_server h))
+    → Behind h (to_client h ++ resumption_now h) (drop 1 (to_server h)) (fresh h ++ recorded (to_server h))
 behind_flushed h y q is i =
-    subst (λ p. Behind h (to_client h ++ Goes h) (drop 1 p) (fresh h ++ recorded p)) (sym is)
-    (subst (λ rs. Behind h (to_client h ++ Goes h) q (fresh h ++ rs)) (sym (recorded_one y))
-    (subst (λ p. Recorded h (to_client h ++ Goes h) (drop 1 p) (flush_record y)) is
+    subst (λ p. Behind h (to_client h ++ resumption_now h) (drop 1 p) (fresh h ++ recorded p)) (sym is)
+    (subst (λ rs. Behind h (to_client h ++ resumption_now h) q (fresh h ++ rs)) (sym (recorded_one y))
+    (subst (λ p. Recorded h (to_client h ++ resumption_now h) (drop 1 p) (flush_record y)) is
     (told_goes h (to_client h) (drop 1 (to_server h)) (fresh h ++ flush_record y ∷ []) (is_last (server_state h))
     (flies_served _ _ _ _ _ _ _ _ (λ f there. still_served h (flush_record y) refl f there)
     (flies_recorded _ _ _ _ _ _ _ (flush_record y) known (flies_gone _ _ _ _ _ _ _ i))))))
@@ -615,18 +284,18 @@ behind_flushed h y q is i =
     known = flush_known (requests h) (IsKnown h) y (i.received (flush_message y) (member_first (flush_message y) q (to_server h) is))
 
 behind_requested : (h : List Entry) (tid : ℕ) (ino : Option ℕ) (op : ReqOp) (q : List Message) → to_server h ≡ messages.Req tid ino op ∷ q → AllFly h
-    → Behind h (to_client h ++ unsafe_message (server_state h) tid (answer_on (names h) op) ∷ Goes h) (drop 1 (to_server h))
+    → Behind h (to_client h ++ unsafe_message (server_state h) tid (answer_on (names h) op) ∷ resumption_now h) (drop 1 (to_server h))
     (fresh h ++ requested (answer_on (names h) op) (to_server h))
 behind_requested h tid ino op q is i =
-    subst (λ p. Behind h (to_client h ++ m ∷ Goes h) (drop 1 p) (fresh h ++ requested reply p)) (sym is)
-    (subst (λ p. Recorded h (to_client h ++ m ∷ Goes h) (drop 1 p) done) is
-    (subst (λ r. Recorded h r (drop 1 (to_server h)) done) (append_assoc (to_client h) (m ∷ []) (Goes h))
+    subst (λ p. Behind h (to_client h ++ m ∷ resumption_now h) (drop 1 p) (fresh h ++ requested reply p)) (sym is)
+    (subst (λ p. Recorded h (to_client h ++ m ∷ resumption_now h) (drop 1 p) done) is
+    (subst (λ r. Recorded h r (drop 1 (to_server h)) done) (append_assoc (to_client h) (m ∷ []) (resumption_now h))
     (told_goes h (to_client h ++ m ∷ []) (drop 1 (to_server h)) (fresh h ++ done ∷ []) (is_last (server_state h))
     (flies_made (requests h) (λ f. client_knows h f) (λ f. is_served h f) _ (to_client h) (drop 1 (to_server h)) (durable h) (fresh h ++ done ∷ []) m refl refl
     asked.0
     (λ f there.
     let both = and_parts (is_active (server_state h)) _ there in
-    ⊎_elim (λ old. inl (both_true (is_active (server_state h)) (server_knows h f) both.0 old))
+    ⊎_elim (λ old. inl (and_from (is_active (server_state h)) (server_knows h f) both.0 old))
     (λ new. inr (ap (λ o. makes_file f (made_by o reply)) asked.1 ∙ new)) (served_more h (fresh h) done f both.1))
     (flies_recorded _ _ _ _ _ _ _ done tt (flies_gone _ _ _ _ _ _ _ i))))))
   where
@@ -660,7 +329,7 @@ settle_now h x now i =
     (λ f is.
     let both = and_parts (is_active (server_state (record { event = e.ToMds; answer = x } ∷ h))) _ is in
     ⊎_elim
-    (λ was. i.knows f (both_true (is_active (server_state h)) (server_knows (record { event = e.ToMds; answer = x } ∷ h) f) was both.1))
+    (λ was. i.knows f (and_from (is_active (server_state h)) (server_knows (record { event = e.ToMds; answer = x } ∷ h) f) was both.1))
     (λ all. all f both.1)
     (now both.0)) i
 
@@ -668,11 +337,12 @@ step_to_mds : (h : List Entry) (x : Answer) → ReceivedIs h x → KnowsNow h x 
 step_to_mds h x received_idle now i = i
 step_to_mds h x (received_ack g seq bits q is) now i = flies_gone _ _ _ _ _ _ _ i
 step_to_mds h x (received_reconnect caps known resends q is) now i =
-    settle_now h (a.Reconnected (length caps) resends) now (told_goes h (to_client h) (drop 1 (to_server h)) (fresh h) (resends == 0) (flies_gone _ _ _ _ _ _ _ i))
+    settle_now h (a.Reconnected (length caps) resends) now
+    (told_goes h (to_client h) (drop 1 (to_server h)) (fresh h) (resends == 0) (flies_gone _ _ _ _ _ _ _ i))
 step_to_mds h x (received_flush y q is first) now i = settle_now h (a.Flushed y.file y.tid) now (behind_flushed h y q is i)
 step_to_mds h x (received_again y q is again) now i =
     settle_now h (a.FlushDup y.file y.tid) now
-    (subst (λ r. Behind h r (drop 1 (to_server h)) (fresh h)) (append_assoc (to_client h) (acked_again y.file y.tid (durable h)) (Goes h))
+    (subst (λ r. Behind h r (drop 1 (to_server h)) (fresh h)) (append_assoc (to_client h) (acked_again y.file y.tid (durable h)) (resumption_now h))
     (told_goes h (to_client h ++ acked_again y.file y.tid (durable h)) (drop 1 (to_server h)) (fresh h) (is_last (server_state h))
     (flies_gone _ _ _ _ _ _ _
     (flies_told _ _ _ _ _ _ _ (acked_again y.file y.tid (durable h))
@@ -681,11 +351,12 @@ step_to_mds h x (received_again y q is again) now i =
   where
     known : IsKnown h y.file
     known = flush_known (requests h) (IsKnown h) y (i.received (flush_message y) (member_first (flush_message y) q (to_server h) is))
-step_to_mds h x (received_req tid ino op q is first) now i = settle_now h (a.Req tid (answer_on (names h) op)) now (behind_requested h tid ino op q is i)
+step_to_mds h x (received_req tid ino op q is first) now i =
+    settle_now h (a.Req tid (answer_on (names h) op)) now (behind_requested h tid ino op q is i)
 step_to_mds h x (received_req_again tid ino op q is again) now i =
     let o : OpAnswer = unwrap_or (answer_kept tid (stand h)) replies.Missing in
     settle_now h (a.ReqDup tid o) now
-    (subst (λ r. Behind h r (drop 1 (to_server h)) (fresh h)) (append_assoc (to_client h) (answered_again tid o (durable h)) (Goes h))
+    (subst (λ r. Behind h r (drop 1 (to_server h)) (fresh h)) (append_assoc (to_client h) (answered_again tid o (durable h)) (resumption_now h))
     (told_goes h (to_client h ++ answered_again tid o (durable h)) (drop 1 (to_server h)) (fresh h) (is_last (server_state h))
     (flies_gone _ _ _ _ _ _ _
     (flies_told _ _ _ _ _ _ _ (answered_again tid o (durable h))
@@ -694,7 +365,8 @@ step_to_mds h x (received_req_again tid ino op q is again) now i =
 
 -- what is sent again
 
-flush_again : (xs : List Request) (Known : ℕ → Type 0) (ys : List Flush) → Each (λ x. Known x.file) ys → Each (IsReceived xs Known) (map flush_message ys)
+flush_again : (xs : List Request) (Known : ℕ → Type 0) (ys : List Flush) → Each (λ x. Known x.file) ys
+    → Each (IsReceived xs Known) (map flush_message ys)
 flush_again xs Known [] all = each_nil (IsReceived xs Known)
 flush_again xs Known (y ∷ ys) all =
     each_cons (IsReceived xs Known) (flush_message y) (map flush_message ys) (flush_received xs Known y (all y (inl refl)))
@@ -706,14 +378,6 @@ req_again xs Known rs [] all = each_nil (IsReceived xs Known)
 req_again xs Known rs (u ∷ us) all =
     each_cons (IsReceived xs Known) (request_again rs u) (map (request_again rs) us) (all u (inl refl))
     (req_again xs Known rs us (λ x there. all x (inr there)))
-
--- each flush that was sent is of a file that the client knows
-abbrev pub SentAreKnown : List Entry → Type 0
-SentAreKnown h = Each (λ x. client_knows h x.file ≡ true) (sent h)
-
--- each request that was sent is found
-abbrev AreFound : List Entry → Type 0
-AreFound h = Each (λ x. (has_request x.tid (requests h) ≡ true) × (op_of x.tid (requests h) ≡ Some x.op)) (requests h)
 
 step_reconnect : (h : List Entry) (x : Answer) → ReconnectIs h x → AreFound h → SentAreKnown h → AllFly h → AllFly (record { event = e.Reconnect; answer = x } ∷ h)
 step_reconnect h x unbroken found known i = i
@@ -736,7 +400,8 @@ step_snap : (h : List Entry) (d : ℕ) (name : List ℕ) (x : Answer) → SnapIs
 step_snap h d name x snap_unknown i = i
 step_snap h d name x snap_session i = i
 step_snap h d name x snap_exists i = i
-step_snap h d name x (snap_taken directory active free) i = recorded_plain h (record { body = bodies.Snap (greatest_number (stand h) + 1) d name }) refl tt i
+step_snap h d name x (snap_taken directory active free) i =
+    recorded_plain h (record { body = bodies.Snap (greatest_number (stand h) + 1) d name }) refl tt i
 
 step_remove : (h : List Entry) (t : ℕ) (x : Answer) → RemoveIs h t x → AllFly h → AllFly (record { event = e.RmSnap t; answer = x } ∷ h)
 step_remove h t x remove_none i = i
@@ -769,7 +434,7 @@ step_file p h g d i =
       knows = λ f is.
           ⊎_elim
           (λ setup. behind_has (requests h) (to_client h) more f (or_left _ _ setup))
-          (λ made. j.knows f (both_true (is_active (server_state h)) (server_knows h f) (active f is) (or_right (setup_file h f) _ made)))
+          (λ made. j.knows f (and_from (is_active (server_state h)) (server_knows h f) (active f is) (or_right (setup_file h f) _ made)))
           (or_cases (setup_file (entry p h (e.File g d) ∷ h) f) (makes_file f (server_made h)) (and_parts (is_active (server_state h)) _ is).1);
       received = j.received;
       durable = j.durable;
@@ -780,7 +445,8 @@ step_file p h g d i =
     active : (f : ℕ) → is_served (entry p h (e.File g d) ∷ h) f ≡ true → is_active (server_state h) ≡ true
     active f is = (and_parts (is_active (server_state h)) _ is).0
 
-pub fly_step : (p : ℕ) (h : List Entry) (x : Event) → ToldMakes h → AreFound h → SentAreKnown h → KnowsNow h (answer_to_mds h) → AllFly h → AllFly (entry p h x ∷ h)
+pub fly_step : (p : ℕ) (h : List Entry) (x : Event) → ToldMakes h → AreFound h → SentAreKnown h → KnowsNow h (answer_to_mds h) → AllFly h
+    → AllFly (entry p h x ∷ h)
 fly_step p h (e.File f d) makes found known now i = step_file p h f d i
 fly_step p h (e.Grant g bits end) makes found known now i = step_grant h g bits end i
 fly_step p h (e.Revoke g bits) makes found known now i = step_revoke h g bits i
@@ -809,130 +475,6 @@ nothing_flies = record {
   fresh = each_nil (λ x. ForLog (IsKnown []) x.body);
   low = λ t is. absurd (both_ways false refl is);
 }
-
--- Flushes that were sent
-
-sent_known_flush : (h : List Entry) (g : ℕ) (x : Answer) → FlushIs h g x → SentAreKnown h → SentAreKnown (record { event = e.Flush g; answer = x } ∷ h)
-sent_known_flush h g x head_unknown i = i
-sent_known_flush h g x head_session i = i
-sent_known_flush h g x head_snap i = i
-sent_known_flush h g x head_clean i = i
-sent_known_flush h g x (head_sent known active free changed) i = each_end (λ y. client_knows h y.file ≡ true) (sent h) _ i known
-
-sent_known_snaps : (h : List Entry) (g : ℕ) (x : Answer) → FlushSnapsIs h g x → SentAreKnown h
-    → SentAreKnown (record { event = e.FlushSnaps g; answer = x } ∷ h)
-sent_known_snaps h g x flush_unknown i = i
-sent_known_snaps h g x flush_session i = i
-sent_known_snaps h g x flush_none i = i
-sent_known_snaps h g x flush_writing i = i
-sent_known_snaps h g x (flush_sent y ys known active is closed) i = each_end (λ z. client_knows h z.file ≡ true) (sent h) _ i known
-
-sent_known_step : (p : ℕ) (h : List Entry) (x : Event) → SentAreKnown h → SentAreKnown (entry p h x ∷ h)
-sent_known_step p h (e.Flush g) i = sent_known_flush h g _ (flush_is h g) i
-sent_known_step p h (e.FlushSnaps g) i = sent_known_snaps h g _ (flush_snaps_is h g) i
-sent_known_step p h (e.File f d) i = λ y there. client_grows (e.File f d) _ h y.file (i y there)
-sent_known_step p h e.ToClient i = λ y there. client_grows e.ToClient _ h y.file (i y there)
-sent_known_step p h _ i = i
-
-pub sent_known : (p : ℕ) (h : List Entry) → IsRun p h → SentAreKnown h
-sent_known p h run = of_run p SentAreKnown (each_nil (λ x. client_knows [] x.file ≡ true)) (λ g x fit before i. sent_known_step p g x i) h run
-
-requests_found : (p : ℕ) (h : List Entry) → IsRun p h → AreFound h
-requests_found p h run x there =
-    let alike = asked_alike p h run in
-    let k = was_asked (requests h) (asked h) x alike there in (
-      any_true (λ y. y.tid == x.tid) (requests h) x there (eq-eqb x.tid x.tid refl),
-      op_found 0 (requests h) (asked h) (record { tid = x.tid; op = x.op; answer = k.0 })
-          (settles_rises 0 (setup_names h) (asked h) (asked_settles p h run)) alike k.1,
-    )
-
--- What the server knows, the client knows once all is delivered, where nothing is on its way to the server.
-
-behind_made : (xs : List Request) (q : List Message) (known : ℕ → Bool) (f : ℕ) (m : Message) → Member m q → makes_file f (made_on xs m) ≡ true
-    → known_behind xs q known f ≡ true
-behind_made xs [] known f m there is = absurd there
-behind_made xs (n ∷ q) known f m (inl same) is =
-    behind_has xs q (λ k. known_with xs n known k) f (or_right (known f) _ (subst (λ l. makes_file f (made_on xs l) ≡ true) (sym same) is))
-behind_made xs (n ∷ q) known f m (inr there) is = behind_made xs q (λ k. known_with xs n known k) f m there is
-
--- the answer of a number
-pub record AnswerOn (t : ℕ) (q : List Message) : Type 0 where
-  pub answer : OpAnswer
-  pub ttl : ℕ
-  pub there : Member (messages.Unsafe t answer ttl) q
-
-answer_more : (t : ℕ) (m : Message) (q : List Message) → AnswerOn t q → AnswerOn t (m ∷ q)
-answer_more t m q i = record { answer = i.answer; ttl = i.ttl; there = inr i.there }
-
-answer_on_way : (t : ℕ) (q : List Message) → Member t (unsafe_tids q) → AnswerOn t q
-answer_on_way t [] there = absurd there
-answer_on_way t (messages.Unsafe u o ttl ∷ q) (inl is) =
-    record { answer = o; ttl = ttl; there = inl (ap (λ n. let m : Message = messages.Unsafe n o ttl in m) is) }
-answer_on_way t (messages.Unsafe u o ttl ∷ q) (inr there) = answer_more t (messages.Unsafe u o ttl) q (answer_on_way t q there)
-answer_on_way t (m ∷ q) there = answer_more t m q (answer_on_way t q there)
-
-made_one_of : (xs : List Asked) (f : ℕ) → makes_file f (asked_made xs) ≡ true
-    → (x : Asked) × Member x xs × (makes_file f (made_by (Some x.op) x.answer) ≡ true)
-made_one_of [] f is = absurd cc
-made_one_of (x ∷ xs) f is =
-    ⊎_elim
-    (λ own. (x, inl refl, own))
-    (λ rest. let k = made_one_of xs f rest in (k.0, inr k.1, k.2))
-    (or_cases (makes_file f (made_by (Some x.op) x.answer)) (makes_file f (asked_made xs))
-    (sym (list_any-append (is_made_file f) (made_by (Some x.op) x.answer) (asked_made xs)) ∙ is))
-
-pub knows_settled : (p : ℕ) (h : List Entry) → IsRun p h → is_whole h ≡ true → to_server h ≡ [] → (f : ℕ) → server_knows h f ≡ true
-    → known_behind (requests h) (to_client h) (λ k. client_knows h k) f ≡ true
-knows_settled p h run whole none f served =
-    ⊎_elim
-    (λ setup. behind_has (requests h) (to_client h) (λ k. client_knows h k) f (or_left (setup_file h f) _ setup))
-    (λ made. ⊎_elim
-    (λ got. behind_has (requests h) (to_client h) (λ k. client_knows h k) f
-    (or_right (setup_file h f) _ (subst (λ ms. makes_file f ms ≡ true) (sym i.made) got)))
-    (λ missing. let k = made_one_of i.missing f missing in on_way k.0 k.1 k.2)
-    (or_cases (makes_file f (asked_made i.got)) (makes_file f (asked_made i.missing)) (sym split ∙ made)))
-    (or_cases (setup_file h f) (makes_file f (server_made h)) served)
-  where
-    i : AskedAnswered h
-    i = asked_answered p h run
-
-    stands : AskedStands h
-    stands = asked_stands p h run
-
-    all : asked_of (stand h) ≡ asked h
-    all = all_stand (subst (λ b. Sending b (asked h) (asked_of (stand h)) []) whole (subst (λ r. Sending (is_whole h) (asked h) (asked_of (stand h)) r) none stands))
-
-    split : makes_file f (server_made h) ≡ (makes_file f (asked_made i.got) || makes_file f (asked_made i.missing))
-    split =
-        ap (makes_file f) (log_made (stand h) ∙ (ap asked_made (all ∙ i.front) ∙ made_append i.got i.missing))
-        ∙ list_any-append (is_made_file f) (asked_made i.got) (asked_made i.missing)
-
-    up : RisesFrom 0 (asked_tids (asked h))
-    up = settles_rises 0 (setup_names h) (asked h) (asked_settles p h run)
-
-    numbers : Numbers true (asked_tids (asked h)) (asked_tids i.got) (unsafe_tids (to_client h))
-    numbers =
-        subst (λ ts. Numbers true (asked_tids (asked h)) (asked_tids i.got) ts) (append-nil (unsafe_tids (to_client h)))
-        (subst (λ r. Numbers true (asked_tids (asked h)) (asked_tids i.got) (unsafe_tids (to_client h) ++ req_tids r)) none
-        (subst (λ b. Numbers b (asked_tids (asked h)) (asked_tids i.got) (unsafe_tids (to_client h) ++ req_tids (to_server h))) whole i.numbers))
-
-    same_missing : numbers.missing ≡ asked_tids i.missing
-    same_missing = cancel (asked_tids i.got) numbers.missing (asked_tids i.missing) (sym numbers.front ∙ (ap asked_tids i.front ∙ tids_append i.got i.missing))
-
-    on_way : (x : Asked) → Member x i.missing → makes_file f (made_by (Some x.op) x.answer) ≡ true
-        → known_behind (requests h) (to_client h) (λ k. client_knows h k) f ≡ true
-    on_way x there makes =
-        let among : Member x (asked h) = subst (λ l. Member x l) (sym i.front) (member_right x i.got i.missing there) in
-        let flies : Member x.tid (unsafe_tids (to_client h))
-        = (filter_each (λ t. nat_lt (last_asked i.got) t) (unsafe_tids (to_client h)) x.tid
-            (subst (λ ts. Member x.tid ts) (sym (numbers.rest refl ∙ same_missing)) (member_tid x i.missing there))).1 in
-        let k : AnswerOn x.tid (to_client h) = answer_on_way x.tid (to_client h) flies in
-        let told = all_told p h run (messages.Unsafe x.tid k.answer k.ttl) k.there in
-        let y : Asked = record { tid = x.tid; op = told.0; answer = k.answer } in
-        let one : y ≡ x = same_tid 0 y x (asked h) up (subst (λ l. Member y l) all told.1) among refl in
-        let op : op_of x.tid (requests h) ≡ Some x.op = op_found 0 (requests h) (asked h) x up (asked_alike p h run) among in
-        behind_made (requests h) (to_client h) (λ j. client_knows h j) f (messages.Unsafe x.tid k.answer k.ttl) k.there
-        (ap (λ o. makes_file f (made_by o k.answer)) op ∙ (ap (λ (z : Asked). makes_file f (made_by (Some x.op) z.answer)) one ∙ makes))
 
 may_deliver : (h : List Entry) → CanFollow h e.ToMds
 may_deliver h = record { spelled = refl; setup = λ is. absurd cc }

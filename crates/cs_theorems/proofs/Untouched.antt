@@ -8,7 +8,7 @@ use Rattle.cs_bits.specs.declared.Caps.{Caps}
 use Rattle.cs_bits.specs.Bits.{no_caps, is_empty}
 use Rattle.cs_parts.specs.declared.capabilities.ClientCaps.{ClientCaps}
 use Rattle.cs_parts.specs.declared.references.Live.{Live}
-use Rattle.cs_parts.specs.Capabilities.{no_client_caps, no_server_caps, granted, revoked, held_back, is_complete, restarted}
+use Rattle.cs_parts.specs.Capabilities.{no_client_caps, no_server_caps, held_back, is_complete, restarted}
 use Rattle.cs_capsnap.specs.declared.snap.CapSnap.{CapSnap as Snap}
 use Rattle.cs_flush.specs.declared.sent.Sent.{Sent}
 use Rattle.cs_laws.specs.declared.events.Event.{Event}
@@ -18,7 +18,7 @@ use Rattle.cs_laws.specs.declared.answers.Answer.{Answer}
 use Rattle.cs_laws.specs.declared.answers.Answer.TheVariants as a
 use Rattle.cs_laws.specs.declared.answers.Entry.{Entry}
 use Rattle.cs_laws.specs.declared.messages.Message.TheVariants as messages
-use Rattle.cs_laws.specs.Answers.{answer_check_of, answer_check, answer_grant, answer_revoke, sent_cap}
+use Rattle.cs_laws.specs.Answers.{answer_check_of, answer_check, answer_grant, answer_revoke}
 use Rattle.cs_laws.specs.CapSnaps.{CapSnap}
 use Rattle.cs_laws.specs.ClientKnows.{client_knows}
 use Rattle.cs_laws.specs.Events.{setup_file, setup_file_then}
@@ -220,9 +220,9 @@ capped_known p h run = of_run p CappedAreKnown (each_nil (λ f. client_knows [] 
 abbrev AllUngiven : List Entry → Type 0
 AllUngiven h = (f : ℕ) → server_knows h f ≡ false → client_knows h f ≡ false → server h f ≡ no_server_caps
 
-
 -- one that it doesn't know it didn't know
-known_more : (h : List Entry) (rs : List Record) (f : ℕ) → (setup_file h f || makes_file f (made_in (durable h ++ (fresh h ++ rs)))) ≡ false → server_knows h f ≡ false
+known_more : (h : List Entry) (rs : List Record) (f : ℕ) → (setup_file h f || makes_file f (made_in (durable h ++ (fresh h ++ rs)))) ≡ false
+    → server_knows h f ≡ false
 known_more h rs f unknown =
     false_from_ne_true (server_knows h f)
     (λ known. both_ways (setup_file h f || makes_file f (made_in (durable h ++ (fresh h ++ rs)))) unknown
@@ -250,7 +250,8 @@ ungiven_revoke h g bits i =
     (λ _ f unknown none. rw (server_apart h g f known unknown) (i f unknown none)) (λ _. i)) (λ _. i)
 
 -- what is reported is of known files
-taken_none_of : (h : List Entry) (f : ℕ) (s : ServerCaps) → CappedAreKnown h → client_knows h f ≡ false → TakenIs (λ g. client h g) (capped h) f s → s ≡ no_server_caps
+taken_none_of : (h : List Entry) (f : ℕ) (s : ServerCaps) → CappedAreKnown h → client_knows h f ≡ false → TakenIs (λ g. client h g) (capped h) f s
+    → s ≡ no_server_caps
 taken_none_of h f s known none (taken_report there) = absurd (both_ways (client_knows h f) none (known f there))
 taken_none_of h f s known none (taken_none gone) = refl
 
@@ -267,20 +268,23 @@ ungiven_to_mds p h x run (received_reconnect caps known resends q is) i = λ f u
     (taken_none_of h f _ (capped_known p h run) none (taken_is (λ g. client h g) (capped h) f))
 ungiven_to_mds p h x run (received_flush y q is first) i = λ f unknown none. i f (known_more h (recorded (to_server h)) f unknown) none
 ungiven_to_mds p h x run (received_again y q is again) i = i
-ungiven_to_mds p h x run (received_req tid ino op q is first) i = λ f unknown none. i f (known_more h (requested (answer_on (names h) op) (to_server h)) f unknown) none
+ungiven_to_mds p h x run (received_req tid ino op q is first) i =
+    λ f unknown none. i f (known_more h (requested (answer_on (names h) op) (to_server h)) f unknown) none
 ungiven_to_mds p h x run (received_req_again tid ino op q is again) i = i
 
 ungiven_snap : (h : List Entry) (d : ℕ) (name : List ℕ) (x : Answer) → SnapIs h d name x → AllUngiven h → AllUngiven (record { event = e.Snap d name; answer = x } ∷ h)
 ungiven_snap h d name x snap_unknown i = i
 ungiven_snap h d name x snap_session i = i
 ungiven_snap h d name x snap_exists i = i
-ungiven_snap h d name x (snap_taken directory active free) i = λ f unknown none. i f (known_more h (record { body = bodies.Snap (greatest_number (stand h) + 1) d name } ∷ []) f unknown) none
+ungiven_snap h d name x (snap_taken directory active free) i =
+    λ f unknown none. i f (known_more h (record { body = bodies.Snap (greatest_number (stand h) + 1) d name } ∷ []) f unknown) none
 
 ungiven_remove : (h : List Entry) (s : ℕ) (x : Answer) → RemoveIs h s x → AllUngiven h → AllUngiven (record { event = e.RmSnap s; answer = x } ∷ h)
 ungiven_remove h s x remove_none i = i
 ungiven_remove h s x remove_session i = i
 ungiven_remove h s x remove_gone i = i
-ungiven_remove h s x (removed there stays active) i = λ f unknown none. i f (known_more h (record { body = bodies.Removal s (greatest_number (stand h) + 1) } ∷ []) f unknown) none
+ungiven_remove h s x (removed there stays active) i =
+    λ f unknown none. i f (known_more h (record { body = bodies.Removal s (greatest_number (stand h) + 1) } ∷ []) f unknown) none
 
 setup_before : (x : Event) (y : Answer) (f : ℕ) (was made : Bool) → (setup_file_then x y f was || made) ≡ false → (was || made) ≡ false
 setup_before x y f was made none =
@@ -305,7 +309,8 @@ pub ungiven_both : (p : ℕ) (h : List Entry) → IsRun p h → AllUngiven h
 ungiven_both p h run = of_run p AllUngiven (λ f unknown none. refl) (λ g x fit before i. ungiven_step p g x before i) h run
 
 -- While its session is active it has none of a file that it doesn't know.
-pub ungiven : (p : ℕ) (h : List Entry) → IsRun p h → is_active (server_state h) ≡ true → (f : ℕ) → server_knows h f ≡ false → server h f ≡ no_server_caps
+pub ungiven : (p : ℕ) (h : List Entry) → IsRun p h → is_active (server_state h) ≡ true → (f : ℕ) → server_knows h f ≡ false
+    → server h f ≡ no_server_caps
 ungiven p h run active f unknown =
     ungiven_both p h run f unknown
     (false_from_ne_true (client_knows h f) (λ known. both_ways (server_knows h f) unknown (client_in_server p h run active f known)))

@@ -1,6 +1,6 @@
 -- An inode that is yet to be drawn is unused, and few are drawn.
-use Rattle.std.proofs.Common.{◌≡◌, refl, sym, ap, ◌∙◌, subst, ℕ, ◌+◌, ◌<◌, ◌≤◌, ◌==◌, ◌||◌, Bool, true, false, List, [], ◌∷◌, ◌++◌, length, Some, arith, ⊎_elim}
-use Rattle.std.proofs.lemmas.Bool.{eqb-true, false_from_ne_true, or_cases, or_left, or_right}
+use Rattle.std.proofs.Common.{◌≡◌, refl, sym, ap, ◌∙◌, subst, ℕ, ◌+◌, ◌<◌, ◌≤◌, ◌==◌, Bool, true, false, List, [], ◌∷◌, ◌++◌, length, Some, arith, ⊎_elim}
+use Rattle.std.proofs.lemmas.Bool.{eqb-true, false_from_ne_true, or_cases, or_right}
 use Rattle.std.proofs.lemmas.List.{length-append}
 use Rattle.cs_laws.specs.declared.events.Event.{Event}
 use Rattle.cs_laws.specs.declared.events.Event.TheVariants as e
@@ -12,7 +12,7 @@ use Rattle.cs_laws.specs.declared.requests.ReqOp.{ReqOp}
 use Rattle.cs_laws.specs.Answers.{is_in_use}
 use Rattle.cs_laws.specs.Events.{setup_file}
 use Rattle.cs_laws.specs.History.{stand}
-use Rattle.cs_laws.specs.Made.{Made, made_by, makes_dir, makes_file}
+use Rattle.cs_laws.specs.Made.{Made, made_by, makes_file}
 use Rattle.cs_laws.specs.Names.{names, setup_names}
 use Rattle.cs_laws.specs.Namespace.{Names, after, after_answer, answer_on, next_ino}
 use Rattle.cs_laws.specs.Requests.{Request, requests, requests_then}
@@ -21,10 +21,9 @@ use Rattle.cs_laws.specs.ServerKnows.{server_dir, server_knows, server_made}
 use Rattle.cs_laws.specs.Tree.{is_directory}
 use Rattle.cs_theorems.specs.Asked.{Asked, Settles, asked, asked_made, asked_of, stage}
 use Rattle.cs_theorems.proofs.Asked.{log_made, made_same, makes_is, names_stage, settle_front}
-use Rattle.cs_theorems.proofs.AskedTold.{asked_stands}
 use Rattle.cs_theorems.proofs.AsksRun.{alike_length, asked_alike, asked_settles, setup_fresh}
 use Rattle.cs_theorems.proofs.Sides.{setup_used}
-use Rattle.cs_theorems.proofs.Trees.{all_are_used, dirs_are, dirs_of, file_used, more_used, used_grow, used_of}
+use Rattle.cs_theorems.proofs.Trees.{all_are_used, dirs_are, file_used, more_used, used_grow, used_of}
 use Rattle.cs_theorems.proofs.AskedTold.{asked_stands}
 
 -- What is in use

@@ -10,8 +10,8 @@ pub fn acks_are_free()
     ensures { (pages : ℕ) (h : List Entry) → IsRun pages h → AcksAreFree h }
 {}
 
-/// What the server takes for held has each bit that the client implements, for every file, after each
-/// entry.
+/// While the server's session isn't broken, what it takes for held has each bit that the client
+/// implements, for every file.
 pub fn held_covers_implemented()
     ensures { (pages : ℕ) (h : List Entry) → IsRun pages h → HeldCoversImplemented h }
 {}

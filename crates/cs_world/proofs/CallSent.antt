@@ -32,7 +32,8 @@ snap_known true x tid follows is = refl
 snap_known false x tid follows is = absurd (cc)
 
 module _ (p : ℕ) (h : List Entry) (run : IsRun p h) (v : ClientView) (i : ClientAt h v) where
-  flushed : (f tid : ℕ) → answers.Flush tid ≡ answer_flush h f → flush_sent f (answers.Flush tid) (get nat_cmp v.files f) ≡ flush_message (present h f tid) ∷ []
+  flushed : (f tid : ℕ) → answers.Flush tid ≡ answer_flush h f
+      → flush_sent f (answers.Flush tid) (get nat_cmp v.files f) ≡ flush_message (present h f tid) ∷ []
   flushed f tid is =
       rw (i.rows f, flush_known (client_knows h f) _ tid is) (ap (λ x. calls.flush_message f x) (flush_sends p h run f tid is))
 
@@ -81,7 +82,8 @@ away_then (events.Req c op) a h call = refl
 away_then _ a h call = absurd (cc)
 
 -- what the client sends at a call stands behind the messages to the server
-pub called_links : (p : ℕ) (h : List Entry) (v : ClientView) (e : Event) (a : Answer) (ms qs rest : List Message) → IsRun p h → ClientAt h v → is_call e ≡ true
+pub called_links : (p : ℕ) (h : List Entry) (v : ClientView) (e : Event) (a : Answer) (ms qs rest : List Message) → IsRun p h → ClientAt h v
+    → is_call e ≡ true
     → a ≡ answer p h e → LinksAt h ms qs → rest ≡ qs ++ call_sent e a v → LinksAt (record { event = e; answer = a } ∷ h) ms rest
 called_links p h v e a ms qs rest run i call is links sent = record {
   to_client = links.to_client ∙ away_then e a h call;

@@ -4,18 +4,17 @@ pub mod Opens
 pub mod Answered
 pub mod Numbers
 pub mod Client
+pub mod CallSent
 pub mod Setups
 pub mod Serves
 pub mod News
 pub mod Sent
-pub mod CallSent
 -- Parts that an event leaves as they are
 pub mod Stays
 pub mod Made
 -- Deliveries
-pub mod Accepted
-pub mod Replies
-pub mod Delivered
+pub mod First
+pub mod Received
 -- Shows
 pub mod Showing
 -- The devices

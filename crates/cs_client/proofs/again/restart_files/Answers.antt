@@ -11,7 +11,7 @@ pub returns : goal.returns
 returns c =
     let old = c.args.files.now in
     let new = c.retain.new.self in
-    let entries = map_same_pairs _ restarted_row _ (λ k v b w f' t. search rules) _ _ c.retain.ensures.filtered in
+    let entries = map_same_pairs _ restarted_row _ (λ k v b w f' t. search rules) old.entries new.entries c.retain.ensures.filtered in
     let rows : (f : ℕ) → get nat_cmp new f ≡ option_map restarted_row (get nat_cmp old f) =
     λ f. rw entries (lookup-map_values restarted_row (is_at (nat_cmp f)) old.entries) in
     record {

@@ -1,8 +1,7 @@
-use Rattle.std.proofs.Common.{◌≡◌, ◌∙◌, ◌+◌, ◌<◌, ◌++◌, ◌∷◌, [], true, ap, sym, subst, arith, rules, take, drop, get_or, length}
+use Rattle.std.proofs.Common.{◌≡◌, ◌∙◌, ◌+◌, ◌<◌, ◌++◌, ◌∷◌, [], true, ap, sym, subst, rules, take, drop, get_or, length}
 use Rattle.std.proofs.lemmas.List.{take-append-drop, take_more, drop_more}
 use Rattle.cs_laws.specs.Reports.{caps_reported}
 use Rattle.cs_laws.specs.Spellings.{reports_ascend}
-use Rattle.cs_mds.specs.Views.{caps_of}
 use Rattle.cs_mds.proofs.Reports.{reported_more}
 use Rattle.cs_mds.proofs.caps.adopt.Goals as goal
 

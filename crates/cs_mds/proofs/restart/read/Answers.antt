@@ -1,4 +1,4 @@
-use Rattle.std.proofs.Common.{◌≡◌, ◌∙◌, [], ◌++◌, Some, true, ap, sym, subst}
+use Rattle.std.proofs.Common.{◌≡◌, ◌∙◌, [], ◌++◌, Some, ap, sym, subst}
 use Rattle.cs_codec.proofs.Codecs.{one_spelling}
 use Rattle.cs_codec.specs.Codecs.{IsSpelled}
 use Rattle.cs_laws.specs.Spellings.{record_bytes, record_spelled}

@@ -1,14 +1,13 @@
-use Rattle.std.proofs.Common.{◌≡◌, ◌∙◌, ◌+◌, ◌<◌, ◌≤◌, ◌++◌, [], ap, sym, subst, arith, rules, inr, length, take, Some, slice_get}
-use Rattle.std.proofs.lemmas.List.{append-nil, take_all}
-use Rattle.cs_laws.specs.declared.records.Record.{Record}
-use Rattle.cs_laws.specs.Logged.{LogIs}
+use Rattle.std.proofs.Common.{◌≡◌, ◌∙◌, ◌<◌, ◌≤◌, ◌++◌, [], ap, sym, subst, arith, rules, inr, length, take, Some, slice_get}
+use Rattle.std.proofs.lemmas.List.{length-append, length-take, append-nil}
 use Rattle.cs_laws.specs.Names.{setup_names}
+use Rattle.cs_laws.specs.Namespace.{Names}
 use Rattle.cs_records.specs.Log.{IsNext}
 use Rattle.cs_records.proofs.Lists.{any_err}
 use Rattle.cs_mds.specs.Restart.{AreRemade, HasSpelled, kept_of}
 use Rattle.cs_mds.specs.Views.{AreRecords, entries_of}
 use Rattle.cs_mds.specs.Whole.{IsAnswered}
-use Rattle.cs_mds.proofs.Restarting.{has_record, kept_answer, kept_answered, kept_formed, kept_length, kept_log, kept_more, kept_next, log_moved, standing_moved}
+use Rattle.cs_mds.proofs.Restarting.{all_read, has_next, kept_answer, kept_answered, kept_formed, kept_length, kept_log, kept_more, kept_next, log_moved, standing_moved}
 use Rattle.cs_mds.proofs.restart.restart_in.Goals as goal
 
 pub returns-in_err-tables-clause-halted : goal.returns-in_err-tables-clause-halted
@@ -28,42 +27,30 @@ loop-at-init g c = record {
 
 pub read-requires : goal.read-requires
 read-requires g c =
-    let kept = kept_of c.args.keep c.args.records.now in
-    let count = kept_length c.args.keep c.args.records.now in
-    let within = c.loop-at-test.true in
-    let counted = c.count_kept-kept.ensures in
-    let more : c.loop-at.at < length kept = omega (arith, within, counted, count) in
     let h =
-    has_record (g.L.MdsLog.records c.loop-at.log) (g.L.MdsLog.durable c.loop-at.log) kept c.loop-at.at c.loop-at.invariant.log
-    (kept_formed c.args.keep c.args.records.now c.requires.formed) more in
+    has_next (g.L.MdsLog.records c.loop-at.log) (g.L.MdsLog.durable c.loop-at.log) c.count_kept-kept.result c.args.keep c.loop-at.at c.args.records.now
+    c.loop-at.invariant.log c.requires.formed c.count_kept-kept.ensures c.loop-at-test.true in
     let there : HasSpelled (g.L.MdsLog.records c.loop-at.log) c.loop-at.at = record { next = h.0; is = h.1.0 } in
     (search rules, there)
 
 pub take_up-requires-clause-next : goal.take_up-requires-clause-next
 take_up-requires-clause-next g c =
-    let kept = kept_of c.args.keep c.args.records.now in
-    let count = kept_length c.args.keep c.args.records.now in
-    let within = c.loop-at-test.true in
-    let counted = c.count_kept-kept.ensures in
-    let more : c.loop-at.at < length kept = omega (arith, within, counted, count) in
-    let formed = kept_formed c.args.keep c.args.records.now c.requires.formed in
     let h =
-    has_record (g.L.MdsLog.records c.loop-at.log) (g.L.MdsLog.durable c.loop-at.log) kept c.loop-at.at c.loop-at.invariant.log formed more in
+    has_next (g.L.MdsLog.records c.loop-at.log) (g.L.MdsLog.durable c.loop-at.log) c.count_kept-kept.result c.args.keep c.loop-at.at c.args.records.now
+    c.loop-at.invariant.log c.requires.formed c.count_kept-kept.ensures c.loop-at-test.true in
+    let kept = kept_of c.args.keep c.args.records.now in
     let next = c.in_ok-next.next in
     let is : slice_get kept c.loop-at.at ≡ Some next = h.1.1 ∙ ap (λ r. Some r) (sym (c.in_ok-next.ensures.ok h.0 h.1.0)) in
     let was = c.loop-at.invariant.remade in
-    subst (λ rs. IsNext rs next.body) (sym (λ j. was.durable j ++ was.fresh j)) (kept_next kept c.loop-at.at next is formed)
+    subst (λ rs. IsNext rs next.body) (sym (λ j. was.durable j ++ was.fresh j))
+    (kept_next kept c.loop-at.at next is (kept_formed c.args.keep c.args.records.now c.requires.formed))
 
 pub take_up-requires-clause-answered : goal.take_up-requires-clause-answered
 take_up-requires-clause-answered g c =
-    let kept = kept_of c.args.keep c.args.records.now in
-    let count = kept_length c.args.keep c.args.records.now in
-    let within = c.loop-at-test.true in
-    let counted = c.count_kept-kept.ensures in
-    let more : c.loop-at.at < length kept = omega (arith, within, counted, count) in
-    let formed = kept_formed c.args.keep c.args.records.now c.requires.formed in
     let h =
-    has_record (g.L.MdsLog.records c.loop-at.log) (g.L.MdsLog.durable c.loop-at.log) kept c.loop-at.at c.loop-at.invariant.log formed more in
+    has_next (g.L.MdsLog.records c.loop-at.log) (g.L.MdsLog.durable c.loop-at.log) c.count_kept-kept.result c.args.keep c.loop-at.at c.args.records.now
+    c.loop-at.invariant.log c.requires.formed c.count_kept-kept.ensures c.loop-at-test.true in
+    let kept = kept_of c.args.keep c.args.records.now in
     let next = c.in_ok-next.next in
     let is : slice_get kept c.loop-at.at ≡ Some next = h.1.1 ∙ ap (λ r. Some r) (sym (c.in_ok-next.ensures.ok h.0 h.1.0)) in
     let ns = setup_names (entries_of c.args.lines.now) in
@@ -72,15 +59,11 @@ take_up-requires-clause-answered g c =
 
 pub loop-at-preserved : goal.loop-at-preserved
 loop-at-preserved g c =
-    let kept = kept_of c.args.keep c.args.records.now in
-    let count = kept_length c.args.keep c.args.records.now in
-    let within = c.loop-at-test.true in
-    let counted = c.count_kept-kept.ensures in
-    let more : c.loop-at.at < length kept = omega (arith, within, counted, count) in
-    let formed = kept_formed c.args.keep c.args.records.now c.requires.formed in
     let was = c.loop-at.invariant in
     let h =
-    has_record (g.L.MdsLog.records c.loop-at.log) (g.L.MdsLog.durable c.loop-at.log) kept c.loop-at.at was.log formed more in
+    has_next (g.L.MdsLog.records c.loop-at.log) (g.L.MdsLog.durable c.loop-at.log) c.count_kept-kept.result c.args.keep c.loop-at.at c.args.records.now
+    was.log c.requires.formed c.count_kept-kept.ensures c.loop-at-test.true in
+    let kept = kept_of c.args.keep c.args.records.now in
     let next = c.in_ok-next.next in
     let is : slice_get kept c.loop-at.at ≡ Some next = h.1.1 ∙ ap (λ r. Some r) (sym (c.in_ok-next.ensures.ok h.0 h.1.0)) in
     let xs = entries_of c.args.lines.now in
@@ -96,49 +79,48 @@ loop-at-preserved g c =
 pub returns-clause-standing : goal.returns-clause-standing
 returns-clause-standing g c =
     let kept = kept_of c.args.keep c.args.records.now in
-    let count = kept_length c.args.keep c.args.records.now in
-    let within = c.loop-at-test.false in
-    let counted = c.count_kept-kept.ensures in
-    let end : length kept ≤ c.loop-at.at = omega (arith, within, counted, count) in
     let t = c.loop-at.tables in
     let s = c.settle.new.self in
     let done = c.in_ok-settle.ensures in
     standing_moved (entries_of c.args.lines.now) (take c.loop-at.at kept) kept t.tree s.tree t.homes s.homes t.names s.names done.tree done.homes done.names
-    (take_all c.loop-at.at kept end) c.loop-at.invariant.remade.standing
+    (all_read c.count_kept-kept.result c.args.keep c.loop-at.at c.args.records.now c.count_kept-kept.ensures c.loop-at-test.false)
+    c.loop-at.invariant.remade.standing
 
 pub returns-clause-formed : goal.returns-clause-formed
 returns-clause-formed g c =
     let kept = kept_of c.args.keep c.args.records.now in
-    let count = kept_length c.args.keep c.args.records.now in
-    let within = c.loop-at-test.false in
-    let counted = c.count_kept-kept.ensures in
-    let end : length kept ≤ c.loop-at.at = omega (arith, within, counted, count) in
+    let all = all_read c.count_kept-kept.result c.args.keep c.loop-at.at c.args.records.now c.count_kept-kept.ensures c.loop-at-test.false in
     let done = c.in_ok-settle.ensures in
     let was = c.loop-at.invariant.remade in
-    let durable : c.settle.new.self.records.durable ≡ kept = done.durable ∙ ((λ j. was.durable j ++ was.fresh j) ∙ take_all c.loop-at.at kept end) in
+    let durable : c.settle.new.self.records.durable ≡ kept = done.durable ∙ ((λ j. was.durable j ++ was.fresh j) ∙ all) in
     subst AreRecords (sym ((λ j. durable j ++ done.fresh j) ∙ append-nil kept)) (kept_formed c.args.keep c.args.records.now c.requires.formed)
 
 pub returns-clause-count : goal.returns-clause-count
 returns-clause-count g c =
     let kept = kept_of c.args.keep c.args.records.now in
-    let count = kept_length c.args.keep c.args.records.now in
-    let within = c.loop-at-test.false in
-    let counted = c.count_kept-kept.ensures in
-    let end : length kept ≤ c.loop-at.at = omega (arith, within, counted, count) in
+    let all = all_read c.count_kept-kept.result c.args.keep c.loop-at.at c.args.records.now c.count_kept-kept.ensures c.loop-at-test.false in
     let done = c.in_ok-settle.ensures in
     let was = c.loop-at.invariant.remade in
-    let durable : c.settle.new.self.records.durable ≡ kept = done.durable ∙ ((λ j. was.durable j ++ was.fresh j) ∙ take_all c.loop-at.at kept end) in
-    ap length ((λ j. durable j ++ done.fresh j) ∙ append-nil kept) ∙ count
+    let durable : c.settle.new.self.records.durable ≡ kept = done.durable ∙ ((λ j. was.durable j ++ was.fresh j) ∙ all) in
+    ap length ((λ j. durable j ++ done.fresh j) ∙ append-nil kept) ∙ kept_length c.args.keep c.args.records.now
+
+pub returns-clause-made : goal.returns-clause-made
+returns-clause-made g c =
+    let rs = c.args.records.now in
+    let count = kept_length c.args.keep rs in
+    let few = c.requires.few in
+    let sum = length-append rs.durable rs.fresh in
+    let taken = length-take c.loop-at.at (kept_of c.args.keep rs) in
+    let made = c.loop-at.invariant.remade.made in
+    let same = ap (λ (n : Names). n.made) c.in_ok-settle.ensures.names in
+    omega (arith, count, few, sum, taken, made, same)
 
 pub returns-clause-log : goal.returns-clause-log
 returns-clause-log g c =
     let kept = kept_of c.args.keep c.args.records.now in
-    let count = kept_length c.args.keep c.args.records.now in
-    let within = c.loop-at-test.false in
-    let counted = c.count_kept-kept.ensures in
-    let end : length kept ≤ c.loop-at.at = omega (arith, within, counted, count) in
+    let all = all_read c.count_kept-kept.result c.args.keep c.loop-at.at c.args.records.now c.count_kept-kept.ensures c.loop-at-test.false in
     let done = c.in_ok-settle.ensures in
     let was = c.loop-at.invariant.remade in
-    let durable : c.settle.new.self.records.durable ≡ kept = done.durable ∙ ((λ j. was.durable j ++ was.fresh j) ∙ take_all c.loop-at.at kept end) in
+    let durable : c.settle.new.self.records.durable ≡ kept = done.durable ∙ ((λ j. was.durable j ++ was.fresh j) ∙ all) in
     log_moved (g.L.MdsLog.records c.loop-at.log) (g.L.MdsLog.durable c.loop-at.log) kept c.settle.new.self.records.durable c.settle.new.self.records.fresh
     durable done.fresh c.loop-at.invariant.log

@@ -1,4 +1,4 @@
-use Rattle.std.proofs.Common.{◌≡◌, ◌∙◌, sym, subst, ◌∷◌, []}
+use Rattle.std.proofs.Common.{◌∙◌, sym, subst, ◌∷◌, []}
 use Rattle.cs_mds.specs.Views.{entry_of}
 use Rattle.cs_mds.specs.Whole.{AreStanding, IsLine}
 use Rattle.cs_mds.proofs.SetupLines.{is_made}

@@ -1,4 +1,4 @@
-use Rattle.std.proofs.Common.{◌≡◌, ◌∙◌, ◌++◌, refl, sym, ap, subst, true, rules, arith}
+use Rattle.std.proofs.Common.{◌≡◌, ◌∙◌, ◌++◌, refl, sym, ap, subst, rules, arith}
 use Rattle.std.proofs.lemmas.Bool.{true≢false}
 use Rattle.std.proofs.lemmas.List.{length-reverse}
 use Rattle.cs_laws.specs.Answers.{answer}
@@ -19,7 +19,8 @@ use Rattle.cs_world.proofs.calls.call.Goals as goal
 pub step_call-requires-clause-numbers : goal.step_call-requires-clause-numbers
 step_call-requires-clause-numbers g c κs within =
     let s = c.args.state.now in
-    has_numbers s.pages (past s) s.client c.requires.ready.run c.requires.ready.parts.client (omega (arith, c.requires.ready.room, length-reverse s.entries.items))
+    has_numbers s.pages (past s) s.client c.requires.ready.run c.requires.ready.parts.client
+    (omega (arith, c.requires.ready.room, length-reverse s.entries.items))
 
 pub returns-in_err-answer-clause-store : goal.returns-in_err-answer-clause-store
 returns-in_err-answer-clause-store g c =
@@ -37,7 +38,8 @@ returns-in_err-answer-clause-store g c =
     store_of (λ x. g.O.ObjStore.ops x) (λ x. g.O.ObjStore.faults x) s.pages h e c.args.store.now c.step_call.new.store c.from_residual.result said c.requires.call is
     (any_err c.from_residual.result
     (front_then s.pages h e (call_operations e said s.client) ops (g.O.ObjStore.ops c.step_call.new.store)
-    (ap (λ a. call_operations e a s.client) is ∙ operations_are s.pages h c.requires.ready.run s.client t.client e (answer s.pages h e) c.requires.call refl) c.requires.listed done.front))
+    (ap (λ a. call_operations e a s.client) is ∙ operations_are s.pages h c.requires.ready.run s.client t.client e
+    (answer s.pages h e) c.requires.call refl) c.requires.listed done.front))
     done.quiet (search rules)
 
 -- what is sent has a spelling
@@ -93,7 +95,8 @@ returns-clause-ok g c =
     let session : c.is_client_active-active.result ≡ is_client_active (client_state h) =
     c.is_client_active-active.ensures ∙ ap is_client_active t.session.client in
     let is : a ≡ answer s.pages h e =
-    done.answer ∙ call_answer_is s.pages h run s.client t.client c.is_client_active-active.result session e (g.O.ObjStore.ops c.args.store.now) c.requires.call c.requires.later c.requires.listed in
+    done.answer ∙ call_answer_is s.pages h run s.client t.client c.is_client_active-active.result session e
+    (g.O.ObjStore.ops c.args.store.now) c.requires.call c.requires.later c.requires.listed in
     let can : CanFollow h e = record { spelled = c.requires.fits; setup = λ line. absurd (true≢false (sym line ∙ c.requires.later)) } in
     record {
       after = record {
@@ -135,6 +138,7 @@ returns-clause-store g c =
     let ops = g.O.ObjStore.ops c.args.store.now in
     let active = c.is_client_active-active.result in
     let session : active ≡ is_client_active (client_state h) = c.is_client_active-active.ensures ∙ ap is_client_active t.session.client in
-    store_of (λ x. g.O.ObjStore.ops x) (λ x. g.O.ObjStore.faults x) s.pages h e c.args.store.now c.step_call.new.store _ (call_answer s.client active (head_byte ops) e) c.requires.call
+    store_of (λ x. g.O.ObjStore.ops x) (λ x. g.O.ObjStore.faults x) s.pages h e c.args.store.now c.step_call.new.store _
+    (call_answer s.client active (head_byte ops) e) c.requires.call
     (call_answer_is s.pages h c.requires.ready.run s.client t.client active session e ops c.requires.call c.requires.later c.requires.listed)
     tt c.in_ok-answer.ensures.quiet (search rules)

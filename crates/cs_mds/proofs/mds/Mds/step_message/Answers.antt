@@ -1,7 +1,7 @@
-use Rattle.std.proofs.Common.{◌≡◌, ◌∙◌, ◌&&◌, ◌||◌, ◌++◌, not, ap, sym, append_assoc}
+use Rattle.std.proofs.Common.{◌∙◌, ◌&&◌, ◌||◌, ◌++◌, not, ap, sym, append_assoc}
 use Rattle.cs_laws.specs.Standing.{resumption}
-use Rattle.cs_mds.specs.Answers.{answer_sent, durable_realms, is_resent}
-use Rattle.cs_mds.specs.Sessions.{as_list, is_sent_again, replaying_on, told_on}
+use Rattle.cs_mds.specs.Answers.{answer_sent, durable_realms}
+use Rattle.cs_mds.specs.Sessions.{is_sent_again, replaying_on, told_on}
 use Rattle.cs_mds.specs.Views.{ServerView}
 use Rattle.cs_mds.proofs.Resent.{answer_resent}
 use Rattle.cs_mds.proofs.mds.Mds.step_message.Goals as goal

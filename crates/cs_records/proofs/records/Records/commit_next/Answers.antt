@@ -7,7 +7,6 @@ use Rattle.cs_records.specs.Sinces.{since_in}
 use Rattle.cs_records.specs.Records.{RecordLog, Settles}
 use Rattle.cs_records.specs.NewsByTables.{message_by}
 use Rattle.cs_records.proofs.IndexedNow.{kept_next, known_next, room_next, settles_next, told_next}
-use Rattle.cs_records.proofs.Lists.{on_ok}
 use Rattle.cs_records.proofs.records.Records.commit_next.Goals as goal
 
 pub change_realm-requires-clause-room : goal.change_realm-requires-clause-room

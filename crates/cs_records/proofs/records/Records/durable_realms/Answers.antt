@@ -1,4 +1,4 @@
-use Rattle.std.proofs.Common.{◌≡◌, ◌∙◌, ap, take}
+use Rattle.std.proofs.Common.{◌∙◌, ap, take}
 use Rattle.std.specs.List.{filter_map}
 use Rattle.cs_tree.specs.Directories.{inos, path_of}
 use Rattle.cs_laws.specs.Realms.{realm_records}
