@@ -15,8 +15,12 @@ pub mod Made
 -- Deliveries
 pub mod First
 pub mod Received
--- What is sent again
+pub mod ClientAccepts
+pub mod Replies
+pub mod Told
+-- The client comes back
 pub mod Resending
+pub mod Reconnects
 -- Shows
 pub mod Showing
 -- The devices
