@@ -71,11 +71,13 @@ module _ (p : ℕ) (h : List Entry) (run : IsRun p h) (v : ClientView) (i : Clie
       → of_file say (get nat_cmp v.files r.file) ≡ say (inode h r.file)
   row_of_named say c name r here = of_row say r.file ∙ rw (named_known p h run c name r here) refl
 
-  read_on : (c : ℕ) (name : RefName) (off len : ℕ) (ops : List ObjOp) → ops ≡ applied h → read_answer (named c name (live h)) (head_byte ops) off len v.files ≡ answer_read h c name off len
+  read_on : (c : ℕ) (name : RefName) (off len : ℕ) (ops : List ObjOp) → ops ≡ applied h
+      → read_answer (named c name (live h)) (head_byte ops) off len v.files ≡ answer_read h c name off len
   read_on c name off len ops listed = at (named c name (live h)) refl
     where
       on : (r : Live) → named c name (live h) ≡ Some r → (b : Bool) → may_read r.bits ≡ b
-          → cond b (of_file (λ j. answers.Bytes (bytes_from (head_byte ops r.file) off (shown_count j.meta.size off len))) (get nat_cmp v.files r.file)) answers.NoBit
+          → cond b (of_file (λ j. answers.Bytes (bytes_from (head_byte ops r.file) off (shown_count j.meta.size off len)))
+          (get nat_cmp v.files r.file)) answers.NoBit
           ≡ answer_read h c name off len
       on r here true may =
           row_of_named (λ j. answers.Bytes (bytes_from (head_byte ops r.file) off (shown_count j.meta.size off len))) c name r here

@@ -18,9 +18,10 @@ use Rattle.cs_client.specs.Calls as calls
 use Rattle.cs_client.specs.Calls.{call_sent, flush_sent, flush_snaps_sent, is_call, snap_message}
 use Rattle.cs_client.specs.Views.{ClientView}
 use Rattle.cs_files.proofs.Flushes.{flush_sends, flush_snaps_sends}
+use Rattle.cs_session.specs.States.{States}
 use Rattle.cs_theorems.specs.Spellings.{AllFit}
 use Rattle.cs_theorems.proofs.Spelled.{sent_server_fit}
-use Rattle.cs_world.specs.Parts.{ClientAt, LinksAt}
+use Rattle.cs_world.specs.Parts.{ClientAt, LinksAt, SessionAt}
 
 flush_known : (b : Bool) (x : Answer) (tid : ℕ) → answers.Flush tid ≡ cond b x answers.Unknown → b ≡ true
 flush_known true x tid is = refl
@@ -31,7 +32,8 @@ snap_known true x tid follows is = refl
 snap_known false x tid follows is = absurd (cc)
 
 module _ (p : ℕ) (h : List Entry) (run : IsRun p h) (v : ClientView) (i : ClientAt h v) where
-  flushed : (f tid : ℕ) → answers.Flush tid ≡ answer_flush h f → flush_sent f (answers.Flush tid) (get nat_cmp v.files f) ≡ flush_message (present h f tid) ∷ []
+  flushed : (f tid : ℕ) → answers.Flush tid ≡ answer_flush h f
+      → flush_sent f (answers.Flush tid) (get nat_cmp v.files f) ≡ flush_message (present h f tid) ∷ []
   flushed f tid is =
       rw (i.rows f, flush_known (client_knows h f) _ tid is) (ap (λ x. calls.flush_message f x) (flush_sends p h run f tid is))
 
@@ -80,7 +82,8 @@ away_then (events.Req c op) a h call = refl
 away_then _ a h call = absurd (cc)
 
 -- what the client sends at a call stands behind the messages to the server
-pub called_links : (p : ℕ) (h : List Entry) (v : ClientView) (e : Event) (a : Answer) (ms qs rest : List Message) → IsRun p h → ClientAt h v → is_call e ≡ true
+pub called_links : (p : ℕ) (h : List Entry) (v : ClientView) (e : Event) (a : Answer) (ms qs rest : List Message) → IsRun p h → ClientAt h v
+    → is_call e ≡ true
     → a ≡ answer p h e → LinksAt h ms qs → rest ≡ qs ++ call_sent e a v → LinksAt (record { event = e; answer = a } ∷ h) ms rest
 called_links p h v e a ms qs rest run i call is links sent = record {
   to_client = links.to_client ∙ away_then e a h call;
@@ -92,3 +95,21 @@ pub called_fit : (p : ℕ) (h : List Entry) (v : ClientView) (e : Event) (a : An
     → a ≡ answer p h e → length h < 10000 → AllFit (call_sent e a v)
 called_fit p h v e a run i call can is room =
     sent_server_fit p h (record { event = e; answer = a }) (call_sent e a v) ((can, is), run) room (sym (call_sends p h run v i e a call is))
+
+-- a call leaves both states of the session
+pub session_stays : (e : Event) (a : Answer) (h : List Entry) (s : States) → is_call e ≡ true → SessionAt h s
+    → SessionAt (record { event = e; answer = a } ∷ h) s
+session_stays (events.Dir d x) a h s call i = i
+session_stays (events.File f x) a h s call i = i
+session_stays (events.Clock t) a h s call i = i
+session_stays (events.Begin c f bits end) a h s call i = i
+session_stays (events.End c name) a h s call i = i
+session_stays (events.Write c name off bytes) a h s call i = i
+session_stays (events.Read c name off len) a h s call i = i
+session_stays (events.Chmod c name mode) a h s call i = i
+session_stays (events.Check f) a h s call i = i
+session_stays (events.Flush f) a h s call i = i
+session_stays (events.FlushSnaps f) a h s call i = i
+session_stays (events.Lookup c d name) a h s call i = i
+session_stays (events.Req c op) a h s call i = i
+session_stays _ a h s call i = absurd (cc)

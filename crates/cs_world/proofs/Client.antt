@@ -4,7 +4,6 @@ use Rattle.std.proofs.lemmas.List.{length-append, reverse-append}
 use Rattle.cs_parts.specs.declared.references.Live.{Live}
 use Rattle.cs_snapctx.specs.declared.realm.RealmRecord.{RealmRecord}
 use Rattle.cs_tree.specs.declared.directories.Directory.{Directory}
-use Rattle.cs_tree.specs.Directories.{path_of}
 use Rattle.cs_laws.specs.declared.events.Event.{Event}
 use Rattle.cs_laws.specs.declared.events.Event.TheVariants as events
 use Rattle.cs_laws.specs.declared.answers.Answer.{Answer}

@@ -72,4 +72,5 @@ none_called (events.RmSnap n) (answers.Removed s number) adds = absurd (cc)
 none_called events.ToMds (answers.Req tid o) adds = absurd (cc)
 none_called events.ToMds (answers.Flushed f tid) adds = absurd (cc)
 none_called events.Commit (answers.Commit count) adds = absurd (cc)
+none_called (events.Failover keep) (answers.Failover kept) adds = absurd (cc)
 none_called _ _ adds = record { store = refl; log = refl }

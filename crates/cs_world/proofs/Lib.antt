@@ -4,8 +4,8 @@ pub mod Opens
 pub mod Answered
 pub mod Numbers
 pub mod Client
-pub mod Recorded
-pub mod SetupNames
+pub mod CallSent
+pub mod Setups
 pub mod Serves
 pub mod News
 pub mod Sent
@@ -13,9 +13,12 @@ pub mod Sent
 pub mod Stays
 pub mod Made
 -- Deliveries
-pub mod Accepted
+pub mod First
+pub mod Received
+pub mod ClientAccepts
+pub mod Capped
 pub mod Replies
-pub mod Delivered
+pub mod Told
 -- Shows
 pub mod Showing
 -- The devices

@@ -18,14 +18,18 @@ use Rattle.cs_client.specs.Calls.{Called, IsNewInode, IsNewTo, calls_store, is_c
 use Rattle.cs_client.specs.Views.{ClientView}
 use Rattle.cs_mds.specs.Answers.{made_answer, served_answer}
 use Rattle.cs_mds.specs.Served.{Served}
+use Rattle.cs_mds.specs.Sessions.{SameSession}
 use Rattle.cs_mds.specs.Views.{ServerView, is_in_use}
 use Rattle.cs_mds.specs.Views as views
+use Rattle.cs_mds.specs.Whole.{IsWhole}
+use Rattle.cs_session.specs.States.{States}
 use Rattle.cs_theorems.proofs.AsksRun.{quiet}
-use Rattle.cs_world.specs.Parts.{After, ClientAt, LinksAt, ServerAt}
+use Rattle.cs_world.specs.Parts.{After, ClientAt, LinksAt, ServerAt, SessionAt}
+use Rattle.cs_world.proofs.CallSent.{session_stays}
 use Rattle.cs_world.proofs.Client.{client_after}
 use Rattle.cs_world.proofs.Rows.{is_known}
-use Rattle.cs_world.proofs.Serves.{knows, line_after, made_is}
-use Rattle.cs_world.proofs.SetupNames.{early_dir, early_file}
+use Rattle.cs_world.proofs.Serves.{dirs_known, knows, line_after, made_is}
+use Rattle.cs_world.proofs.Setups.{early_dir, early_file}
 
 -- before all other events no record stands, and the client was told of nothing
 
@@ -49,10 +53,11 @@ setup_call (events.Dir d p) is = refl
 setup_call (events.File f p) is = refl
 setup_call _ is = absurd (cc)
 
-pub setup_answer_is : (p : ℕ) (h : List Entry) (s : ServerView) (e : Event) → ServerAt h s → all_setup h ≡ true → is_setup e ≡ true → served_answer s e ≡ answer p h e
-setup_answer_is p h s (events.Dir d q) i all is = made_is p h s i all d q
-setup_answer_is p h s (events.File f q) i all is = made_is p h s i all f q
-setup_answer_is p h s _ i all is = absurd (cc)
+pub setup_answer_is : (p : ℕ) (h : List Entry) (s : ServerView) (active : Bool) (e : Event) → ServerAt h s → all_setup h ≡ true → is_setup e ≡ true
+    → served_answer s active e ≡ answer p h e
+setup_answer_is p h s active (events.Dir d q) i all is = made_is h s i p all d q
+setup_answer_is p h s active (events.File f q) i all is = made_is h s i p all f q
+setup_answer_is p h s active _ i all is = absurd (cc)
 
 -- where it stands, its inode is new and its directory is known
 was_new : (used there : Bool) → answers.Made ≡ cond used answers.Exists (cond there answers.Made answers.NoDir) → (used ≡ false) × (there ≡ true)
@@ -66,13 +71,13 @@ new_inode_is h v s j q all i t is =
     let new = was_new (is_in_use j s.tree s.homes) (has_directory q s.tree) is in
     record {
       unused =
-          (λ k. (i.tree.known j ∙ told_dir h all j) k || ((ap is_some (i.rows j) ∙ is_known (client_knows h j) _ _) ∙ told_file h all j) k)
-          ∙ (sym (λ k. (t.tree.known j ∙ early_dir h all j) k || (knows 0 h s t j ∙ early_file h all j) k) ∙ new.0);
-      parent = (i.tree.known q ∙ told_dir h all q) ∙ (sym (t.tree.known q ∙ early_dir h all q) ∙ new.1);
+          (λ k. (i.tree.known j ∙ told_dir h all j) k || ((ap is_some (i.rows j) ∙ is_known (client_knows h j) _ _ _) ∙ told_file h all j) k)
+          ∙ (sym (λ k. (dirs_known h s t j ∙ early_dir h all j) k || (knows h s t j ∙ early_file h all j) k) ∙ new.0);
+      parent = (i.tree.known q ∙ told_dir h all q) ∙ (sym (dirs_known h s t q ∙ early_dir h all q) ∙ new.1);
     }
 
 pub made_new : (h : List Entry) (v : ClientView) (s : ServerView) (e : Event) → all_setup h ≡ true → ClientAt h v → ServerAt h s → is_setup e ≡ true
-    → answers.Made ≡ served_answer s e → IsNewTo v e
+    → answers.Made ≡ served_answer s true e → IsNewTo v e
 made_new h v s (events.Dir d q) all i t is made = new_inode_is h v s d q all i t made
 made_new h v s (events.File f q) all i t is made = new_inode_is h v s f q all i t made
 made_new h v s _ all i t is made = absurd (cc)
@@ -104,26 +109,29 @@ refused_stays _ a h v is other i = absurd (cc)
 
 -- The parts after it
 
-module _ (p : ℕ) (h : List Entry) (run : IsRun p h) (v : ClientView) (s t : ServerView) (ms qs : List Message) (e : Event) (i : ClientAt h v) (j : ServerAt h s)
-    (links : LinksAt h ms qs) (is : is_setup e ≡ true) (can : CanFollow h e) where
-  pub refused_steps : (a : Answer) → a ≡ served_answer s e → (a ≡ answers.Made → ⊥) → Served [] s t e a → After p h e a v t ms qs
+module _ (p : ℕ) (h : List Entry) (run : IsRun p h) (v : ClientView) (s t : ServerView) (session : States) (ms qs : List Message) (e : Event) (i : ClientAt h v)
+    (j : ServerAt h s) (of : SessionAt h session) (links : LinksAt h ms qs) (is : is_setup e ≡ true) (can : CanFollow h e) (same : SameSession s t)
+    (whole : IsWhole t) where
+  pub refused_steps : (a : Answer) → a ≡ served_answer s true e → (a ≡ answers.Made → ⊥) → Served [] s t e a → After p h e a v t session ms qs
   refused_steps a said other d =
-      let now : a ≡ answer p h e = said ∙ setup_answer_is p h s e j (can.setup is) is in
+      let now : a ≡ answer p h e = said ∙ setup_answer_is p h s true e j (can.setup is) is in
       record {
         answer = now;
         client = refused_stays e a h v is other i;
-        server = line_after p h s t e a is (can.setup is) j d now;
+        server = line_after p h s t e a j d same.1 whole is same.0;
+        session = session_stays e a h session (setup_call e is) of;
         links = links_stay e a h ms qs is links;
       }
 
-  pub made_steps : (w : ClientView) (a : Answer) (active : Bool) (head : ℕ → ℕ → ℕ) → answers.Made ≡ served_answer s e → a ≡ call_answer v active head e
-      → Served [] s t e answers.Made → Called v w e a → After p h e a w t ms qs
+  pub made_steps : (w : ClientView) (a : Answer) (active : Bool) (head : ℕ → ℕ → ℕ) → answers.Made ≡ served_answer s true e → a ≡ call_answer v active head e
+      → Served [] s t e answers.Made → Called v w e a → After p h e a w t session ms qs
   made_steps w a active head made said d c =
-      let same : a ≡ answers.Made = said ∙ made_says e v active head is in
-      let now : a ≡ answer p h e = same ∙ (made ∙ setup_answer_is p h s e j (can.setup is) is) in
+      let same_answer : a ≡ answers.Made = said ∙ made_says e v active head is in
+      let now : a ≡ answer p h e = same_answer ∙ (made ∙ setup_answer_is p h s true e j (can.setup is) is) in
       record {
         answer = now;
         client = client_after p h run v w i e a (setup_call e is) now can c;
-        server = line_after p h s t e a is (can.setup is) j (subst (λ b. Served [] s t e b) (sym same) d) now;
+        server = line_after p h s t e a j (subst (λ b. Served [] s t e b) (sym same_answer) d) same.1 whole is same.0;
+        session = session_stays e a h session (setup_call e is) of;
         links = links_stay e a h ms qs is links;
       }

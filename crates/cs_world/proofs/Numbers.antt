@@ -9,13 +9,12 @@ use Rattle.cs_laws.specs.declared.answers.Answer.{Answer}
 use Rattle.cs_laws.specs.declared.answers.Answer.TheVariants as answers
 use Rattle.cs_laws.specs.declared.answers.Entry.{Entry}
 use Rattle.cs_laws.specs.Answers.{answer, answer_write_on, may_write}
-use Rattle.cs_laws.specs.Events.{is_setup}
 use Rattle.cs_laws.specs.Flushes.{sent_then}
 use Rattle.cs_laws.specs.History.{live, present, sent, snap}
 use Rattle.cs_laws.specs.Operations.{brought, drawn_then, operations_drawn}
 use Rattle.cs_laws.specs.References.{named}
 use Rattle.cs_laws.specs.Runs.{IsRun}
-use Rattle.cs_client.specs.Calls.{HasNumbers, IsNewTo, call_operations, flushes_after, is_call, written_operations}
+use Rattle.cs_client.specs.Calls.{HasNumbers, call_operations, flushes_after, is_call, written_operations}
 use Rattle.cs_client.specs.Views.{ClientView}
 use Rattle.cs_files.proofs.Made.{named_known}
 use Rattle.cs_files.proofs.Writes.{brought_is}
@@ -33,12 +32,6 @@ has_numbers p h v run i room = record {
   begun = λ c. omega (arith, i.begun c, begun_small h c, room);
   requests = omega (arith, ap (λ (t : RequestTable). t.sent) i.requests, requests_few h, room);
 }
-
--- an event that makes no file or directory asks for no new inode
-pub new_to : (v : ClientView) (e : Event) → is_setup e ≡ false → IsNewTo v e
-new_to v (events.Dir d q) later = absurd (cc)
-new_to v (events.File f q) later = absurd (cc)
-new_to v _ later = tt
 
 may_where_wrote : (b : Bool) (x : Answer) → answers.Wrote ≡ cond b x answers.NoBit → b ≡ true
 may_where_wrote true x is = refl

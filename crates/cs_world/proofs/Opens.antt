@@ -1,9 +1,8 @@
 -- The client's table of open requests follows the history.
-use Rattle.std.proofs.Common.{◌≡◌, refl, sym, ap, ◌∙◌, subst, ℕ, ◌+◌, ◌<◌, ◌≤◌, ◌==◌, ◌||◌, ◌&&◌, not, nat_lt, Bool, true, false, cond, List, [], ◌∷◌, ◌++◌, filter, find, is_some, length, map, Option, Some, None, arith, inl, inr, ⊎_elim}
-use Rattle.std.specs.List.{list_any}
+use Rattle.std.proofs.Common.{◌≡◌, refl, sym, ap, ◌∙◌, subst, ℕ, ◌+◌, ◌<◌, ◌==◌, ◌||◌, ◌&&◌, not, nat_lt, Bool, true, false, cond, List, [], ◌∷◌, ◌++◌, filter, find, is_some, length, map, Option, Some, None, arith}
 use Rattle.std.specs.Option.{option_and_then, option_map, option_map_or}
 use Rattle.std.proofs.lemmas.Bool.{both_ways, eq-eqb, eqb-true, false_from_ne_true, ltb-true, ne_eqb, or_left, or_parts, or_right}
-use Rattle.std.proofs.lemmas.List.{append-nil, length-append, map-append}
+use Rattle.std.proofs.lemmas.List.{map-append}
 use Rattle.std.proofs.lemmas.List.Elements.{filter-append}
 use Rattle.cs_laws.specs.declared.events.Event.{Event}
 use Rattle.cs_laws.specs.declared.events.Event.TheVariants as e
@@ -66,7 +65,8 @@ reply_own t o (r ∷ rs) none =
     ∙ reply_own t o rs parts.1
 
 -- nor does one more change the first answer to a request that has one
-reply_again : (t u : ℕ) (o : OpAnswer) (rs : List Reply) → has_reply t rs ≡ true → reply_to u (rs ++ record { tid = t; answer = o } ∷ []) ≡ reply_to u rs
+reply_again : (t u : ℕ) (o : OpAnswer) (rs : List Reply) → has_reply t rs ≡ true
+    → reply_to u (rs ++ record { tid = t; answer = o } ∷ []) ≡ reply_to u rs
 reply_again t u o [] had = absurd cc
 reply_again t u o (r ∷ rs) had = at (r.tid == u) refl (r.tid == t) refl had (λ rest. reply_again t u o rs rest)
   where
@@ -84,17 +84,20 @@ reply_again t u o (r ∷ rs) had = at (r.tid == u) refl (r.tid == t) refl had (�
 abbrev opens : List Reply → (ℕ → Bool) → (ℕ → Bool) → List Request → List OpenReq
 opens rs again c xs = map (open_as rs again) (filter (λ x. not (c x.tid)) xs)
 
-found_as : (rs : List Reply) (again : ℕ → Bool) (t : ℕ) (ys : List Request) → open_at t (map (open_as rs again) ys) ≡ option_map (open_as rs again) (find (λ x. x.tid == t) ys)
+found_as : (rs : List Reply) (again : ℕ → Bool) (t : ℕ) (ys : List Request)
+    → open_at t (map (open_as rs again) ys) ≡ option_map (open_as rs again) (find (λ x. x.tid == t) ys)
 found_as rs again t [] = refl
 found_as rs again t (y ∷ ys) = at (y.tid == t) (found_as rs again t ys)
   where
     at : (b : Bool) → open_at t (map (open_as rs again) ys) ≡ option_map (open_as rs again) (find (λ x. x.tid == t) ys)
-        → cond b (Some (open_as rs again y)) (open_at t (map (open_as rs again) ys)) ≡ option_map (open_as rs again) (cond b (Some y) (find (λ x. x.tid == t) ys))
+        → cond b (Some (open_as rs again y)) (open_at t (map (open_as rs again) ys))
+        ≡ option_map (open_as rs again) (cond b (Some y) (find (λ x. x.tid == t) ys))
     at true rest = refl
     at false rest = rest
 
 -- one that isn't closed is found among the open ones where it is found among all
-chosen : (c : ℕ → Bool) (t : ℕ) (xs : List Request) → c t ≡ false → find (λ x. x.tid == t) (filter (λ x. not (c x.tid)) xs) ≡ find (λ x. x.tid == t) xs
+chosen : (c : ℕ → Bool) (t : ℕ) (xs : List Request) → c t ≡ false
+    → find (λ x. x.tid == t) (filter (λ x. not (c x.tid)) xs) ≡ find (λ x. x.tid == t) xs
 chosen c t [] free = refl
 chosen c t (x ∷ xs) free = at (c x.tid) refl (chosen c t xs free)
   where
@@ -166,7 +169,8 @@ open_kept : (rs : List Reply) (again : ℕ → Bool) (t : ℕ) (o : OpAnswer) (x
 open_kept rs again t o [] kept = refl
 open_kept rs again t o (x ∷ xs) kept = (λ i. at (x.tid == t) refl i ∷ open_kept rs again t o xs kept i)
   where
-    at : (b : Bool) → (x.tid == t) ≡ b → cond b (record (open_as rs again x) { answer = Some o }) (open_as rs again x) ≡ (let r : OpenReq = open_as rs again x in r)
+    at : (b : Bool) → (x.tid == t) ≡ b → cond b (record (open_as rs again x) { answer = Some o }) (open_as rs again x)
+        ≡ (let r : OpenReq = open_as rs again x in r)
     at true same =
         ap (λ k. let r : OpenReq = record { tid = x.tid; caller = x.caller; op = x.op; answer = k; resent = again x.tid } in r)
         (sym (subst (λ n. reply_to n rs ≡ Some o) (sym (eqb-true x.tid t same)) kept))
@@ -204,11 +208,13 @@ closing rs again c t false xs = same xs
     same : (ys : List Request) → opens rs again (λ u. cond ((t == u) && false) true (c u)) ys ≡ opens rs again c ys
     same [] = refl
     same (y ∷ ys) =
-        ap (λ k. map (open_as rs again) (cond (not (cond k true (c y.tid))) (y ∷ filter (λ z. not (cond ((t == z.tid) && false) true (c z.tid))) ys) (filter (λ z. not (cond ((t == z.tid) && false) true (c z.tid))) ys))) (and_none (t == y.tid))
+        ap (λ k. map (open_as rs again) (cond (not (cond k true (c y.tid))) (y ∷ filter (λ z. not (cond ((t == z.tid) && false) true (c z.tid))) ys)
+        (filter (λ z. not (cond ((t == z.tid) && false) true (c z.tid))) ys))) (and_none (t == y.tid))
         ∙ at (c y.tid) (same ys)
       where
         at : (k : Bool) → opens rs again (λ u. cond ((t == u) && false) true (c u)) ys ≡ opens rs again c ys
-            → map (open_as rs again) (cond (not k) (y ∷ filter (λ z. not (cond ((t == z.tid) && false) true (c z.tid))) ys) (filter (λ z. not (cond ((t == z.tid) && false) true (c z.tid))) ys))
+            → map (open_as rs again) (cond (not k) (y ∷ filter (λ z. not (cond ((t == z.tid) && false) true (c z.tid))) ys)
+            (filter (λ z. not (cond ((t == z.tid) && false) true (c z.tid))) ys))
             ≡ map (open_as rs again) (cond (not k) (y ∷ filter (λ z. not (c z.tid)) ys) (filter (λ z. not (c z.tid)) ys))
         at true rest = rest
         at false rest = ap (λ l. open_as rs again y ∷ l) rest
@@ -218,20 +224,28 @@ closing rs again c t true (x ∷ xs) = at (t == x.tid) (same_number t x.tid) (c 
     same_number : (m n : ℕ) → (m == n) ≡ (n == m)
     same_number m n = grind arith
 
-    at : (b : Bool) → (t == x.tid) ≡ (x.tid == t) → (k : Bool) → opens rs again (λ u. cond ((t == u) && true) true (c u)) xs ≡ without t (opens rs again c xs)
-        → map (open_as rs again) (cond (not (cond ((t == x.tid) && true) true k)) (x ∷ filter (λ z. not (cond ((t == z.tid) && true) true (c z.tid))) xs) (filter (λ z. not (cond ((t == z.tid) && true) true (c z.tid))) xs))
+    at : (b : Bool) → (t == x.tid) ≡ (x.tid == t) → (k : Bool)
+        → opens rs again (λ u. cond ((t == u) && true) true (c u)) xs ≡ without t (opens rs again c xs)
+        → map (open_as rs again) (cond (not (cond ((t == x.tid) && true) true k))
+        (x ∷ filter (λ z. not (cond ((t == z.tid) && true) true (c z.tid))) xs) (filter (λ z. not (cond ((t == z.tid) && true) true (c z.tid))) xs))
         ≡ without t (map (open_as rs again) (cond (not k) (x ∷ filter (λ z. not (c z.tid)) xs) (filter (λ z. not (c z.tid)) xs)))
     at b turn true rest = by (t == x.tid)
       where
-        by : (w : Bool) → map (open_as rs again) (cond (not (cond (w && true) true true)) (x ∷ filter (λ z. not (cond ((t == z.tid) && true) true (c z.tid))) xs) (filter (λ z. not (cond ((t == z.tid) && true) true (c z.tid))) xs))
+        by : (w : Bool) → map (open_as rs again) (cond (not (cond (w && true) true true))
+            (x ∷ filter (λ z. not (cond ((t == z.tid) && true) true (c z.tid))) xs)
+            (filter (λ z. not (cond ((t == z.tid) && true) true (c z.tid))) xs))
             ≡ without t (opens rs again c xs)
         by true = rest
         by false = rest
     at b turn false rest =
-        ap (λ w. map (open_as rs again) (cond (not (cond (w && true) true false)) (x ∷ filter (λ z. not (cond ((t == z.tid) && true) true (c z.tid))) xs) (filter (λ z. not (cond ((t == z.tid) && true) true (c z.tid))) xs))) turn
+        ap (λ w. map (open_as rs again) (cond (not (cond (w && true) true false))
+        (x ∷ filter (λ z. not (cond ((t == z.tid) && true) true (c z.tid))) xs)
+        (filter (λ z. not (cond ((t == z.tid) && true) true (c z.tid))) xs))) turn
         ∙ by (x.tid == t)
       where
-        by : (w : Bool) → map (open_as rs again) (cond (not (cond (w && true) true false)) (x ∷ filter (λ z. not (cond ((t == z.tid) && true) true (c z.tid))) xs) (filter (λ z. not (cond ((t == z.tid) && true) true (c z.tid))) xs))
+        by : (w : Bool) → map (open_as rs again) (cond (not (cond (w && true) true false))
+            (x ∷ filter (λ z. not (cond ((t == z.tid) && true) true (c z.tid))) xs)
+            (filter (λ z. not (cond ((t == z.tid) && true) true (c z.tid))) xs))
             ≡ cond (not w) (open_as rs again x ∷ without t (opens rs again c xs)) (without t (opens rs again c xs))
         by true = rest
         by false = ap (λ l. open_as rs again x ∷ l) rest
@@ -249,13 +263,15 @@ found_tid : (t : ℕ) (ys : List Request) (x : Request) → find (λ y. y.tid ==
 found_tid t [] x is = absurd cc
 found_tid t (y ∷ ys) x is = at (y.tid == t) refl is (λ rest. found_tid t ys x rest)
   where
-    at : (b : Bool) → (y.tid == t) ≡ b → cond b (Some y) (find (λ z. z.tid == t) ys) ≡ Some x → (find (λ z. z.tid == t) ys ≡ Some x → x.tid ≡ t) → x.tid ≡ t
+    at : (b : Bool) → (y.tid == t) ≡ b → cond b (Some y) (find (λ z. z.tid == t) ys) ≡ Some x → (find (λ z. z.tid == t) ys ≡ Some x → x.tid ≡ t)
+        → x.tid ≡ t
     at true same is go = let k : y ≡ x = cc in sym (ap (λ (z : Request). z.tid) k) ∙ eqb-true y.tid t same
     at false other is go = go is
 
 -- a Safe closes a request that is open and has an answer, and no other
 pub open_closed : (rs : List Reply) (again c : ℕ → Bool) (t : ℕ) (xs : List Request)
-    → opens rs again (λ u. cond ((t == u) && has_reply t rs) true (c u)) xs ≡ cond (is_told t (opens rs again c xs)) (without t (opens rs again c xs)) (opens rs again c xs)
+    → opens rs again (λ u. cond ((t == u) && has_reply t rs) true (c u)) xs
+    ≡ cond (is_told t (opens rs again c xs)) (without t (opens rs again c xs)) (opens rs again c xs)
 open_closed rs again c t xs = closing rs again c t (has_reply t rs) xs ∙ at (find (λ x. x.tid == t) ys) refl
   where
     ys : List Request
@@ -266,7 +282,8 @@ open_closed rs again c t xs = closing rs again c t (has_reply t rs) xs ∙ at (f
     by false os same = refl
 
     at : (o : Option Request) → find (λ x. x.tid == t) ys ≡ o
-        → cond (has_reply t rs) (without t (opens rs again c xs)) (opens rs again c xs) ≡ cond (is_told t (opens rs again c xs)) (without t (opens rs again c xs)) (opens rs again c xs)
+        → cond (has_reply t rs) (without t (opens rs again c xs)) (opens rs again c xs)
+        ≡ cond (is_told t (opens rs again c xs)) (without t (opens rs again c xs)) (opens rs again c xs)
     at None none =
         let away : open_at t (opens rs again c xs) ≡ None = found_as rs again t ys ∙ ap (option_map (open_as rs again)) none in
         by (has_reply t rs) (opens rs again c xs) (none_without t (opens rs again c xs) away)
@@ -348,10 +365,12 @@ next_resent p h run = unsent h (length (requests h) + 1) (next_unsent p h run)
 pub opens_sent : (h : List Entry) (c : ℕ) (op : ReqOp) (t : ℕ) → has_reply t (replies h) ≡ false → is_resent h t ≡ false
     → open_requests (record { event = e.Req c op; answer = a.Sent t } ∷ h) ≡ open_requests h ++ sent_as t c op ∷ []
 opens_sent h c op t none once =
-    ap (map (open_as (replies h) (λ u. is_resent h u))) (filter-append (λ (x : Request). not (is_closed h x.tid)) (requests h) (record { tid = t; caller = c; op = op } ∷ []))
+    ap (map (open_as (replies h) (λ u. is_resent h u))) (filter-append (λ (x : Request). not (is_closed h x.tid)) (requests h)
+    (record { tid = t; caller = c; op = op } ∷ []))
     ∙ (map-append (open_as (replies h) (λ u. is_resent h u)) (filter (λ (x : Request). not (is_closed h x.tid)) (requests h)) _
     ∙ ap (λ l. open_requests h ++ l)
-    (ap (λ b. map (open_as (replies h) (λ u. is_resent h u)) (cond (not b) (record { tid = t; caller = c; op = op } ∷ []) [])) (closed_replied h t none)
+    (ap (λ b. map (open_as (replies h) (λ u. is_resent h u)) (cond (not b) (record { tid = t; caller = c; op = op } ∷ []) []))
+    (closed_replied h t none)
     ∙ (λ i. (let r : OpenReq = record { tid = t; caller = c; op = op; answer = reply_none t (replies h) none i; resent = once i } in r) ∷ [])))
 
 -- an answer is delivered to one that had none
@@ -377,12 +396,15 @@ opens_reconnected h caps asked flushes =
 
 -- it is told to be durable
 pub opens_closed : (h : List Entry) (t : ℕ)
-    → open_requests (record { event = e.ToClient; answer = a.Safe t } ∷ h) ≡ cond (is_told t (open_requests h)) (without t (open_requests h)) (open_requests h)
+    → open_requests (record { event = e.ToClient; answer = a.Safe t } ∷ h)
+    ≡ cond (is_told t (open_requests h)) (without t (open_requests h)) (open_requests h)
 opens_closed h t = own (requests h) ∙ open_closed (replies h) (λ u. is_resent h u) (λ u. is_closed h u) t (requests h)
   where
-    turn : (b : Bool) (u : ℕ) → (t == u) ≡ b → cond ((t == u) && has_reply u (replies h)) true (is_closed h u) ≡ cond ((t == u) && has_reply t (replies h)) true (is_closed h u)
+    turn : (b : Bool) (u : ℕ) → (t == u) ≡ b → cond ((t == u) && has_reply u (replies h)) true (is_closed h u)
+        ≡ cond ((t == u) && has_reply t (replies h)) true (is_closed h u)
     turn true u same = ap (λ n. cond ((t == u) && has_reply n (replies h)) true (is_closed h u)) (sym (eqb-true t u same))
-    turn false u other = ap (λ b. cond (b && has_reply u (replies h)) true (is_closed h u)) other ∙ sym (ap (λ b. cond (b && has_reply t (replies h)) true (is_closed h u)) other)
+    turn false u other = ap (λ b. cond (b && has_reply u (replies h)) true (is_closed h u)) other
+        ∙ sym (ap (λ b. cond (b && has_reply t (replies h)) true (is_closed h u)) other)
 
     own : (xs : List Request) → opens (replies h) (λ u. is_resent h u) (λ u. cond ((t == u) && has_reply u (replies h)) true (is_closed h u)) xs
         ≡ opens (replies h) (λ u. is_resent h u) (λ u. cond ((t == u) && has_reply t (replies h)) true (is_closed h u)) xs
@@ -393,20 +415,24 @@ opens_closed h t = own (requests h) ∙ open_closed (replies h) (λ u. is_resent
 pub first_op : (h : List Entry) (t : ℕ) → has_reply t (replies h) ≡ false
     → option_map (λ (r : OpenReq). r.op) (open_at t (open_requests h)) ≡ op_of t (requests h)
 first_op h t none =
-    ap (option_map (λ (r : OpenReq). r.op)) (open_found (replies h) (λ u. is_resent h u) (λ u. is_closed h u) t (requests h) (closed_replied h t none))
+    ap (option_map (λ (r : OpenReq). r.op)) (open_found (replies h) (λ u. is_resent h u) (λ u. is_closed h u) t (requests h)
+    (closed_replied h t none))
     ∙ at (find (λ x. x.tid == t) (requests h))
   where
-    at : (o : Option Request) → option_map (λ (r : OpenReq). r.op) (option_map (open_as (replies h) (λ u. is_resent h u)) o) ≡ option_map (λ (x : Request). x.op) o
+    at : (o : Option Request) → option_map (λ (r : OpenReq). r.op) (option_map (open_as (replies h) (λ u. is_resent h u)) o)
+        ≡ option_map (λ (x : Request). x.op) o
     at None = refl
     at (Some x) = refl
 
 pub first_answer : (h : List Entry) (t : ℕ) → has_reply t (replies h) ≡ false
     → option_and_then (λ (r : OpenReq). r.answer) (open_at t (open_requests h)) ≡ None
 first_answer h t none =
-    ap (option_and_then (λ (r : OpenReq). r.answer)) (open_found (replies h) (λ u. is_resent h u) (λ u. is_closed h u) t (requests h) (closed_replied h t none))
+    ap (option_and_then (λ (r : OpenReq). r.answer)) (open_found (replies h) (λ u. is_resent h u) (λ u. is_closed h u) t (requests h)
+    (closed_replied h t none))
     ∙ at (find (λ x. x.tid == t) (requests h)) refl
   where
-    at : (o : Option Request) → find (λ x. x.tid == t) (requests h) ≡ o → option_and_then (λ (r : OpenReq). r.answer) (option_map (open_as (replies h) (λ u. is_resent h u)) o) ≡ None
+    at : (o : Option Request) → find (λ x. x.tid == t) (requests h) ≡ o
+        → option_and_then (λ (r : OpenReq). r.answer) (option_map (open_as (replies h) (λ u. is_resent h u)) o) ≡ None
     at None is = refl
     at (Some x) is = ap (λ n. reply_to n (replies h)) (found_tid t (requests h) x is) ∙ reply_none t (replies h) none
 
@@ -433,4 +459,5 @@ open_resends h t free =
 -- the requests behind it that name an entry are free
 pub named_open : (h : List Entry) (t d : ℕ) (name : List ℕ) → ((u : ℕ) → t < u → has_reply u (replies h) ≡ false)
     → named_later t d name (open_requests h) ≡ is_named_later t d name (requests h)
-named_open h t d name none = open_named (replies h) (λ u. is_resent h u) (λ u. is_closed h u) t d name (requests h) (λ u less. closed_replied h u (none u less))
+named_open h t d name none = open_named (replies h) (λ u. is_resent h u) (λ u. is_closed h u) t d name (requests h)
+    (λ u less. closed_replied h u (none u less))

@@ -113,12 +113,14 @@ module _ (p : ℕ) (h : List Entry) (v : ClientView) (i : ClientAt h v) (f : ℕ
   made_then g d all made false other = only_known (client_knows h f) (inode h f) _ (client_home h f) (is_capped h f)
 
   -- the row of a file that was known is what the call makes of it
-  stays : (k : Bool) (x y : FileInode) (home : ℕ) (kept : Bool) (o : Option ClientFile) → o ≡ row_is k x home kept → o ≡ row_is k (cond k x y) home kept
+  stays : (k : Bool) (x y : FileInode) (home : ℕ) (kept : Bool) (o : Option ClientFile) → o ≡ row_is k x home kept
+      → o ≡ row_is k (cond k x y) home kept
   stays k x y home kept o is = is ∙ only_known k x y home kept
 
   pub rows_then : (e : Event) (a : Answer) → is_call e ≡ true → a ≡ answer p h e → CanFollow h e → row_after e a v f ≡ row_by h e a f
   rows_then (events.File g d) answers.Made call is can =
-      (λ k. cond (g == f) (Some (let r : ClientFile = record { inode = new_inode g (path_context (i.tree.paths d k) (i.realms k)); home = d; capped = false } in r)) (i.rows f k))
+      (λ k. cond (g == f) (Some (let r : ClientFile = record { inode = new_inode g
+      (path_context (i.tree.paths d k) (i.realms k)); home = d; capped = false } in r)) (i.rows f k))
       ∙ made_then g d (can.setup refl) is (g == f) refl
   rows_then (events.Begin c g bits end) (answers.Ref n) call is can =
       stays (client_knows h f) _ _ (client_home h f) (is_capped h f) _
@@ -131,7 +133,8 @@ module _ (p : ℕ) (h : List Entry) (v : ClientView) (i : ClientAt h v) (f : ℕ
   rows_then (events.Write c name off bytes) answers.Wrote call is can =
       stays (client_knows h f) _ _ (client_home h f) (is_capped h f) _
       ((λ k. at_ref (named c name (i.live k)) (λ r. written (off + length bytes) (i.clock k)) f (i.rows f k))
-      ∙ on_known (named c name (live h)) (client_knows h f) (λ r. written (off + length bytes) (clock h)) f (inode h f) (client_home h f) (is_capped h f))
+      ∙ on_known (named c name (live h)) (client_knows h f) (λ r. written (off + length bytes) (clock h)) f (inode h f) (client_home h f)
+      (is_capped h f))
   rows_then (events.Chmod c name mode) answers.Done call is can =
       stays (client_knows h f) _ _ (client_home h f) (is_capped h f) _
       ((λ k. at_ref (named c name (i.live k)) (λ r. with_mode mode) f (i.rows f k))

@@ -44,7 +44,9 @@ use Rattle.cs_theorems.proofs.Covering.{covers_by, stands_dir}
 use Rattle.cs_theorems.proofs.Ends.{states_end}
 use Rattle.cs_theorems.proofs.Sizes.{meta_is}
 use Rattle.cs_world.specs.Devices.{calls_store}
-use Rattle.cs_world.specs.Parts.{ClientAt, ServerAt}
+use Rattle.cs_world.specs.Parts.{ClientAt, ServerAt, is_capped}
+use Rattle.cs_world.proofs.Serves as serves
+use Rattle.cs_world.proofs.Serves.{homes_are, paths_are}
 
 -- The server has the state
 
@@ -60,10 +62,10 @@ abbrev shown_by : List Entry → ℕ → At → Shown
 shown_by h f a = cond (server_knows h f) (shown_at f (stand h) (server_file_path h f) a) states.Unknown
 
 shown_is : (h : List Entry) (s : ServerView) (f : ℕ) (a : At) → ServerAt h s → shown_of s f a ≡ shown_by h f a
-shown_is h s f a i = ap (shown_of_home s f a) (i.homes f) ∙ at (server_knows h f)
+shown_is h s f a i = ap (shown_of_home s f a) (homes_are h s i f) ∙ at (server_knows h f)
   where
     at : (b : Bool) → shown_of_home s f a (cond b (Some (server_home h f)) None) ≡ cond b (shown_at f (stand h) (server_file_path h f) a) states.Unknown
-    at true = λ k. shown_at f (i.durable k ++ i.fresh k) (i.tree.paths (server_home h f) k) a
+    at true = λ k. shown_at f (serves.stands h s i k) (paths_are h s i (server_home h f) k) a
     at false = refl
 
 standing_snap : (p : ℕ) (h : List Entry) (f s off len : ℕ) (o : Option ℕ) → IsRun p h → dir_of s (stand h) ≡ o
@@ -146,7 +148,7 @@ pub owes : (p : ℕ) (h : List Entry) (v : ClientView) (f : ℕ) (a : At) → Is
 owes p h v f a run i = ap (λ o. option_map_or (λ r. inodes.owed (snapshot_of a) r.inode) o true) (i.rows f) ∙ at (client_knows h f) refl
   where
     at : (b : Bool) → client_knows h f ≡ b
-        → option_map_or (λ (r : ClientFile). inodes.owed (snapshot_of a) r.inode) (cond b (Some (record { inode = inode h f; home = client_home h f })) None) true ≡ owed h f a
+        → option_map_or (λ (r : ClientFile). inodes.owed (snapshot_of a) r.inode) (cond b (Some (record { inode = inode h f; home = client_home h f; capped = is_capped h f })) None) true ≡ owed h f a
     at true known = sym (owed_is p h run f a known)
     at false unknown = sym (or_left (not (client_knows h f)) _ (ap not unknown))
 

@@ -8,7 +8,8 @@ use Rattle.cs_laws.specs.Events.{is_setup}
 use Rattle.cs_client.specs.Calls.{is_call}
 use Rattle.cs_client.specs.Views.{ClientView}
 use Rattle.cs_mds.specs.Views.{ServerView}
-use Rattle.cs_world.specs.Parts.{ClientAt, ServerAt}
+use Rattle.cs_session.specs.States.{States}
+use Rattle.cs_world.specs.Parts.{ClientAt, ServerAt, SessionAt}
 use Rattle.cs_world.specs.Serving.{is_served}
 
 pub server_stays : (e : Event) (a : Answer) (h : List Entry) (s : ServerView) → is_call e ≡ true → is_setup e ≡ false → ServerAt h s
@@ -36,3 +37,14 @@ client_stays (events.RmSnap n) a h v is i = i
 client_stays (events.Unlease d name) a h v is i = i
 client_stays events.Commit a h v is i = i
 client_stays _ a h v is i = absurd (cc)
+
+-- an event of the server's own leaves both states of the session
+pub session_served : (e : Event) (a : Answer) (h : List Entry) (s : States) → is_served e ≡ true → SessionAt h s
+    → SessionAt (record { event = e; answer = a } ∷ h) s
+session_served (events.Grant f bits end) a h s is i = i
+session_served (events.Revoke f bits) a h s is i = i
+session_served (events.Snap d name) a h s is i = i
+session_served (events.RmSnap n) a h s is i = i
+session_served (events.Unlease d name) a h s is i = i
+session_served events.Commit a h s is i = i
+session_served _ a h s is i = absurd (cc)

@@ -77,14 +77,14 @@ ClientAt h v =
 
 -- The server
 
--- lines: the setup lines that made something; told: realm records were sent in this session; state: its session's. While that is
+-- lines: the setup lines that made something; sent: realm records were sent in this session; state: its session's. While that is
 -- broken no message comes that the mark of a replay would matter for.
-pub record ServerIs (lines : List Entry) (end : ℕ → ServerCaps) (ds fs : List Record) (told : Bool) (state : ServerState) (s : ServerView) : Type 0 where
+pub record ServerIs (lines : List Entry) (end : ℕ → ServerCaps) (ds fs : List Record) (sent : Bool) (state : ServerState) (s : ServerView) : Type 0 where
   pub setup : s.setup ≡ lines
   pub caps : (f : ℕ) → caps_of f s.caps ≡ end f
   pub durable : s.durable ≡ ds
   pub fresh : s.fresh ≡ fs
-  pub told : s.told ≡ told
+  pub told : s.told ≡ sent
   pub replaying : is_broken state ≡ false → s.replaying ≡ not (is_active state)
   -- its tables are those that the lines and the records make
   pub whole : IsWhole s
@@ -94,9 +94,10 @@ ServerAt h s = ServerIs (setups h) (λ f. server h f) (durable h) (fresh h) (tol
 
 -- The session
 
-pub record SessionIs (client : ClientState) (server : ServerState) (s : States) : Type 0 where
-  pub client : s.client ≡ client
-  pub server : s.server ≡ server
+-- c, t: the client's state, and the server's
+pub record SessionIs (c : ClientState) (t : ServerState) (s : States) : Type 0 where
+  pub client : s.client ≡ c
+  pub server : s.server ≡ t
 
 abbrev pub SessionAt : List Entry → States → Type 0
 SessionAt h s = SessionIs (client_state h) (server_state h) s
@@ -116,10 +117,10 @@ abbrev pub LogAt : List Entry → List (List ℕ) → ℕ → Type 0
 LogAt h rs n = LogIs rs n (durable h) (fresh h)
 
 -- the answer to an event, and the parts after it
-pub record After (pages : ℕ) (h : List Entry) (e : Event) (a : Answer) (v : ClientView) (s : ServerView) (session : States) (p q : List Message)
+pub record After (pages : ℕ) (h : List Entry) (e : Event) (a : Answer) (v : ClientView) (s : ServerView) (states : States) (p q : List Message)
     : Type 0 where
   pub answer : a ≡ answer pages h e
   pub client : ClientAt (record { event = e; answer = a } ∷ h) v
   pub server : ServerAt (record { event = e; answer = a } ∷ h) s
-  pub session : SessionAt (record { event = e; answer = a } ∷ h) session
+  pub session : SessionAt (record { event = e; answer = a } ∷ h) states
   pub links : LinksAt (record { event = e; answer = a } ∷ h) p q

@@ -9,9 +9,10 @@ returns c =
     let t = c.requires.parts in
     record {
       after = record {
-        answer = c.in_ok-answer.ensures ∙ names_answer_is s.pages (past s) s.server t.server c.args.dir;
+        answer = c.in_ok-answer.ensures ∙ names_answer_is (past s) s.server t.server s.pages c.args.dir;
         client = t.client;
         server = t.server;
+        session = t.session;
         links = t.links;
       };
       entries = refl;

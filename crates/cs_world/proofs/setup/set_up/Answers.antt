@@ -22,13 +22,14 @@ returns-in_ok-step_call-in-Made-clause-ok g c =
     let s = c.args.state.now in
     let e = c.args.event.now in
     let t = c.requires.ready.parts in
-    let made : answers.Made ≡ served_answer s.server e = rw c.in-Made.is at c.in_ok-answer.ensures.answer in
+    let made : answers.Made ≡ served_answer s.server true e = rw c.in-Made.is at c.in_ok-answer.ensures.answer in
     let served : Served [] s.server c.setup.new.self e answers.Made = rw c.in-Made.is at c.in_ok-answer.ensures.after in
     let done = c.in_ok-step_call-in-Made in
     record {
       after =
-          made_steps s.pages (past s) c.requires.ready.run s.client s.server c.setup.new.self s.to_client.items s.to_server.items e t.client t.server t.links c.requires.setup
-          (record { spelled = c.requires.fits; setup = λ is. c.requires.first }) c.step_call.new.self done.field-0 true (head_byte (g.O.ObjStore.ops c.args.store.now)) made done.ensures.answer served done.ensures.after;
+          made_steps s.pages (past s) c.requires.ready.run s.client s.server c.setup.new.self s.session s.to_client s.to_server e t.client t.server t.session t.links
+          c.requires.setup (record { spelled = c.requires.fits; setup = λ is. c.requires.first }) c.in_ok-answer.ensures.session
+          (c.in_ok-answer.ensures.whole t.server.whole) c.step_call.new.self done.field-0 true (head_byte (g.O.ObjStore.ops c.args.store.now)) made done.ensures.answer served done.ensures.after;
       entries = refl;
       pages = refl;
     }
@@ -40,8 +41,9 @@ returns-in_default-clause-ok g c =
     let a = c.in_ok-answer in
     record {
       after =
-          refused_steps s.pages (past s) c.requires.ready.run s.client s.server c.setup.new.self s.to_client.items s.to_server.items c.args.event.now t.client t.server t.links
-          c.requires.setup (record { spelled = c.requires.fits; setup = λ is. c.requires.first }) a.answer a.ensures.answer c.in_default.not-Made a.ensures.after;
+          refused_steps s.pages (past s) c.requires.ready.run s.client s.server c.setup.new.self s.session s.to_client s.to_server c.args.event.now t.client t.server
+          t.session t.links c.requires.setup (record { spelled = c.requires.fits; setup = λ is. c.requires.first }) a.ensures.session
+          (a.ensures.whole t.server.whole) a.answer a.ensures.answer c.in_default.not-Made a.ensures.after;
       entries = refl;
       pages = refl;
     }
@@ -50,7 +52,7 @@ pub step_call-requires-clause-setup : goal.step_call-requires-clause-setup
 step_call-requires-clause-setup g c κs within =
     let s = c.args.state.now in
     let t = c.requires.ready.parts in
-    let made : answers.Made ≡ served_answer s.server c.args.event.now = rw c.in-Made.is at c.in_ok-answer.ensures.answer in
+    let made : answers.Made ≡ served_answer s.server true c.args.event.now = rw c.in-Made.is at c.in_ok-answer.ensures.answer in
     made_new (past s) s.client s.server c.args.event.now c.requires.first t.client t.server c.requires.setup made
 
 pub returns-in_ok-step_call-in-Made-clause-store : goal.returns-in_ok-step_call-in-Made-clause-store

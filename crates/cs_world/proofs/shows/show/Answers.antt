@@ -17,6 +17,24 @@ use Rattle.cs_world.proofs.Showing.{called_by, owes, quiet_by, show_is, shows_it
 use Rattle.cs_world.proofs.Stored.{any_err, front_none}
 use Rattle.cs_world.proofs.shows.show.Goals as goal
 
+pub returns-in-Unknown-clause-ok : goal.returns-in-Unknown-clause-ok
+returns-in-Unknown-clause-ok g c =
+    let s = c.args.state.now in
+    let a = c.args.at.now in
+    let t = c.requires.ready.parts in
+    let is : states.Unknown ≡ shown_of s.server c.args.file a = sym c.in-Unknown.is ∙ c.shown.ensures in
+    record {
+      after = record {
+        answer = sym (show_is s.pages (past s) s.server c.args.file a c.args.off c.args.len states.Unknown c.requires.ready.run t.server is);
+        client = t.client;
+        server = t.server;
+        session = t.session;
+        links = t.links;
+      };
+      entries = refl;
+      pages = refl;
+    }
+
 pub returns-in-Absent-clause-ok : goal.returns-in-Absent-clause-ok
 returns-in-Absent-clause-ok g c =
     let s = c.args.state.now in
@@ -28,6 +46,7 @@ returns-in-Absent-clause-ok g c =
         answer = sym (show_is s.pages (past s) s.server c.args.file a c.args.off c.args.len states.Absent c.requires.ready.run t.server is);
         client = t.client;
         server = t.server;
+        session = t.session;
         links = t.links;
       };
       entries = refl;
@@ -45,6 +64,7 @@ returns-in-Gone-clause-ok g c =
         answer = sym (show_is s.pages (past s) s.server c.args.file a c.args.off c.args.len states.Gone c.requires.ready.run t.server is);
         client = t.client;
         server = t.server;
+        session = t.session;
         links = t.links;
       };
       entries = refl;
@@ -68,6 +88,7 @@ returns-then-owed-clause-ok g c =
             sym (show_is s.pages h s.server f a c.args.off c.args.len (states.Meta c.in-Meta.meta) run t.server is ∙ cond-true (owed h f a) answers.Pending _ owing);
         client = t.client;
         server = t.server;
+        session = t.session;
         links = t.links;
       };
       entries = refl;
@@ -137,6 +158,7 @@ returns-in_ok-bytes-in-Meta-clause-ok g c =
         answer = ap (λ b. answers.Size m b) held ∙ sym shows;
         client = t.client;
         server = t.server;
+        session = t.session;
         links = t.links;
       };
       entries = refl;
