@@ -18,6 +18,7 @@ pub mod Received
 pub mod ClientAccepts
 pub mod Replies
 pub mod Told
+pub mod Capped
 -- The client comes back
 pub mod Resending
 pub mod Reconnects
