@@ -1,11 +1,11 @@
 -- What a commit tells, by the mark whether realms were told, is what the records tell, since what was sent last is as the durable log has it.
-use Rattle.std.proofs.Common.{◌≡◌, refl, sym, ap, ◌∙◌, subst, ℕ, ◌||◌, Bool, true, false, cond, List, [], ◌∷◌, ◌++◌, append_assoc, Option, None}
+use Rattle.std.proofs.Common.{◌≡◌, refl, sym, ap, ◌∙◌, subst, ℕ, Bool, true, false, cond, List, [], ◌∷◌, ◌++◌, append_assoc, Option, None}
 use Rattle.std.proofs.lemmas.Bool.{cond-false}
 use Rattle.cs_snapctx.specs.declared.realm.RealmRecord.{RealmRecord}
 use Rattle.cs_snapctx.specs.Records.{with_records}
 use Rattle.cs_laws.specs.declared.answers.Entry.{Entry}
 use Rattle.cs_laws.specs.declared.records.Record.{Record}
-use Rattle.cs_laws.specs.Carried.{is_realm_change, realms_of}
+use Rattle.cs_laws.specs.Carried.{realms_of}
 use Rattle.cs_laws.specs.History.{durable, fresh, last_sent, stand}
 use Rattle.cs_laws.specs.Realms.{differing, is_realm, realm_record, realm_records}
 use Rattle.cs_laws.specs.Runs.{IsRun}
@@ -14,7 +14,7 @@ use Rattle.cs_laws.specs.Sessions.{is_broken, server_state}
 use Rattle.cs_laws.specs.Standing.{news, news_of, news_on}
 use Rattle.cs_laws.specs.Tree.{is_directory}
 use Rattle.cs_records.specs.CommitNews.{changed_records, commit_news, told_with}
-use Rattle.cs_theorems.specs.Told.{sent_if, told_realms}
+use Rattle.cs_theorems.specs.Told.{told_realms}
 use Rattle.cs_theorems.proofs.Commits.{AreSent, now_is, sent_after}
 use Rattle.cs_theorems.proofs.Course.{course_run}
 use Rattle.cs_theorems.proofs.Links.{differing_at, realm_at}

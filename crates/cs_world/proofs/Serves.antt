@@ -24,12 +24,11 @@ use Rattle.cs_laws.specs.Events.{is_setup}
 use Rattle.cs_laws.specs.History.{durable, fresh, server, stand, to_server}
 use Rattle.cs_laws.specs.Made.{Made, dirs_by, dirs_with, home_with, is_made_file, made_in, makes_dir, makes_file, path_by, path_with}
 use Rattle.cs_laws.specs.Names.{names, names_after, setup_names}
-use Rattle.cs_laws.specs.Namespace.{has_dir}
 use Rattle.cs_laws.specs.Runs.{IsRun, all_setup}
 use Rattle.cs_laws.specs.ServerKnows.{server_dir, server_dirs, server_home, server_knows, server_made, server_path}
 use Rattle.cs_laws.specs.Sessions.{is_active, is_broken, server_state, server_state_then}
-use Rattle.cs_laws.specs.Standing.{durable_then, fresh_then, greatest_number, has_snap_named, requested}
-use Rattle.cs_laws.specs.Tree.{directories, home, is_directory, path}
+use Rattle.cs_laws.specs.Standing.{durable_then, fresh_then, requested}
+use Rattle.cs_laws.specs.Tree.{home, is_directory}
 use Rattle.cs_records.specs.CommitNews.{told_after}
 use Rattle.cs_mds.specs.Answers.{made_answer, names_answer, remove_answer, restart_answer, served_answer, snap_answer, unlease_answer}
 use Rattle.cs_mds.specs.Served.{Served, setup_then}
@@ -44,7 +43,6 @@ use Rattle.cs_theorems.proofs.Trees.{home_unmade}
 use Rattle.cs_world.specs.Parts.{ServerAt}
 use Rattle.cs_world.specs.Serving.{HasNumber, is_served}
 use Rattle.cs_world.specs.Serving as serving
-use Rattle.cs_world.specs.Setups.{setups}
 use Rattle.cs_world.proofs.Setups.{early_dir, early_file, directories_lines, directory_lines, names_lines, path_lines, setup_home_lines}
 
 -- Its tables

@@ -1,5 +1,5 @@
 -- The setup lines of a history that made something make what the history's lines make.
-use Rattle.std.proofs.Common.{◌≡◌, refl, sym, ap, ◌∙◌, ℕ, ◌==◌, ◌||◌, ◌++◌, Bool, true, false, cond, List, [], ◌∷◌, length, Option, Some, None}
+use Rattle.std.proofs.Common.{◌≡◌, refl, ap, ◌∙◌, ℕ, ◌==◌, ◌||◌, ◌++◌, Bool, true, false, cond, List, [], ◌∷◌, length, Option, Some, None}
 use Rattle.cs_laws.specs.declared.answers.Answer.{Answer}
 use Rattle.cs_laws.specs.declared.answers.Answer.TheVariants as answers
 use Rattle.cs_laws.specs.declared.answers.Entry.{Entry}
@@ -7,7 +7,7 @@ use Rattle.cs_laws.specs.declared.events.Event.{Event}
 use Rattle.cs_laws.specs.declared.events.Event.TheVariants as events
 use Rattle.cs_laws.specs.Events.{setup_file, setup_file_then}
 use Rattle.cs_laws.specs.Names.{setup_names, setup_names_then}
-use Rattle.cs_laws.specs.Tree.{directories, directories_then, home, home_then, is_directory, path, path_then, setup_dir, setup_dir_then, with_directory}
+use Rattle.cs_laws.specs.Tree.{directories, home, home_then, is_directory, path, path_then, setup_dir, setup_dir_then, with_directory}
 use Rattle.cs_laws.specs.History.{stand}
 use Rattle.cs_laws.specs.Made.{made_in, makes_dir, makes_file}
 use Rattle.cs_laws.specs.Runs.{all_setup}

@@ -1,8 +1,7 @@
 -- What is shown of a file, by the sides and by the store.
-use Rattle.std.proofs.Common.{◌≡◌, ◌∙◌, refl, sym, ap, ℕ, zero, suc, ◌+◌, ◌<◌, ◌≤◌, ◌&&◌, ◌==◌, ◌++◌, not, Bool, true, false, cond, List, ◌∷◌, nat_lt, nat_le, Option, Some, None, is_some, arith}
+use Rattle.std.proofs.Common.{◌≡◌, ◌∙◌, refl, sym, ap, ℕ, zero, suc, ◌+◌, ◌<◌, ◌≤◌, ◌&&◌, not, Bool, true, false, cond, List, ◌∷◌, nat_lt, nat_le, Option, Some, None, is_some, arith}
 use Rattle.std.proofs.lemmas.Bool.{and_parts, cond-false, cond-true, ltb-true, or_left}
 use Rattle.std.specs.BTreeMap.{get}
-use Rattle.std.specs.List.{list_any}
 use Rattle.std.specs.Option.{option_map_or}
 use Rattle.std.specs.Ordering.{nat_cmp}
 use Rattle.cs_ids.specs.declared.objects.FileMeta.{FileMeta}
@@ -20,7 +19,7 @@ use Rattle.cs_laws.specs.Answers.{answer_show, bytes_from, covers_file, is_gone,
 use Rattle.cs_laws.specs.ClientKnows.{client_knows, client_home}
 use Rattle.cs_laws.specs.Covering.{covers_along}
 use Rattle.cs_laws.specs.ServerKnows.{server_knows, server_file_path, server_home}
-use Rattle.cs_laws.specs.Fits.{greatest_end, is_shown, is_state, most_shown}
+use Rattle.cs_laws.specs.Fits.{greatest_end, is_shown, most_shown}
 use Rattle.cs_laws.specs.History.{stand, writes}
 use Rattle.cs_laws.specs.Image.{image}
 use Rattle.cs_laws.specs.Metadata.{meta_at}

@@ -29,7 +29,8 @@ server_stays (events.Dir d p) a h s call later i = absurd (cc)
 server_stays (events.File f p) a h s call later i = absurd (cc)
 server_stays _ a h s call later i = absurd (cc)
 
-pub client_stays : (e : Event) (a : Answer) (h : List Entry) (v : ClientView) → is_served e ≡ true → ClientAt h v → ClientAt (record { event = e; answer = a } ∷ h) v
+pub client_stays : (e : Event) (a : Answer) (h : List Entry) (v : ClientView) → is_served e ≡ true → ClientAt h v
+    → ClientAt (record { event = e; answer = a } ∷ h) v
 client_stays (events.Grant f bits end) a h v is i = i
 client_stays (events.Revoke f bits) a h v is i = i
 client_stays (events.Snap d name) a h v is i = i

@@ -1,4 +1,4 @@
-use Rattle.std.proofs.Common.{◌<◌, length, arith}
+use Rattle.std.proofs.Common.{arith}
 use Rattle.std.proofs.lemmas.List.{length-reverse}
 use Rattle.cs_theorems.proofs.RealmSeqs.{stand_few}
 use Rattle.cs_world.specs.Tables.{past}
