@@ -53,7 +53,8 @@ once_end (g ∷ fs) f once new = (
   once_end fs f once.1 (λ m. new (inr m)),
 )
 
-member_turned : (f : ℕ) (fs : List ℕ) → Member f fs → Member f (reverse fs)
+pub member_turned : (f : ℕ) (fs : List ℕ) → Member f fs → Member f (reverse fs)
+member_turned f [] m = absurd m
 member_turned f (g ∷ fs) (inl is) = subst (λ xs. Member f xs) (sym (reverse-append (g ∷ []) fs)) (member_right f (reverse fs) (g ∷ []) (inl is))
 member_turned f (g ∷ fs) (inr m) = subst (λ xs. Member f xs) (sym (reverse-append (g ∷ []) fs)) (member_left f (reverse fs) (g ∷ []) (member_turned f fs m))
 
@@ -85,19 +86,21 @@ module _ (p : ℕ) (h : List Entry) (run : IsRun p h) (v : ClientView) (i : Clie
 
   -- each is of one of the files
   all_own : (fs : List ℕ) → Each (λ f. client_knows h f ≡ true) fs → Each (λ r. Member r.ino fs) (all_unacked v.files fs)
-  all_own [] known = each_nil (λ r. Member r.ino [])
-  all_own (f ∷ fs) known r m =
+  all_own [] known = λ r m. absurd m
+  all_own (f ∷ fs) known = λ r m.
       ⊎_elim (λ here. inl (sym (own f (known f (inl refl)) r here))) (λ later. inr (all_own fs (λ g n. known g (inr n)) r later))
       (member_cases r (unacked_at v.files f) (all_unacked v.files fs) m)
 
   member_all : (f : ℕ) (fs : List ℕ) (r : FlushReport) → Member f fs → Member r (unacked_at v.files f) → Member r (all_unacked v.files fs)
+  member_all f [] r there m = absurd there
   member_all f (g ∷ fs) r (inl is) m =
       member_left r (unacked_at v.files g) (all_unacked v.files fs) (subst (λ k. Member r (unacked_at v.files k)) (sym is) m)
   member_all f (g ∷ fs) r (inr there) m = member_right r (unacked_at v.files g) (all_unacked v.files fs) (member_all f fs r there m)
 
   all_apart : (fs : List ℕ) → Each (λ f. client_knows h f ≡ true) fs → IsEachOnce fs → AreApart tid_of (all_unacked v.files fs)
   all_apart [] known once t = omega arith
-  all_apart (f ∷ fs) known once t = at (times tid_of t (unacked_at v.files f)) refl (times tid_of t (all_unacked v.files fs)) refl
+  all_apart (f ∷ fs) known once t =
+      at (times tid_of t (unacked_at v.files f)) refl (times tid_of t (all_unacked v.files fs)) refl (all_apart fs (λ g m. known g (inr m)) once.1 t)
     where
       mine : client_knows h f ≡ true
       mine = known f (inl refl)
@@ -114,16 +117,16 @@ module _ (p : ℕ) (h : List Entry) (run : IsRun p h) (v : ClientView) (i : Clie
           let x = times_some tid_of t (unacked_at v.files f) here in
           let y = times_some tid_of t (all_unacked v.files fs) there in
           let same : x.0 ≡ y.0 =
-          same_number 0 (unacked_reports h) (reports_rise p h run) x.0 y.0 (among f mine x.0 x.1.0) (all_among fs rest y.0 y.1.0) (x.1.1 ∙ sym y.1.1) in
-          once.0 (subst (λ k. Member k fs) (sym (ap (λ (r : FlushReport). r.ino) same) ∙ own f mine x.0 x.1.0) (all_own fs rest y.0 y.1.0))
+          same_number 0 (unacked_reports h) (reports_rise p h run) x.0 y.0 (among f mine x.0 x.1) (all_among fs rest y.0 y.1) (x.2 ∙ sym y.2) in
+          once.0 (subst (λ k. Member k fs) (sym (ap (λ (r : FlushReport). r.ino) same) ∙ own f mine x.0 x.1) (all_own fs rest y.0 y.1))
 
       at : (a : ℕ) → times tid_of t (unacked_at v.files f) ≡ a → (b : ℕ) → times tid_of t (all_unacked v.files fs) ≡ b
-          → times tid_of t (unacked_at v.files f ++ all_unacked v.files fs) ≤ 1
-      at zero is b also = let low : times tid_of t (all_unacked v.files fs) ≤ 1 = all_apart fs rest once.1 t in omega (arith, sum, is, low)
-      at (suc a) is zero also =
+          → times tid_of t (all_unacked v.files fs) ≤ 1 → times tid_of t (unacked_at v.files f ++ all_unacked v.files fs) ≤ 1
+      at zero is b also few = omega (arith, sum, is, few)
+      at (suc a) is zero also few =
           let low : times tid_of t (unacked_at v.files f) ≤ 1 = subst (λ rs. times tid_of t rs ≤ 1) (sym (part_is f mine)) (kept_apart p h run f t) in
           omega (arith, sum, also, low)
-      at (suc a) is (suc b) also = absurd (never (omega (arith, is)) (omega (arith, also)))
+      at (suc a) is (suc b) also few = absurd (never (omega (arith, is)) (omega (arith, also)))
 
   known_files : Each (λ f. client_knows h f ≡ true) (reverse (client_files h))
   known_files = each_reverse (λ f. client_knows h f ≡ true) (client_files h) (λ f m. (listed p h run f).1 m)
