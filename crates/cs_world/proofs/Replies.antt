@@ -169,9 +169,9 @@ module _ (p : ℕ) (h : List Entry) (run : IsRun p h) (v : ClientView) (i : Clie
       at : (ms : List Made) → IsFew ms → (makes_file f ms ≡ true → client_knows h f ≡ false) → row_with ms v.tree v.realms f (client_row h f)
           ≡ row_is (client_knows h f || makes_file f ms)
           (cond (makes_file f ms) (new_inode f (path_context (client_path h (home_by ms)) (realms h))) (inode h f)) (home_by ms) (is_capped h f)
-      at [] few new = ap (λ b. row_is b (inode h f) (client_home h f) (is_capped h f)) (or_none (client_knows h f))
-      at (m ∷ []) few new = one m (is_made_file f m) refl (λ is. new (λ k. is k || false))
-      at (m ∷ n ∷ ms) few new = absurd few
+      at [] one_made new = ap (λ b. row_is b (inode h f) (client_home h f) (is_capped h f)) (or_none (client_knows h f))
+      at (m ∷ []) one_made new = one m (is_made_file f m) refl (λ is. new (λ k. is k || false))
+      at (m ∷ n ∷ ms) one_made new = absurd one_made
 
   -- the answer that was told is the same
   kept_answer : has_reply t (replies h) ≡ true → SameAgain h t o o × (reply_to t (replies h) ≡ Some o)

@@ -57,6 +57,10 @@ abbrev pub told_session : Message → States → States
 told_session (messages.Resumed now) ses = record ses { client = clients.Active }
 told_session _ ses = ses
 
+pub other_session : (m : Message) (ses : States) → ((now : List RealmRecord) → m ≡ messages.Resumed now → ⊥) → told_session m ses ≡ ses
+other_session (messages.Resumed now) ses none = absurd (none now refl)
+other_session _ ses none = refl
+
 -- a Cap of the file is delivered
 cap_known : (b known : Bool) (bits : Caps) (seq end : ℕ) (i : FileInode) (home : ℕ) (was : Bool)
     → cond b (option_map (with_cap bits seq end) (row_is known i home was)) (row_is known i home was)
@@ -134,6 +138,7 @@ module _ (p : ℕ) (h : List Entry) (run : IsRun p h) (v : ClientView) (i : Clie
       → After p h events.ToClient a w s (told_session m ses) rest qs
   told_steps (messages.Cap f seq bits end) a w s ses qs rest first ok said c j k there =
       let P : Answer → Type 0 = λ b. After p h events.ToClient b w s ses rest qs in
+      let capped_inode : ℕ → FileInode = λ g. cond (f == g) (with_caps bits seq end (inode h g)) (inode h g) in
       let is : answers.Cap f seq bits end ≡ answer p h events.ToClient = sym (ap (λ q. answer_to_client_of h q) first) in
       let known : P (answers.Cap f seq bits end) = record {
         answer = is;
@@ -141,8 +146,9 @@ module _ (p : ℕ) (h : List Entry) (run : IsRun p h) (v : ClientView) (i : Clie
             client_delivered (messages.Cap f seq bits end) (answers.Cap f seq bits end) w c (subst (λ tree. TreeAt h tree) (sym c.tree) i.tree) refl
             (λ g. ap (λ o. cap_row f bits seq end g o) (i.rows g)
             ∙ (cap_known (f == g) (client_knows h g) bits seq end (inode h g) (client_home h g) (is_capped h g)
-            ∙ (only_known (client_knows h g) _ _ (client_home h g) ((f == g) || is_capped h g)
-            ∙ (ap (λ b. row_is (client_knows h g) _ (client_home h g) b) (sym (any_with (λ n. n == g) f (capped h)))
+            ∙ (only_known (client_knows h g) (capped_inode g) (new_inode g (context h g)) (client_home h g) ((f == g) || is_capped h g)
+            ∙ (ap (λ b. row_is (client_knows h g) (cond (client_knows h g) (capped_inode g) (new_inode g (context h g))) (client_home h g) b)
+            (sym (any_with (λ n. n == g) f (capped h)))
             ∙ row_told (answers.Cap f seq bits end) g is))))
             (c.made ∙ i.made) i.requests i.leases;
         server = j;
