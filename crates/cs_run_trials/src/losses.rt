@@ -4,6 +4,7 @@ use cs_io::{MemSink, MemSource};
 use cs_mdslog::MemLog;
 use cs_objstore::MemStore;
 use cs_run::serve_run;
+use cs_status::Finished;
 use std::alloc::Global;
 use std::test::Fail;
 
@@ -120,8 +121,12 @@ fn run(alloc: Global, input: &[u8]) -> Result<(u8, MemSink), Memory> {
     let mut sink = MemSink::new(alloc);
     let store = MemStore::new(alloc);
     let log = MemLog::new(alloc);
-    let finished = serve_run(alloc, 256, &mut source, &mut sink, store, log);
-    Ok((finished.status, sink))
+    let Finished {
+        status,
+        store: _,
+        log: _,
+    } = serve_run(alloc, 256, &mut source, &mut sink, store, log);
+    Ok((status, sink))
 }
 
 // Whether the line ends with this answer or one of these others.
