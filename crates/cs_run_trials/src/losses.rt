@@ -67,12 +67,16 @@ const HEAD_FLUSH: &[&[u8]] = &[
 ];
 
 const SNAPSHOT_OF_WRITES: &[u8] = b" -> size 4 mtime 0 mode 0644 bytes 61616262";
+
 const HEAD_OF_WRITES: &[u8] = b" -> size 4 mtime 0 mode 0644 bytes 7a616262";
+
 const FIRST_SNAPSHOT: &[u8] = b" -> size 1 mtime 0 mode 0644 bytes 61";
+
 const SECOND_SNAPSHOT: &[u8] = b" -> size 2 mtime 0 mode 0644 bytes 6162";
 
 // What may be told instead of a snapshot, and of the head.
 const NO_SNAPSHOT: &[&[u8]] = &[b" -> unknown", b" -> nosnap", b" -> pending"];
+
 const NO_HEAD: &[&[u8]] = &[
     b" -> unknown",
     b" -> pending",

@@ -136,10 +136,10 @@ module _ (p : ℕ) (h : List Entry) (run : IsRun p h) (v : ClientView) (i : Clie
   capped_are : capped h ≡ capped_files v.files v.made
   capped_are = is_rising (filter (client_side.is_capped v.files) v.made) (capped h) (rises h) (λ f. (
     λ there.
-    let is : is_capped h f ≡ true = in_among f (capped h) there in
-    let made : Member f (reverse (client_files h)) = member_turned f (client_files h) ((listed p h run f).0 (capped_is_known p h run f is)) in
-    let among : Contains v.made f = among_in f v.made (ap (λ fs. list_any (λ g. g == f) fs) i.made ∙ member_in f (reverse (client_files h)) made) in
-    (in_filter (client_side.is_capped v.files) v.made f).1 (among, sym (capped_row f) ∙ is),
+        let is : is_capped h f ≡ true = in_among f (capped h) there in
+        let made : Member f (reverse (client_files h)) = member_turned f (client_files h) ((listed p h run f).0 (capped_is_known p h run f is)) in
+        let among : Contains v.made f = among_in f v.made (ap (λ fs. list_any (λ g. g == f) fs) i.made ∙ member_in f (reverse (client_files h)) made) in
+        (in_filter (client_side.is_capped v.files) v.made f).1 (among, sym (capped_row f) ∙ is),
     λ there. among_in f (capped h) (capped_row f ∙ ((in_filter (client_side.is_capped v.files) v.made f).0 there).1),
   ))
 

@@ -119,8 +119,12 @@ module _ (p : ℕ) (h : List Entry) (v : ClientView) (i : ClientAt h v) (f : ℕ
 
   pub rows_then : (e : Event) (a : Answer) → is_call e ≡ true → a ≡ answer p h e → CanFollow h e → row_after e a v f ≡ row_by h e a f
   rows_then (events.File g d) answers.Made call is can =
-      (λ k. cond (g == f) (Some (let r : ClientFile = record { inode = new_inode g
-      (path_context (i.tree.paths d k) (i.realms k)); home = d; capped = false } in r)) (i.rows f k))
+      (λ k. cond (g == f) (Some (let r : ClientFile = record {
+        inode = new_inode g
+            (path_context (i.tree.paths d k) (i.realms k));
+        home = d;
+        capped = false;
+      } in r)) (i.rows f k))
       ∙ made_then g d (can.setup refl) is (g == f) refl
   rows_then (events.Begin c g bits end) (answers.Ref n) call is can =
       stays (client_knows h f) _ _ (client_home h f) (is_capped h f) _

@@ -38,12 +38,12 @@ returns-clause-ok c =
     (client_accepts s.pages h s.client m rest c.requires.run t.client first) c.in_ok-answer.ensures.answer c.in_ok-answer.ensures.after t.server t.session
     t.links.to_server in
     elim c.match-message-3.branch [
-      in-Resumed k ↦ subst (λ (new : State). Steps s new events.ToClient a) (sym k.state-is)
-      (record {
-        after = subst P (ap (λ (x : Message). told_session x s.session) k.in-Resumed.is ∙ sym k.resumed.ensures) after;
-        entries = refl;
-        pages = refl;
-      })
+      | in-Resumed k ↦ subst (λ (new : State). Steps s new events.ToClient a) (sym k.state-is)
+          (record {
+            after = subst P (ap (λ (x : Message). told_session x s.session) k.in-Resumed.is ∙ sym k.resumed.ensures) after;
+            entries = refl;
+            pages = refl;
+          })
       | in_default-message k ↦ subst (λ (new : State). Steps s new events.ToClient a) (sym k.state-is)
-      (record { after = subst P (other_session m s.session k.in_default-message.not-Resumed) after; entries = refl; pages = refl })
+          (record { after = subst P (other_session m s.session k.in_default-message.not-Resumed) after; entries = refl; pages = refl })
     ]
