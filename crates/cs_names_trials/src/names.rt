@@ -1,18 +1,23 @@
 // The calls of names, with ample memory.
-ghost use Rattle.std.specs.Prelude.{◌≡◌, ◌<◌, ◌≤◌, length, true, IfOk, OnOk};
-ghost use Rattle.cs_ids.specs.Names.{is_name};
+ghost use Rattle.std.specs.Prelude.{◌≡◌, ◌+◌, ◌<◌, ◌≤◌, IfOk, OnOk};
 ghost use Rattle.cs_names.specs.Setup.{IsSetUp};
 
 use cs_ids::{Ino, Name};
 use cs_laws::{NameList, OpAnswer, ReqOp};
 use cs_names::{Names, SetupStep};
 use std::alloc::Global;
+use std::process::Abort;
 use std::test::Fail;
 
 fn ino(number: u64) -> Result<Ino, Fail>
     ensures { IfOk result (λ i. i ≡ number) }
 {
     Ok(Ino::new(number).ok_or("no inode's number")?)
+}
+
+fn name(rt: &impl Abort, alloc: Global, bytes: &[u8]) -> Result<Name, Fail> {
+    assert!(rt; cs_ids::is_name(bytes));
+    Ok(Name::from_slice(alloc, bytes)?)
 }
 
 // The names, each with its inode behind an equals sign.
@@ -68,118 +73,100 @@ fn a_line_may_be_refused(rt: HostRuntime) -> Result<(), Fail> {
     Ok(())
 }
 
-// The answers to operations, one after another, on names of which there are only the root's.
-fn answers(alloc: Global, ops: &[ReqOp]) -> Result<Vec<OpAnswer>, Fail>
-    requires few { length ops.now < 1000 }
+// The answer to an operation, before which operations have made at most `made` inodes.
+fn applied(names: &mut Names, made: u64, op: ReqOp) -> Result<OpAnswer, Fail>
+    requires few { names.old.made ≤ made }
+    requires room { made < 1000 }
+    ensures { OnOk result (names.new.made ≤ made + 1) }
 {
-    let mut names = Names::new(alloc)?;
-    let mut told = Vec::new(alloc);
-    for op in ops {
-        told.push(names.apply(op, None)?)?;
-    }
-    Ok(told)
+    Ok(names.apply(&op, None)?)
 }
 
-fn mkdir(alloc: Global, dir: u64, word: &[u8]) -> Result<ReqOp, Fail>
-    requires name { is_name word.now ≡ true }
-{
-    Ok(ReqOp::Mkdir {
-        dir: ino(dir)?,
-        name: Name::from_slice(alloc, word)?,
-    })
-}
-
-fn create(alloc: Global, dir: u64, word: &[u8]) -> Result<ReqOp, Fail>
-    requires name { is_name word.now ≡ true }
-{
+fn create(rt: &impl Abort, alloc: Global, dir: u64, word: &[u8]) -> Result<ReqOp, Fail> {
     Ok(ReqOp::Create {
         dir: ino(dir)?,
-        name: Name::from_slice(alloc, word)?,
+        name: name(rt, alloc, word)?,
     })
 }
 
-fn unlink(alloc: Global, dir: u64, word: &[u8]) -> Result<ReqOp, Fail>
-    requires name { is_name word.now ≡ true }
-{
+fn unlink(rt: &impl Abort, alloc: Global, dir: u64, word: &[u8]) -> Result<ReqOp, Fail> {
     Ok(ReqOp::Unlink {
         dir: ino(dir)?,
-        name: Name::from_slice(alloc, word)?,
+        name: name(rt, alloc, word)?,
     })
 }
 
-fn look_up(alloc: Global, dir: u64, word: &[u8]) -> Result<ReqOp, Fail>
-    requires name { is_name word.now ≡ true }
-{
+fn look_up(rt: &impl Abort, alloc: Global, dir: u64, word: &[u8]) -> Result<ReqOp, Fail> {
     Ok(ReqOp::Lookup {
         dir: ino(dir)?,
-        name: Name::from_slice(alloc, word)?,
+        name: name(rt, alloc, word)?,
     })
 }
 
-fn rename(alloc: Global, dir: u64, word: &[u8], new: &[u8]) -> Result<ReqOp, Fail>
-    requires name { is_name word.now ≡ true }
-    requires new_name { is_name new.now ≡ true }
-{
+fn rename(
+    rt: &impl Abort,
+    alloc: Global,
+    dir: u64,
+    word: &[u8],
+    new: &[u8],
+) -> Result<ReqOp, Fail> {
     Ok(ReqOp::Rename {
         dir: ino(dir)?,
-        name: Name::from_slice(alloc, word)?,
-        new_name: Name::from_slice(alloc, new)?,
+        name: name(rt, alloc, word)?,
+        new_name: name(rt, alloc, new)?,
     })
+}
+
+// Names in which operations made directory 10,000, named a.
+fn with_directory(rt: &impl Abort, alloc: Global) -> Result<Names, Fail>
+    ensures { IfOk result (λ n. n.made ≤ 1) }
+{
+    let mut names = Names::new(alloc)?;
+    let op = ReqOp::Mkdir {
+        dir: ino(1)?,
+        name: name(rt, alloc, b"a")?,
+    };
+    assert!(rt; applied(&mut names, 0, op)? == OpAnswer::Made(ino(10_000)?));
+    Ok(names)
 }
 
 // Nothing is done where an answer is told alone.
 #[test]
 fn an_answer_is_told(rt: HostRuntime) -> Result<(), Fail> {
-    let names = Names::new(rt.alloc())?;
-    let op = mkdir(rt.alloc(), 1, b"a")?;
-    let first = names.answer(&op)?;
-    let second = names.answer(&op)?;
-    let made = OpAnswer::Made(ino(10_000)?);
-    assert_eq!(rt; (first, second), (made, made));
+    let alloc = rt.alloc();
+    let names = with_directory(&rt, alloc)?;
+    let op = create(&rt, alloc, 10_000, b"x")?;
+    assert!(rt; names.answer(&op)? == OpAnswer::Made(ino(10_001)?));
+    assert!(rt; names.answer(&op)? == OpAnswer::Made(ino(10_001)?));
     Ok(())
 }
 
 #[test]
 fn a_file_has_another_name(rt: HostRuntime) -> Result<(), Fail> {
     let alloc = rt.alloc();
-    let mut ops = Vec::new(alloc);
-    ops.push(mkdir(alloc, 1, b"a")?)?;
-    ops.push(create(alloc, 10_000, b"x")?)?;
-    ops.push(rename(alloc, 10_000, b"x", b"x")?)?;
-    ops.push(rename(alloc, 10_000, b"x", b"y")?)?;
-    ops.push(look_up(alloc, 10_000, b"y")?)?;
-    let file = ino(10_001)?;
-    let wanted = [
-        OpAnswer::Made(ino(10_000)?),
-        OpAnswer::Made(file),
-        OpAnswer::Exists,
-        OpAnswer::Moved,
-        OpAnswer::Found(file),
-    ];
-    let told = answers(alloc, ops.as_slice())?;
-    assert_eq!(rt; told.as_slice(), wanted.as_slice());
+    let mut names = with_directory(&rt, alloc)?;
+    let op = create(&rt, alloc, 10_000, b"x")?;
+    assert!(rt; applied(&mut names, 1, op)? == OpAnswer::Made(ino(10_001)?));
+    let op = rename(&rt, alloc, 10_000, b"x", b"x")?;
+    assert!(rt; applied(&mut names, 2, op)? == OpAnswer::Exists);
+    let op = rename(&rt, alloc, 10_000, b"x", b"y")?;
+    assert!(rt; applied(&mut names, 3, op)? == OpAnswer::Moved);
+    let op = look_up(&rt, alloc, 10_000, b"y")?;
+    assert!(rt; applied(&mut names, 4, op)? == OpAnswer::Found(ino(10_001)?));
     Ok(())
 }
 
 #[test]
 fn what_is_taken_out_is_missing(rt: HostRuntime) -> Result<(), Fail> {
     let alloc = rt.alloc();
-    let mut ops = Vec::new(alloc);
-    ops.push(mkdir(alloc, 1, b"a")?)?;
-    ops.push(create(alloc, 10_000, b"x")?)?;
-    ops.push(unlink(alloc, 1, b"a")?)?;
-    ops.push(unlink(alloc, 10_000, b"x")?)?;
-    ops.push(unlink(alloc, 10_000, b"x")?)?;
-    ops.push(look_up(alloc, 10_001, b"x")?)?;
-    let wanted = [
-        OpAnswer::Made(ino(10_000)?),
-        OpAnswer::Made(ino(10_001)?),
-        OpAnswer::NotEmpty,
-        OpAnswer::Gone,
-        OpAnswer::Missing,
-        OpAnswer::NotDir,
-    ];
-    let told = answers(alloc, ops.as_slice())?;
-    assert_eq!(rt; told.as_slice(), wanted.as_slice());
+    let mut names = with_directory(&rt, alloc)?;
+    let op = create(&rt, alloc, 10_000, b"x")?;
+    assert!(rt; applied(&mut names, 1, op)? == OpAnswer::Made(ino(10_001)?));
+    let op = unlink(&rt, alloc, 1, b"a")?;
+    assert!(rt; applied(&mut names, 2, op)? == OpAnswer::NotEmpty);
+    let op = unlink(&rt, alloc, 10_000, b"x")?;
+    assert!(rt; applied(&mut names, 3, op)? == OpAnswer::Gone);
+    let op = look_up(&rt, alloc, 10_001, b"x")?;
+    assert!(rt; applied(&mut names, 4, op)? == OpAnswer::NotDir);
     Ok(())
 }

@@ -21,8 +21,8 @@ use std::alloc::Global;
 /// The store is handed back with the operations that the journal implies, and the log with its records.
 ///
 /// The status is 0 where all was written. An input that is no script is refused by a line of its own
-/// with status 2, and one that exceeds a limit, 1,048,576 bytes, 10,000 events, 64 files or 64
-/// directories, with status 3. Where the source fails the status is 4, where the sink fails 5, where
+/// with status 2, and one that exceeds a limit, 1,048,576 bytes, 10,000 events, 64 lines and
+/// requests that make files or 64 that make directories, with status 3. Where the source fails the status is 4, where the sink fails 5, where
 /// the store fails 6, where the log fails 7, and 8 for want of memory. At 2, 3 and 4 the store and the
 /// log are handed back as they came. Where the store or the log fails in an event, both have what the
 /// events before it left; beside that the store that failed may have some of the event's operations, and

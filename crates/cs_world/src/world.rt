@@ -84,8 +84,8 @@ impl<O: ObjStore, L: MdsLog> World<O, L> {
     /// `Store` comes only where the store's count of faults rose in this step, and only at a write that
     /// would be answered `wrote`, and at a read or a `show` that would be answered by some bytes: it isn't
     /// called else. `Log` comes only where the log's count rose in this step, and only at a snapshot, a
-    /// removal or a delivered flush that would be recorded, and at a commit of some record. No event calls
-    /// both. After a fault the history is as before, the store has a front of the event's operations
+    /// removal, a delivered flush or a delivered request that would be recorded, at a commit of some record,
+    /// and at a failover. No event calls both. After a fault the history is as before, the store has a front of the event's operations
     /// behind those before, the log is as before or as the event's entry would leave it, and the world is
     /// no longer live. The room for the entry is taken first. `Memory` may come of any event: of one that adds
     /// nothing to store or log it leaves both as they were.
