@@ -1,5 +1,6 @@
 -- A line that makes a directory or a file.
 use Rattle.std.proofs.Common.{◌≡◌, ◌∙◌, refl, sym, ap, subst, ℕ, ◌||◌, Bool, true, false, cond, List, [], ◌∷◌, is_some}
+use Rattle.std.proofs.Math.Bool.{or-false}
 use Rattle.cs_tree.specs.Directories.{has_directory}
 use Rattle.cs_laws.specs.declared.events.Event.{Event}
 use Rattle.cs_laws.specs.declared.events.Event.TheVariants as events
@@ -36,15 +37,11 @@ use Rattle.cs_world.proofs.Setups.{early_dir, early_file}
 pub stands_none : (h : List Entry) (s : ServerView) → all_setup h ≡ true → ServerAt h s → views.stand s ≡ []
 stands_none h s all i = let none = quiet h all in rw (i.durable, i.fresh, none.durable, none.fresh) refl
 
-or_none : (b : Bool) → (b || false) ≡ b
-or_none true = refl
-or_none false = refl
-
 told_dir : (h : List Entry) → all_setup h ≡ true → (d : ℕ) → client_dir h d ≡ is_directory h d
-told_dir h all d = ap (λ ms. is_directory h d || makes_dir d ms) (quiet h all).told ∙ or_none (is_directory h d)
+told_dir h all d = ap (λ ms. is_directory h d || makes_dir d ms) (quiet h all).told ∙ or-false (is_directory h d)
 
 told_file : (h : List Entry) → all_setup h ≡ true → (f : ℕ) → client_knows h f ≡ setup_file h f
-told_file h all f = ap (λ ms. setup_file h f || makes_file f ms) (quiet h all).told ∙ or_none (setup_file h f)
+told_file h all f = ap (λ ms. setup_file h f || makes_file f ms) (quiet h all).told ∙ or-false (setup_file h f)
 
 -- The line is one of both sides
 

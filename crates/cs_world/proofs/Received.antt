@@ -1,5 +1,6 @@
 -- The parts after a delivery to the server.
 use Rattle.std.proofs.Common.{◌≡◌, ◌∙◌, refl, sym, ap, subst, ℕ, ◌-◌, ◌<◌, ◌≤◌, ◌==◌, ◌&&◌, ◌||◌, Bool, true, false, cond, List, [], ◌∷◌, ◌++◌, append_assoc, drop, length, nat_lt, Option, Some, None, arith}
+use Rattle.std.proofs.Math.Bool.{and-true, or-false}
 use Rattle.std.specs.Prelude.{not}
 use Rattle.std.proofs.lemmas.Bool.{cond_both, true≢false}
 use Rattle.std.proofs.lemmas.Bool.Decides.{nat_tests}
@@ -109,10 +110,6 @@ either : (b t : Bool) → (b || t) ≡ cond b true t
 either true t = refl
 either false t = refl
 
-or_none : (b : Bool) → (b || false) ≡ b
-or_none true = refl
-or_none false = refl
-
 -- whether realms were told in the session
 pub told_of : (m : Message) (a : Answer) (st : ServerState) (fs : List Record) (t : Bool) → IsTurn m a
     → told_then a (is_last_on m st) t ≡ told_realms_then events.ToMds a st fs t
@@ -123,7 +120,7 @@ told_of m a st fs t (snap_flushed f tid follows meta) = either (is_last st) t
 told_of m a st fs t (snap_flushed_again f tid follows meta) = either (is_last st) t
 told_of m a st fs t (asked tid ino op o) = either (is_last st) t
 told_of m a st fs t (asked_again tid ino op o) = either (is_last st) t
-told_of m a st fs t (reported caps known resends n) = or_none (resends == 0)
+told_of m a st fs t (reported caps known resends n) = or-false (resends == 0)
 
 -- The mark of a replay. some: a server that replays waits for a message at least; mark: it is right before the message.
 
@@ -144,14 +141,10 @@ resent_waits (servers.Replaying left) r live some mark =
     let one : (left == 1) ≡ ((left - 1) == 0) = grind (arith, nat_tests, least) in
     ap (λ b. b && not (left == 1)) mark ∙ (ap not one ∙ sym (ap not (active_by (left - 1))))
 
-and_true : (b : Bool) → (b && true) ≡ b
-and_true true = refl
-and_true false = refl
-
 pub waits_of : (m : Message) (a : Answer) (st : ServerState) (r : Bool) → IsTurn m a → (IsWork m → is_broken st ≡ false)
     → ((left : ℕ) → st ≡ servers.Replaying left → 0 < left) → (is_broken st ≡ false → r ≡ not (is_active st))
     → replaying_then a (is_last_on m st) r ≡ not (is_active (server_state_then events.ToMds a st))
-waits_of m a st r (acked f seq bits held) live some mark = and_true r ∙ mark (live tt)
+waits_of m a st r (acked f seq bits held) live some mark = and-true r ∙ mark (live tt)
 waits_of m a st r (flushed f tid follows meta) live some mark = resent_waits st r (live tt) some (mark (live tt))
 waits_of m a st r (flushed_again f tid follows meta) live some mark = resent_waits st r (live tt) some (mark (live tt))
 waits_of m a st r (snap_flushed f tid follows meta) live some mark = resent_waits st r (live tt) some (mark (live tt))

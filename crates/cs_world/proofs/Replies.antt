@@ -1,5 +1,6 @@
 -- What the client knows and keeps after it is told of a request or a lease.
 use Rattle.std.proofs.Common.{◌≡◌, ◌∙◌, refl, sym, ap, subst, ℕ, ◌<◌, ◌==◌, ◌||◌, ◌&&◌, not, Bool, true, false, cond, List, [], ◌∷◌, ◌++◌, length, map, reverse, Option, Some, None, is_some}
+use Rattle.std.proofs.Math.Bool.{or-false, or_assoc}
 use Rattle.std.proofs.lemmas.Bool.{and_parts, both_ways, eqb-true, false_from_ne_true, true≢false}
 use Rattle.std.proofs.lemmas.List.{append-nil, reverse-append}
 use Rattle.std.proofs.lemmas.List.Folds.{list_any-append}
@@ -47,14 +48,6 @@ use Rattle.cs_world.proofs.Opens.{named_open, open_resends, opens_again, opens_a
 use Rattle.cs_world.proofs.Rows.{row_is}
 
 -- Lists of what is made
-
-or_assoc : (a b c : Bool) → ((a || b) || c) ≡ (a || (b || c))
-or_assoc true b c = refl
-or_assoc false b c = refl
-
-or_none : (b : Bool) → b ≡ (b || false)
-or_none true = refl
-or_none false = refl
 
 files_append : (ms more : List Made) (fs : List ℕ) → with_files (ms ++ more) fs ≡ with_files more (with_files ms fs)
 files_append [] more fs = refl
@@ -164,12 +157,12 @@ module _ (p : ℕ) (h : List Entry) (run : IsRun p h) (v : ClientView) (i : Clie
           true_known : (k : Bool) → Some made_row ≡ row_is (k || true) (new_inode f (path_context (client_path h m.dir) (realms h))) m.dir (is_capped h f)
           true_known true = refl
           true_known false = refl
-      one m false other new = ap (λ b. row_is b (inode h f) (client_home h f) (is_capped h f)) (or_none (client_knows h f))
+      one m false other new = ap (λ b. row_is b (inode h f) (client_home h f) (is_capped h f)) (sym (or-false (client_knows h f)))
 
       at : (ms : List Made) → IsFew ms → (makes_file f ms ≡ true → client_knows h f ≡ false) → row_with ms v.tree v.realms f (client_row h f)
           ≡ row_is (client_knows h f || makes_file f ms)
           (cond (makes_file f ms) (new_inode f (path_context (client_path h (home_by ms)) (realms h))) (inode h f)) (home_by ms) (is_capped h f)
-      at [] one_made new = ap (λ b. row_is b (inode h f) (client_home h f) (is_capped h f)) (or_none (client_knows h f))
+      at [] one_made new = ap (λ b. row_is b (inode h f) (client_home h f) (is_capped h f)) (sym (or-false (client_knows h f)))
       at (m ∷ []) one_made new = one m (is_made_file f m) refl (λ is. new (λ k. is k || false))
       at (m ∷ n ∷ ms) one_made new = absurd one_made
 

@@ -1,5 +1,6 @@
 -- The server's tables are those of the history. It answers as the history says, and stands for it afterwards.
 use Rattle.std.proofs.Common.{◌≡◌, ◌∙◌, refl, sym, ap, ℕ, ◌+◌, ◌<◌, ◌||◌, not, Bool, true, false, cond, List, [], ◌∷◌, ◌++◌, length, Option, Some, None, is_some, arith}
+use Rattle.std.proofs.Math.Bool.{or-false, or-true, or_assoc}
 use Rattle.std.specs.BTreeMap.{get}
 use Rattle.std.specs.Ordering.{nat_cmp}
 use Rattle.cs_parts.specs.declared.capabilities.ServerCaps.{ServerCaps}
@@ -215,16 +216,8 @@ first_tells h m rest a first = record {
 
 -- The marks of the session after an event of its own
 
-or_assoc : (a b c : Bool) → ((a || b) || c) ≡ (a || (b || c))
-or_assoc true b c = refl
-or_assoc false b c = refl
-
-or_none : (b : Bool) → (b || false) ≡ b
-or_none true = refl
-or_none false = refl
-
 pub told_after_is : (told : Bool) (rs : List Record) → told_after told rs ≡ (told || changes_realms rs)
-told_after_is told [] = sym (or_none told)
+told_after_is told [] = sym (or-false told)
 told_after_is told (r ∷ rs) = told_after_is (told || is_realm_change r.body) rs ∙ or_assoc told (is_realm_change r.body) (changes_realms rs)
 
 -- sending: its session isn't broken
@@ -258,10 +251,6 @@ own_state _ a s is = refl
 
 -- The server after an event of its own
 
-or_true : (b : Bool) → (b || true) ≡ true
-or_true true = refl
-or_true false = refl
-
 module _ (p : ℕ) (h : List Entry) (s t : ServerView) (e : Event) (a : Answer) (i : ServerAt h s) (c : Served [] s t e a) (same : t.replaying ≡ s.replaying)
     (whole : IsWhole t) where
   own_after : (is_served e || is_setup e) ≡ true → t.told ≡ told_realms (record { event = e; answer = a } ∷ h)
@@ -277,7 +266,7 @@ module _ (p : ℕ) (h : List Entry) (s t : ServerView) (e : Event) (a : Answer) 
       own_after (ap (λ b. b || is_setup e) is) (told ∙ told_is h s i sending on p e a is said)
 
   pub line_after : is_setup e ≡ true → t.told ≡ s.told → ServerAt (record { event = e; answer = a } ∷ h) t
-  line_after is told = own_after (ap (λ b. is_served e || b) is ∙ or_true (is_served e)) (told ∙ (i.told ∙ sym (line_told e a is)))
+  line_after is told = own_after (ap (λ b. is_served e || b) is ∙ or-true (is_served e)) (told ∙ (i.told ∙ sym (line_told e a is)))
     where
       line_told : (e : Event) (a : Answer) → is_setup e ≡ true → told_realms_then e a (server_state h) (fresh h) (told_realms h) ≡ told_realms h
       line_told (events.Dir d q) a is = refl

@@ -1,5 +1,6 @@
 -- The setup lines of a history that made something make what the history's lines make.
 use Rattle.std.proofs.Common.{◌≡◌, refl, ap, ◌∙◌, ℕ, ◌==◌, ◌||◌, ◌++◌, Bool, true, false, cond, List, [], ◌∷◌, length, Option, Some, None}
+use Rattle.std.proofs.Math.Bool.{or-false}
 use Rattle.cs_laws.specs.declared.answers.Answer.{Answer}
 use Rattle.cs_laws.specs.declared.answers.Answer.TheVariants as answers
 use Rattle.cs_laws.specs.declared.answers.Entry.{Entry}
@@ -86,16 +87,12 @@ setup_home_lines h f = λ k. cond {A = Option ℕ} (file_lines h f k) (Some (hom
 
 -- While all is set up no record stands
 
-or_none : (b : Bool) → (b || false) ≡ b
-or_none true = refl
-or_none false = refl
-
 module _ (h : List Entry) (all : all_setup h ≡ true) where
   pub early_none : stand h ≡ []
   early_none = let i = quiet h all in λ k. i.durable k ++ i.fresh k
 
   pub early_dir : (d : ℕ) → server_dir h d ≡ is_directory h d
-  early_dir d = ap (λ rs. is_directory h d || makes_dir d (made_in rs)) early_none ∙ or_none (is_directory h d)
+  early_dir d = ap (λ rs. is_directory h d || makes_dir d (made_in rs)) early_none ∙ or-false (is_directory h d)
 
   pub early_file : (f : ℕ) → server_knows h f ≡ setup_file h f
-  early_file f = ap (λ rs. setup_file h f || makes_file f (made_in rs)) early_none ∙ or_none (setup_file h f)
+  early_file f = ap (λ rs. setup_file h f || makes_file f (made_in rs)) early_none ∙ or-false (setup_file h f)
